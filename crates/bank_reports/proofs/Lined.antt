@@ -6,7 +6,7 @@ use Rattle.std.proofs.{lemmas.Int.ints, lemmas.List.length-append, lemmas.List.m
 use Rattle.message_records.specs.declared.limits.TheConstants.{MAX_BALANCE}
 use Rattle.posting_rules.specs.believed.{Entries.DecidedRequest, Entries.account_balance, Laws.total}
 use Rattle.walked_rows.specs.declared.stated.StatedPosting.{StatedPosting}
-use Rattle.report_contents.specs.StatementText.{posting_line, posting_lines}
+use Rattle.report_contents.specs.StatementText.{lines_by, posting_line, posting_lines}
 use Rattle.report_contents.proofs.OneMore.{total-snoc}
 use Rattle.bank_reports.specs.StatedLines.{is_posted_to, lines_to, postings_to, stated_of}
 use Rattle.bank_reports.specs.Postings.{delta_of, sum_of}
@@ -16,24 +16,25 @@ pub sum_of-snoc : (rs : List StatedPosting) (r : StatedPosting) → sum_of (rs +
     +ℤ delta_of r
 sum_of-snoc rs r = ap total (map-append delta_of rs (r ∷ [])) ∙ total-snoc (map delta_of rs) (delta_of r)
 
--- one more line
-pub posting_lines-snoc : (before : ℤ) (rs : List StatedPosting) (r : StatedPosting)
-    → posting_lines before (rs ++ r ∷ []) ≡ posting_lines before rs
-    ++ posting_line r ((before +ℤ sum_of rs) +ℤ delta_of r) ∷ []
-posting_lines-snoc before [] r = ap (λ (z : ℤ). posting_line r z ∷ []) (omega (arith, ints))
-posting_lines-snoc before (x ∷ rs) r =
-    ap (λ l. posting_line x (before +ℤ delta_of x) ∷ l)
-    (posting_lines-snoc (before +ℤ delta_of x) rs r
-    ∙ ap (λ (z : ℤ). posting_lines (before +ℤ delta_of x) rs ++ posting_line r (z +ℤ delta_of r) ∷ [])
-    (+ℤ_assoc before (delta_of x) (sum_of rs)))
+-- one more line, whatever lines are
+module _ (line_with : StatedPosting → ℤ → List ℕ) where
+  pub lines_by-snoc : (before : ℤ) (rs : List StatedPosting) (r : StatedPosting)
+      → lines_by line_with before (rs ++ r ∷ []) ≡ lines_by line_with before rs
+      ++ line_with r ((before +ℤ sum_of rs) +ℤ delta_of r) ∷ []
+  lines_by-snoc before [] r = ap (λ (z : ℤ). line_with r z ∷ []) (omega (arith, ints))
+  lines_by-snoc before (x ∷ rs) r =
+      ap (λ l. line_with x (before +ℤ delta_of x) ∷ l)
+      (lines_by-snoc (before +ℤ delta_of x) rs r
+      ∙ ap (λ (z : ℤ). lines_by line_with (before +ℤ delta_of x) rs ++ line_with r (z +ℤ delta_of r) ∷ [])
+      (+ℤ_assoc before (delta_of x) (sum_of rs)))
 
--- from an empty account on
-pub lines-snoc : (rs : List StatedPosting) (r : StatedPosting)
-    → posting_lines (pos 0) (rs ++ r ∷ []) ≡ posting_lines (pos 0) rs
-    ++ posting_line r (sum_of rs +ℤ delta_of r) ∷ []
-lines-snoc rs r = posting_lines-snoc (pos 0) rs r
-    ∙ ap (λ (z : ℤ). posting_lines (pos 0) rs ++ posting_line r (z +ℤ delta_of r) ∷ [])
-    (omega (arith, ints))
+  -- from an empty account on
+  pub lines-snoc : (rs : List StatedPosting) (r : StatedPosting)
+      → lines_by line_with (pos 0) (rs ++ r ∷ []) ≡ lines_by line_with (pos 0) rs
+      ++ line_with r (sum_of rs +ℤ delta_of r) ∷ []
+  lines-snoc rs r = lines_by-snoc (pos 0) rs r
+      ∙ ap (λ (z : ℤ). lines_by line_with (pos 0) rs ++ line_with r (z +ℤ delta_of r) ∷ [])
+      (omega (arith, ints))
 
 -- ---- after a log
 
@@ -62,7 +63,7 @@ lines_are a (e ∷ es) = last (is_posted_to a e) refl (lines_are a es)
         ++ posting_line (stated_of (length es + 1) e) (account_balance (e ∷ es) a) ∷ [])
         (lines_to a es)
     last true is earlier =
-        lines-snoc (postings_to a es) (stated_of (length es + 1) e)
+        lines-snoc posting_line (postings_to a es) (stated_of (length es + 1) e)
         ∙ ap (λ (z : ℤ). posting_lines (pos 0) (postings_to a es)
         ++ posting_line (stated_of (length es + 1) e) (z +ℤ e.request.delta) ∷ [])
         (sum_is_balance a es)

@@ -23,10 +23,12 @@ use Rattle.walked_rows.specs.Stored.{is_of, is_stated_of, posting_entry, stated_
 use Rattle.walked_rows.proofs.{Joining.paired_filter, Shown.has_history, Shown.has_references}
 use Rattle.walked_rows.proofs.RisingRows.{all-append, rising_keys, rising_once}
 use Rattle.report_contents.specs.Lines.{text_of}
-use Rattle.report_contents.specs.StatementText.{heading_line, names_line, posting_line, posting_lines, closing_line}
+use Rattle.report_contents.specs.StatementText.{heading_line, last_of, line_of, lines_by, names_line, names_of}
+use Rattle.report_contents.specs.StatementText.{posting_line, stated_lines, stated_text, closing_line}
+use Rattle.report_contents.specs.declared.form.Form.{Form, TheVariants.Whole}
 use Rattle.report_contents.proofs.Joined.{text_of-append}
 use Rattle.bank_reports.specs.StatedLines.{is_posted_to, lines_to, postings_to, stated_of, statement_after}
-use Rattle.bank_reports.specs.Postings.{delta_of, sum_of, text_so_far}
+use Rattle.bank_reports.specs.Postings.{delta_of, form_lines, sum_of, text_so_far}
 use Rattle.bank_reports.proofs.{Read.posting_back, Read.posting_in, Lined.lines_are}
 use Rattle.bank_reports.proofs.LogHistory.{postings_of, postings_rise, postings_under}
 
@@ -208,56 +210,56 @@ prefix (g ∷ given) (p ∷ ps) rest same = next (prefix given ps rest (tails sa
 
 -- ---- the text
 
-text-append : (before : ℤ) (rs more : List StatedPosting)
-    → posting_lines before (rs ++ more) ≡ posting_lines before rs
-    ++ posting_lines (before +ℤ sum_of rs) more
-text-append before [] more = ap (λ (z : ℤ). posting_lines z more) (omega (arith, ints))
-text-append before (r ∷ rs) more =
-    ap (λ l. posting_line r (before +ℤ delta_of r) ∷ l)
-    (text-append (before +ℤ delta_of r) rs more
-    ∙ ap (λ (z : ℤ). posting_lines (before +ℤ delta_of r) rs ++ posting_lines z more)
+text-append : (line_with : StatedPosting → ℤ → List ℕ) (before : ℤ) (rs more : List StatedPosting)
+    → lines_by line_with before (rs ++ more) ≡ lines_by line_with before rs
+    ++ lines_by line_with (before +ℤ sum_of rs) more
+text-append line_with before [] more = ap (λ (z : ℤ). lines_by line_with z more) (omega (arith, ints))
+text-append line_with before (r ∷ rs) more =
+    ap (λ l. line_with r (before +ℤ delta_of r) ∷ l)
+    (text-append line_with (before +ℤ delta_of r) rs more
+    ∙ ap (λ (z : ℤ). lines_by line_with (before +ℤ delta_of r) rs ++ lines_by line_with z more)
     (+ℤ_assoc before (delta_of r) (sum_of rs)))
 
--- the statement so far is a prefix of that of the log
-pub text_begins : (a : ℕ) (log : List Command) (given more : List StatedPosting) (rest : List Pair)
-    → postings_to a (decided log) ≡ given ++ more
-    → rest ≡ map stated_pair more
-    → (after : List ℕ) × (text_so_far a (account_balance (decided log) a) given rest ++ after
-    ≡ statement_after log a)
-unfolding statement_after
-text_begins a log given [] rest is left = (
-  [],
-  append-nil _ ∙ ap (λ r. text_so_far a (account_balance (decided log) a) given r) left
-      ∙ ap (λ l. text_of (heading_line a ∷ names_line
-      ∷ (l ++ closing_line (account_balance (decided log) a) ∷ [])))
-      (ap (posting_lines (pos 0)) (sym (append-nil given) ∙ sym is) ∙ lines_are a (decided log)),
-)
-text_begins a log given (p ∷ more) rest is left =
-    let es = decided log in
-    let closing = closing_line (account_balance es a) ∷ [] in
-    let lines = posting_lines (pos 0) given in
-    let later = posting_lines (pos 0 +ℤ sum_of given) (p ∷ more) in
-    let all : lines ++ later ≡ lines_to a es = sym (text-append (pos 0) given (p ∷ more))
-    ∙ ap (posting_lines (pos 0)) (sym is) ∙ lines_are a es in (
-      text_of (later ++ closing),
-      ap (λ r. text_so_far a (account_balance es a) given r ++ text_of (later ++ closing)) left
-          ∙ ap (λ l. text_of (heading_line a ∷ names_line ∷ l) ++ text_of (later ++ closing))
-          (append-nil lines)
-          ∙ sym (text_of-append (heading_line a ∷ names_line ∷ lines) (later ++ closing))
-          ∙ ap (λ l. text_of (heading_line a ∷ names_line ∷ l))
-          (sym (append_assoc lines later closing) ∙ ap (λ l. l ++ closing) all),
-    )
+module _ (a : ℕ) (form : Form) (given : List StatedPosting) where
+  -- the statement so far is a prefix of the whole one
+  pub text_begins : (more : List StatedPosting) (rest : List Pair) → rest ≡ map stated_pair more
+      → (after : List ℕ) × (text_so_far a form given rest ++ after ≡ stated_text a form (given ++ more))
+  unfolding stated_text
+  text_begins [] rest left = (
+    [],
+    append-nil _ ∙ ap (λ r. text_so_far a form given r) left
+        ∙ ap (λ (rs : List StatedPosting). text_of (stated_lines a form rs)) (sym (append-nil given)),
+  )
+  text_begins (p ∷ more) rest left =
+      let closing = last_of form ∷ [] in
+      let lines = form_lines form given in
+      let later = lines_by (line_of form) (pos 0 +ℤ sum_of given) (p ∷ more) in
+      let all : lines ++ later ≡ form_lines form (given ++ p ∷ more) =
+      sym (text-append (line_of form) (pos 0) given (p ∷ more)) in (
+        text_of (later ++ closing),
+        ap (λ r. text_so_far a form given r ++ text_of (later ++ closing)) left
+            ∙ ap (λ l. text_of (heading_line a ∷ names_of form ∷ l) ++ text_of (later ++ closing))
+            (append-nil lines)
+            ∙ sym (text_of-append (heading_line a ∷ names_of form ∷ lines) (later ++ closing))
+            ∙ ap (λ l. text_of (heading_line a ∷ names_of form ∷ l))
+            (sym (append_assoc lines later closing) ∙ ap (λ l. l ++ closing) all),
+      )
 
--- the whole statement is that of the log
-pub text_ends : (a : ℕ) (log : List Command) (given more : List StatedPosting)
-    → postings_to a (decided log) ≡ given ++ more → [] ≡ map stated_pair more
-    → text_so_far a (account_balance (decided log) a) given [] ≡ statement_after log a
-unfolding statement_after
-text_ends a log given [] is left =
-    ap (λ l. text_of (heading_line a ∷ names_line
-    ∷ (l ++ closing_line (account_balance (decided log) a) ∷ [])))
-    (ap (posting_lines (pos 0)) (sym (append-nil given) ∙ sym is) ∙ lines_are a (decided log))
-text_ends a log given (p ∷ more) is left = absurd cc
+  -- with the last posting it is whole
+  pub text_ends : (more : List StatedPosting) → [] ≡ map stated_pair more
+      → text_so_far a form given [] ≡ stated_text a form (given ++ more)
+  unfolding stated_text
+  text_ends [] left = ap (λ (rs : List StatedPosting). text_of (stated_lines a form rs)) (sym (append-nil given))
+  text_ends (p ∷ more) left = absurd cc
+
+-- the statement of all postings is that of the log
+pub whole_is : (a : ℕ) (log : List Command) (z : ℤ) → z ≡ account_balance (decided log) a
+    → stated_text a (Whole z) (postings_to a (decided log)) ≡ statement_after log a
+unfolding statement_after stated_text
+whole_is a log z is =
+    ap (λ (z : ℤ). text_of (stated_lines a (Whole z) (postings_to a (decided log)))) is
+    ∙ ap (λ l. text_of (heading_line a ∷ names_line
+    ∷ (l ++ closing_line (account_balance (decided log) a) ∷ []))) (lines_are a (decided log))
 
 -- the postings of an account in a file that shows a log
 pub account_rows : (db : Database) (t : Tables) (log : List Command) (a : ℕ) → Shows db t

@@ -1,22 +1,23 @@
 -- The parts of a statement, one after another.
 use Rattle.std.proofs.Common.{◌≡◌, ◌++◌, ℕ, List, [], ◌∷◌, Option, Ok, Err, refl, sym, ap, ◌∙◌, append-nil}
-use Rattle.std.specs.{Prelude.ℤ, Prelude.pos, Io.KnownBytes.Appends}
+use Rattle.std.specs.Io.KnownBytes.{Appends}
 use Rattle.std.proofs.KnownBytes.{Appends-trans}
 use Rattle.walked_rows.specs.{declared.stated.StatedPosting.StatedPosting, Pairs.Pair}
 use Rattle.report_contents.specs.{Lines.text_of, Written.AppendsPart}
-use Rattle.report_contents.specs.StatementText.{heading_line, names_line, posting_lines, closing_line}
+use Rattle.report_contents.specs.StatementText.{heading_line, last_of, names_of}
+use Rattle.report_contents.specs.declared.form.Form.{Form}
 use Rattle.report_contents.proofs.Joined.{text_of-append}
 use Rattle.report_contents.proofs.Written.{first_part, same_all, same_part, then_part}
 use Rattle.bank_reports.specs.declared.fault.ReportFault.{ReportFault, TheVariants.Write}
-use Rattle.bank_reports.specs.Postings.{WritesPostings, WritesStatement, closing_after, text_so_far}
+use Rattle.bank_reports.specs.Postings.{WritesPostings, WritesStatement, closing_after, form_lines, text_so_far}
 
-module _ (account : ℕ) (balance : ℤ) (all : List Pair) (old : Option (List ℕ)) where
+module _ (account : ℕ) (form : Form) (all : List Pair) (old : Option (List ℕ)) where
   later : List StatedPosting → List Pair → List ℕ
-  later given rest = text_of (posting_lines (pos 0) given ++ closing_after rest balance)
+  later given rest = text_of (form_lines form given ++ closing_after form rest)
 
   -- the heading failed
   pub heading_err : (new : Option (List ℕ)) → AppendsPart old new (heading_line account)
-      → WritesStatement account balance all old new (Err Write)
+      → WritesStatement account form all old new (Err Write)
   unfolding later
   heading_err new part =
       record {
@@ -24,37 +25,37 @@ module _ (account : ℕ) (balance : ℤ) (all : List Pair) (old : Option (List �
         rest = all;
         are = refl;
         why = tt;
-        wrote = first_part old new (heading_line account) (names_line ++ later [] all) part;
+        wrote = first_part old new (heading_line account) (names_of form ++ later [] all) part;
       }
 
   module _ (one : Option (List ℕ)) (heading : Appends old one (heading_line account)) where
     -- the names failed
-    pub names_err : (new : Option (List ℕ)) → AppendsPart one new names_line
-        → WritesStatement account balance all old new (Err Write)
+    pub names_err : (new : Option (List ℕ)) → AppendsPart one new (names_of form)
+        → WritesStatement account form all old new (Err Write)
     unfolding later
     names_err new part = record {
       given = [];
       rest = all;
       are = refl;
       why = tt;
-      wrote = then_part old one new (heading_line account) (names_line ++ later [] all) heading
-          (first_part one new names_line (later [] all) part);
+      wrote = then_part old one new (heading_line account) (names_of form ++ later [] all) heading
+          (first_part one new (names_of form) (later [] all) part);
     }
 
-    module _ (two : Option (List ℕ)) (names : Appends one two names_line) where
+    module _ (two : Option (List ℕ)) (names : Appends one two (names_of form)) where
       -- a prefix of what stands after the names
       after : (new : Option (List ℕ)) (given : List StatedPosting) (rest : List Pair)
           → AppendsPart two new (later given rest)
-          → AppendsPart old new (text_so_far account balance given rest)
+          → AppendsPart old new (text_so_far account form given rest)
       unfolding later
       after new given rest part =
-          then_part old one new (heading_line account) (names_line ++ later given rest) heading
-          (then_part one two new names_line (later given rest) names part)
+          then_part old one new (heading_line account) (names_of form ++ later given rest) heading
+          (then_part one two new (names_of form) (later given rest) names part)
 
       -- the postings failed
       pub postings_err : (new : Option (List ℕ)) (fault : ReportFault)
-          → WritesPostings all two new (Err fault)
-          → WritesStatement account balance all old new (Err fault)
+          → WritesPostings form all two new (Err fault)
+          → WritesStatement account form all old new (Err fault)
       unfolding later
       postings_err new fault p = record {
         given = p.given;
@@ -63,45 +64,45 @@ module _ (account : ℕ) (balance : ℤ) (all : List Pair) (old : Option (List �
         why = p.why;
         wrote = after new p.given p.rest
             (same_part two new (sym
-            (text_of-append (posting_lines (pos 0) p.given) (closing_after p.rest balance)))
-            (first_part two new (text_of (posting_lines (pos 0) p.given))
-            (text_of (closing_after p.rest balance)) p.wrote));
+            (text_of-append (form_lines form p.given) (closing_after form p.rest)))
+            (first_part two new (text_of (form_lines form p.given))
+            (text_of (closing_after form p.rest)) p.wrote));
       }
 
-      module _ (three : Option (List ℕ)) (p : WritesPostings all two three (Ok tt)) where
-        closes : text_of (posting_lines (pos 0) p.given) ++ closing_line balance ≡ later p.given p.rest
+      module _ (three : Option (List ℕ)) (p : WritesPostings form all two three (Ok tt)) where
+        closes : text_of (form_lines form p.given) ++ last_of form ≡ later p.given p.rest
         unfolding later
         closes =
-            ap (λ l. text_of (posting_lines (pos 0) p.given) ++ l) (sym (append-nil (closing_line balance)))
-            ∙ sym (text_of-append (posting_lines (pos 0) p.given) (closing_line balance ∷ []))
-            ∙ ap (λ rest. text_of (posting_lines (pos 0) p.given ++ closing_after rest balance))
+            ap (λ l. text_of (form_lines form p.given) ++ l) (sym (append-nil (last_of form)))
+            ∙ sym (text_of-append (form_lines form p.given) (last_of form ∷ []))
+            ∙ ap (λ rest. text_of (form_lines form p.given ++ closing_after form rest))
             (sym p.why)
 
         -- the closing line failed
-        pub closing_err : (new : Option (List ℕ)) → AppendsPart three new (closing_line balance)
-            → WritesStatement account balance all old new (Err Write)
+        pub closing_err : (new : Option (List ℕ)) → AppendsPart three new (last_of form)
+            → WritesStatement account form all old new (Err Write)
         closing_err new part = record {
           given = p.given;
           rest = p.rest;
           are = p.are;
           why = tt;
           wrote = after new p.given p.rest (same_part two new closes
-              (then_part two three new (text_of (posting_lines (pos 0) p.given)) (closing_line balance)
+              (then_part two three new (text_of (form_lines form p.given)) (last_of form)
               p.wrote part));
         }
 
         -- all is written
-        pub all_written : (new : Option (List ℕ)) → Appends three new (closing_line balance)
-            → WritesStatement account balance all old new (Ok tt)
+        pub all_written : (new : Option (List ℕ)) → Appends three new (last_of form)
+            → WritesStatement account form all old new (Ok tt)
         unfolding later
         all_written new wrote = record {
           given = p.given;
           rest = p.rest;
           are = p.are;
           why = p.why;
-          wrote = Appends-trans old one new (heading_line account) (names_line ++ later p.given p.rest)
+          wrote = Appends-trans old one new (heading_line account) (names_of form ++ later p.given p.rest)
               heading
-              (Appends-trans one two new names_line (later p.given p.rest) names (same_all two new closes
-              (Appends-trans two three new (text_of (posting_lines (pos 0) p.given)) (closing_line balance)
+              (Appends-trans one two new (names_of form) (later p.given p.rest) names (same_all two new closes
+              (Appends-trans two three new (text_of (form_lines form p.given)) (last_of form)
               p.wrote wrote)));
         }

@@ -1,6 +1,6 @@
 -- What is told of a statement of a bank that shows a log.
 use Rattle.std.proofs.Common.{◌≡◌, ◌<◌, ◌≤◌, ◌+◌, ◌++◌, ℕ, Bool, true, false, cond, List, [], ◌∷◌, length, map}
-use Rattle.std.proofs.Common.{Option, Some, None, Result, Ok, Err, refl, sym, ap, subst, ◌∙◌, inl, inr, arith}
+use Rattle.std.proofs.Common.{Option, Some, None, Result, Ok, Err, refl, sym, ap, subst, ◌∙◌, append-nil, inl, inr, arith}
 use Rattle.std.specs.Prelude.{ℤ, ◌&&◌, nat_le, pos, ◌+ℤ◌, ◌-◌, ◌^◌, nat_abs, option_map, IfSome, IsSomeAnd}
 use Rattle.std.specs.{List.AllByRecursion, Io.KnownBytes.Appends}
 use Rattle.std.proofs.lemmas.{Bool.Decides.nat_tests, Int.ints, List.length-append}
@@ -18,14 +18,19 @@ use Rattle.walked_rows.specs.Stored.{BreaksStated, posting_entry, posting_of, st
 use Rattle.walked_rows.specs.declared.{postings.StoredPosting.StoredPosting, stated.StatedPosting.StatedPosting}
 use Rattle.walked_rows.proofs.{RisingRows.all-append, Unbroken.all_after, Unbroken.reads_posting}
 use Rattle.report_contents.specs.Written.{AppendsPart}
-use Rattle.report_contents.proofs.Written.{first_part, same_all, same_part}
+use Rattle.report_contents.specs.StatementText.{part_of, stated_text}
+use Rattle.report_contents.specs.declared.form.Form.{Form, TheVariants.Whole}
+use Rattle.report_contents.specs.declared.range.Range.{Range}
+use Rattle.report_contents.proofs.Written.{first_part, nothing_written, same_all, same_part}
 use Rattle.bank_reports.specs.declared.fault.ReportFault.{ReportFault, TheVariants.Bank}
-use Rattle.bank_reports.specs.StatedLines.{is_posted_to, postings_to, stated_of, statement_after}
-use Rattle.bank_reports.specs.Postings.{StopsAtBalance, StopsAtRow, WhyDamaged, WritesStatement, delta_of, sum_of}
+use Rattle.bank_reports.specs.StatedLines.{is_posted_to, postings_to, range_after, stated_after, stated_of}
+use Rattle.bank_reports.specs.Postings.{StopsAtBalance, StopsAtRow, Why, WhyDamaged, WritesDated, WritesStatement}
+use Rattle.bank_reports.specs.Postings.{delta_of, sum_of}
 use Rattle.bank_reports.specs.Postings.{text_so_far}
 use Rattle.bank_reports.proofs.{LogHistory.each_within}
 use Rattle.bank_reports.proofs.Lined.{AllRunWithin, few_postings, never_beyond, runs_within}
-use Rattle.bank_reports.proofs.OnLogs.{prefix, one_entry, text_begins, text_ends}
+use Rattle.bank_reports.proofs.OnLogs.{prefix, one_entry, text_begins, text_ends, whole_is}
+use Rattle.bank_reports.proofs.{Further.error_is, ReportEnds.not_ok}
 
 -- ---- the rows can be read
 
@@ -118,59 +123,111 @@ balance_is log a z is = by_test (is_account_open (λ b. opened log b) a) is
     by_test true same = cc
     by_test false same = absurd cc
 
+-- the whole text of postings, and a prefix of it
+module _ (a : ℕ) (form : Form) (ps : List StatedPosting) (all : List Pair) (rows : all ≡ map stated_pair ps)
+    (old new : Option (List ℕ)) where
+  form_whole : WritesStatement a form all old new (Ok tt) → Appends old new (stated_text a form ps)
+  form_whole w =
+      let b = prefix w.given ps w.rest (w.are ∙ rows) in
+      same_all old new
+      (ap (λ r. text_so_far a form w.given r) w.why ∙ text_ends a form w.given b.0 (sym w.why ∙ b.2)
+      ∙ ap (λ (rs : List StatedPosting). stated_text a form rs) (sym b.1)) w.wrote
+
+  form_part : (fault : ReportFault) → WritesStatement a form all old new (Err fault)
+      → AppendsPart old new (stated_text a form ps)
+  form_part fault w =
+      let b = prefix w.given ps w.rest (w.are ∙ rows) in
+      let it = text_begins a form w.given b.0 w.rest b.2 in
+      same_part old new (it.1 ∙ ap (λ (rs : List StatedPosting). stated_text a form rs) (sym b.1))
+      (first_part old new _ it.0 w.wrote)
+
+-- all rows that were added are all postings
+all_summed : (ps summed : List StatedPosting) (rest : List Pair) → map stated_pair summed ++ rest
+    ≡ map stated_pair ps → rest ≡ [] → summed ≡ ps
+all_summed ps summed rest are none =
+    let b = prefix summed ps rest are in
+    sym (b.1 ∙ (ap (λ l. summed ++ l) (empty b.0 (sym b.2 ∙ none)) ∙ append-nil summed))
+  where
+    empty : (more : List StatedPosting) → map stated_pair more ≡ [] → more ≡ []
+    empty [] e = refl
+    empty (s ∷ more) e = absurd cc
+
 module _ (a : ℕ) (balance : ℤ) (log : List Command) (is : balance ≡ account_balance (decided log) a)
     (all : List Pair)
     (rows : all ≡ map stated_pair (postings_to a (decided log))) (old new : Option (List ℕ)) where
+  summed_is : (range : Range) (summed : List StatedPosting) (rest : List Pair)
+      → map stated_pair summed ++ rest ≡ all → rest ≡ []
+      → stated_text a (part_of range summed) (postings_to a (decided log)) ≡ range_after log a range
+  summed_is range summed rest are none =
+      ap (λ (s : List StatedPosting). stated_text a (part_of range s) (postings_to a (decided log)))
+      (all_summed (postings_to a (decided log)) summed rest (are ∙ rows) none)
+
   -- the statement is that of the log
-  pub told_whole : WritesStatement a balance all old new (Ok tt) → Appends old new (statement_after log a)
-  told_whole w =
-      let b = prefix w.given (postings_to a (decided log)) w.rest (w.are ∙ rows) in
-      same_all old new
-      (ap (λ r. text_so_far a balance w.given r) w.why ∙ ap (λ (z : ℤ). text_so_far a z w.given []) is
-      ∙ text_ends a log w.given b.0 b.1 (sym w.why ∙ b.2)) w.wrote
+  told_whole : (range : Option Range) → WritesDated a balance range all old new (Ok tt)
+      → Appends old new (stated_after log a range)
+  told_whole None w =
+      same_all old new (whole_is a log balance is)
+      (form_whole a (Whole balance) (postings_to a (decided log)) all rows old new w)
+  told_whole (Some range) w = elim w.ends [
+    | inl written ↦ same_all old new (summed_is range w.summed w.rest w.are written.0)
+        (form_whole a (part_of range w.summed) (postings_to a (decided log)) all rows old new written.1)
+    | inr ended ↦ absurd (not_ok _ _ _ refl ended.1)
+  ]
 
   -- at a fault a prefix of it was written
-  pub told_part : (fault : ReportFault) → WritesStatement a balance all old new (Err fault)
-      → AppendsPart old new (statement_after log a)
-  told_part fault w =
-      let b = prefix w.given (postings_to a (decided log)) w.rest (w.are ∙ rows) in
-      let it = text_begins a log w.given b.0 w.rest b.1 b.2 in
-      same_part old new it.1
-      (first_part old new _ it.0
-      (same_part old new (ap (λ (z : ℤ). text_so_far a z w.given w.rest) is) w.wrote))
+  told_part : (range : Option Range) (fault : ReportFault) → WritesDated a balance range all old new (Err fault)
+      → AppendsPart old new (stated_after log a range)
+  told_part None fault w =
+      same_part old new (whole_is a log balance is)
+      (form_part a (Whole balance) (postings_to a (decided log)) all rows old new fault w)
+  told_part (Some range) fault w = elim w.ends [
+    | inl written ↦ same_part old new (summed_is range w.summed w.rest w.are written.0)
+        (form_part a (part_of range w.summed) (postings_to a (decided log)) all rows old new fault written.1)
+    | inr ended ↦ subst (λ (o : Option (List ℕ)). AppendsPart old o (range_after log a range)) (sym ended.3)
+        (nothing_written old (range_after log a range))
+  ]
 
   -- no damage is told
-  pub told_sound : AreCommands log → (rule : Rule)
-      → WritesStatement a balance all old new (Err (Bank (Damaged rule))) → ⊥
-  told_sound are rule w =
-      let b = prefix w.given (postings_to a (decided log)) w.rest (w.are ∙ rows) in
-      no_damage a log are w.given b.0 b.1 w.rest rule b.2 w.why
+  no_damage_in : AreCommands log → (given : List StatedPosting) (rest : List Pair) (rule : Rule)
+      → map stated_pair given ++ rest ≡ all → WhyDamaged given rest rule → ⊥
+  no_damage_in are given rest rule rows_are why =
+      let b = prefix given (postings_to a (decided log)) rest (rows_are ∙ rows) in
+      no_damage a log are given b.0 b.1 rest rule b.2 why
+
+  told_sound : AreCommands log → (range : Option Range) (rule : Rule)
+      → WritesDated a balance range all old new (Err (Bank (Damaged rule))) → ⊥
+  told_sound are None rule w = no_damage_in are w.given w.rest rule w.are w.why
+  told_sound are (Some range) rule w = elim w.ends [
+    | inl written ↦ no_damage_in are written.1.given written.1.rest rule written.1.are written.1.why
+    | inr ended ↦ no_damage_in are w.summed w.rest rule w.are
+        (subst (λ (f : ReportFault). Why w.summed w.rest (Err f)) (sym (error_is _ _ ended.1)) ended.2)
+  ]
 
 -- what is told of an account where the bank shows a log
-pub record ToldOfLog (a : ℕ) (log : List Command) (old new : Option (List ℕ))
+pub record ToldOfLog (a : ℕ) (log : List Command) (range : Option Range) (old new : Option (List ℕ))
     (answer : Result (Unit {0}) ReportFault) : Type 0 where
   pub balance : ℤ
   pub is : Some balance ≡ balance_after log a
   pub all : List Pair
   pub rows : all ≡ map stated_pair (postings_to a (decided log))
-  pub told : WritesStatement a balance all old new answer
+  pub told : WritesDated a balance range all old new answer
   pub commands : AreCommands log
 
-module _ {a : ℕ} {log : List Command} {old new : Option (List ℕ)} {answer : Result (Unit {0}) ReportFault}
-    (it : ToldOfLog a log old new answer) where
+module _ {a : ℕ} {log : List Command} {range : Option Range} {old new : Option (List ℕ)} {answer : Result (Unit {0}) ReportFault}
+    (it : ToldOfLog a log range old new answer) where
   as_told : (other : Result (Unit {0}) ReportFault) → answer ≡ other
-      → WritesStatement a it.balance it.all old new other
-  as_told other is = subst (λ r. WritesStatement a it.balance it.all old new r) is it.told
+      → WritesDated a it.balance range it.all old new other
+  as_told other is = subst (λ r. WritesDated a it.balance range it.all old new r) is it.told
 
-  pub log_whole : answer ≡ Ok tt → Appends old new (statement_after log a)
+  pub log_whole : answer ≡ Ok tt → Appends old new (stated_after log a range)
   log_whole is =
-      told_whole a it.balance log (balance_is log a it.balance it.is) it.all it.rows old new (as_told _ is)
+      told_whole a it.balance log (balance_is log a it.balance it.is) it.all it.rows old new range (as_told _ is)
 
-  pub log_part : (fault : ReportFault) → answer ≡ Err fault → AppendsPart old new (statement_after log a)
+  pub log_part : (fault : ReportFault) → answer ≡ Err fault → AppendsPart old new (stated_after log a range)
   log_part fault is =
-      told_part a it.balance log (balance_is log a it.balance it.is) it.all it.rows old new fault (as_told _ is)
+      told_part a it.balance log (balance_is log a it.balance it.is) it.all it.rows old new range fault (as_told _ is)
 
   pub log_sound : (rule : Rule) → answer ≡ Err (Bank (Damaged rule)) → ⊥
   log_sound rule is =
-      told_sound a it.balance log (balance_is log a it.balance it.is) it.all it.rows old new it.commands rule
+      told_sound a it.balance log (balance_is log a it.balance it.is) it.all it.rows old new it.commands range rule
       (as_told _ is)

@@ -1,6 +1,6 @@
 -- What is written of the postings of an account, and why not all of them are.
 use Rattle.std.specs.Prelude.{◌≡◌, ◌⊎◌, ◌<◌, ◌≤◌, ◌-◌, ◌^◌, ◌+ℤ◌, ℕ, ℤ, pos, nat_abs, List, [], ◌∷◌, ◌++◌, filter}
-use Rattle.std.specs.Prelude.{map, length, Option, Some, Result, Ok, Err, ⊤}
+use Rattle.std.specs.Prelude.{map, length, Option, None, Some, Result, Ok, Err, ⊤}
 use Rattle.std.specs.Io.KnownBytes.{Appends}
 use Rattle.sqlite.specs.Effect.{Database}
 use Rattle.message_records.specs.declared.limits.TheConstants.{MAX_BALANCE}
@@ -13,7 +13,12 @@ use Rattle.walked_rows.specs.declared.stated.StatedPosting.{StatedPosting}
 use Rattle.walked_rows.specs.Pairs.{Pair}
 use Rattle.walked_rows.specs.Stored.{BreaksStated, is_stated_of, stated_pair}
 use Rattle.report_contents.specs.Lines.{text_of}
-use Rattle.report_contents.specs.StatementText.{heading_line, names_line, posting_line, posting_lines, closing_line}
+use Rattle.report_contents.specs.StatementText.{heading_line, last_of, line_of, lines_by, names_of, part_of}
+use Rattle.report_contents.specs.declared.form.Form.{Form}
+use Rattle.report_contents.specs.declared.form.Form.TheVariants.{Whole}
+use Rattle.report_contents.specs.declared.range.Range.{Range}
+use Rattle.report_contents.specs.declared.range_sums.RangeSums.{RangeSums}
+use Rattle.report_contents.specs.Ranges.{HasSummed}
 use Rattle.report_contents.specs.Written.{AppendsPart}
 use Rattle.bank_reports.specs.declared.fault.ReportFault.{ReportFault}
 use Rattle.bank_reports.specs.declared.fault.ReportFault.TheVariants.{NoAccount, Write, Bank}
@@ -25,16 +30,16 @@ delta_of s = s.posting.delta
 abbrev pub sum_of : List StatedPosting → ℤ
 sum_of rows = total (map delta_of rows)
 
--- The line of a posting was written, and this is the balance after it; or a prefix of it was; or that
--- balance is out of its limits, and nothing was written.
-abbrev pub WritesLine : StatedPosting → ℤ → Option (List ℕ) → Option (List ℕ)
+-- The line of a posting was written in this form, and this is the balance after it; or a prefix of it was; or
+-- that balance is out of its limits, and nothing was written.
+abbrev pub WritesLine : Form → StatedPosting → ℤ → Option (List ℕ) → Option (List ℕ)
     → Result ℤ ReportFault → Type 0
-WritesLine s before old new (Ok after) = (after ≡ before +ℤ delta_of s)
-    × Appends old new (posting_line s after)
-WritesLine s before old new (Err Write) = AppendsPart old new (posting_line s (before +ℤ delta_of s))
-WritesLine s before old new (Err (Bank (Damaged Balance))) = (new ≡ old)
+WritesLine form s before old new (Ok after) = (after ≡ before +ℤ delta_of s)
+    × Appends old new (line_of form s after)
+WritesLine form s before old new (Err Write) = AppendsPart old new (line_of form s (before +ℤ delta_of s))
+WritesLine form s before old new (Err (Bank (Damaged Balance))) = (new ≡ old)
     × (MAX_BALANCE < nat_abs (before +ℤ delta_of s))
-WritesLine s before old new (Err _) = ⊥
+WritesLine form s before old new (Err _) = ⊥
 
 -- the first row that wasn't given breaks the rule
 abbrev pub StopsAtRow : List Pair → Rule → Type 0
@@ -68,43 +73,78 @@ abbrev pub WritesText : {E : Type 0} → List ℕ → Option (List ℕ) → Opti
 WritesText text old new (Ok done) = Appends old new text
 WritesText text old new (Err e) = AppendsPart old new text
 
+-- the lines of postings in a form
+abbrev pub form_lines : Form → List StatedPosting → List (List ℕ)
+form_lines form rows = lines_by (line_of form) (pos 0) rows
+
 -- of these rows the first were given and the rest weren't, and the lines of those that were given were
 -- written
-pub record WritesPostings (all : List Pair) (old new : Option (List ℕ))
+pub record WritesPostings (form : Form) (all : List Pair) (old new : Option (List ℕ))
     (result : Result (Unit {0}) ReportFault) : Type 0 where
   pub given : List StatedPosting
   pub rest : List Pair
   pub are : map stated_pair given ++ rest ≡ all
   pub why : Why given rest result
-  pub wrote : WritesText (text_of (posting_lines (pos 0) given)) old new result
+  pub wrote : WritesText (text_of (form_lines form given)) old new result
+
+-- of these rows the first were added and the rest weren't
+pub record AddsPostings (range : Range) (all : List Pair) (sums : RangeSums)
+    (result : Result (Unit {0}) ReportFault) : Type 0 where
+  pub given : List StatedPosting
+  pub rest : List Pair
+  pub are : map stated_pair given ++ rest ≡ all
+  pub why : Why given rest result
+  pub summed : HasSummed range sums given
 
 -- the closing line is after the last posting
-abbrev pub closing_after : List Pair → ℤ → List (List ℕ)
-closing_after [] balance = closing_line balance ∷ []
-closing_after (p ∷ rest) balance = []
+abbrev pub closing_after : Form → List Pair → List (List ℕ)
+closing_after form [] = last_of form ∷ []
+closing_after form (p ∷ rest) = []
 
 -- the statement so far
-abbrev pub text_so_far : ℕ → ℤ → List StatedPosting → List Pair → List ℕ
-text_so_far account balance given rest =
-    text_of (heading_line account ∷ names_line
-    ∷ (posting_lines (pos 0) given ++ closing_after rest balance))
+abbrev pub text_so_far : ℕ → Form → List StatedPosting → List Pair → List ℕ
+text_so_far account form given rest =
+    text_of (heading_line account ∷ names_of form
+    ∷ (form_lines form given ++ closing_after form rest))
 
 -- the same of the whole statement
-pub record WritesStatement (account : ℕ) (balance : ℤ) (all : List Pair) (old new : Option (List ℕ))
+pub record WritesStatement (account : ℕ) (form : Form) (all : List Pair) (old new : Option (List ℕ))
     (result : Result (Unit {0}) ReportFault) : Type 0 where
   pub given : List StatedPosting
   pub rest : List Pair
   pub are : map stated_pair given ++ rest ≡ all
   pub why : Why given rest result
-  pub wrote : WritesText (text_so_far account balance given rest) old new result
+  pub wrote : WritesText (text_so_far account form given rest) old new result
+
+-- not all were added: why, and nothing was written
+abbrev pub EndsBefore : List StatedPosting → List Pair → Option (List ℕ) → Option (List ℕ)
+    → Result (Unit {0}) ReportFault → Type 0
+EndsBefore summed rest old new result =
+    (fault : ReportFault) × (result ≡ Err fault) × Why summed rest (Err fault) × (new ≡ old)
+
+-- of these rows the first were added, for the balances of a range: all of them, and then the range of them is
+-- written, or not all
+pub record WritesPart (account : ℕ) (range : Range) (all : List Pair) (old new : Option (List ℕ))
+    (result : Result (Unit {0}) ReportFault) : Type 0 where
+  pub summed : List StatedPosting
+  pub rest : List Pair
+  pub are : map stated_pair summed ++ rest ≡ all
+  pub ends : ((rest ≡ []) × WritesStatement account (part_of range summed) all old new result)
+      ⊎ EndsBefore summed rest old new result
+
+-- all is stated of an account that has this balance, or a range
+abbrev pub WritesDated : ℕ → ℤ → Option Range → List Pair → Option (List ℕ) → Option (List ℕ)
+    → Result (Unit {0}) ReportFault → Type 0
+WritesDated account balance None all old new result = WritesStatement account (Whole balance) all old new result
+WritesDated account balance (Some range) all old new result = WritesPart account range all old new result
 
 -- so the account's rows of history are written, of these, each with its reference, and then the balance that
--- its own row has
-abbrev pub StatesRows : Database → ℕ → List Pair → Option (List ℕ) → Option (List ℕ)
+-- its own row has; or a range of them is, and then the balance at its end
+abbrev pub StatesRows : Database → ℕ → Option Range → List Pair → Option (List ℕ) → Option (List ℕ)
     → Result (Unit {0}) ReportFault → Type 0
-StatesRows db account rows old new result =
+StatesRows db account range rows old new result =
     (balance : ℤ) × IsStoredBalance db account (Some balance)
-    × WritesStatement account balance (filter (is_stated_of (Some account)) rows) old new result
+    × WritesDated account balance range (filter (is_stated_of (Some account)) rows) old new result
 
 -- all was written, or the writer failed
 abbrev pub HasWritten : Result (Unit {0}) ReportFault → Type 0

@@ -1,12 +1,14 @@
 -- The statement of an account after a log: its posted requests in order, each with the balance after it.
-use Rattle.std.specs.Prelude.{ℕ, ◌+◌, ◌==◌, ◌&&◌, Bool, List, [], ◌∷◌, ◌++◌, length, if◌then◌else◌}
+use Rattle.std.specs.Prelude.{ℕ, ◌+◌, ◌==◌, ◌&&◌, Bool, List, [], ◌∷◌, ◌++◌, length, Option, None, Some, if◌then◌else◌}
 use Rattle.walked_rows.specs.declared.stated.StatedPosting.{StatedPosting}
 use Rattle.posting_rules.specs.believed.Commands.{Command}
 use Rattle.posting_rules.specs.believed.Entries.{DecidedRequest, is_posted, account_balance, decided}
 use Rattle.posting_rules.specs.believed.Tables.{history_row_of}
 use Rattle.report_contents.specs.Lines.{text_of}
 use Rattle.report_contents.specs.Stored.{posting_stored}
-use Rattle.report_contents.specs.StatementText.{heading_line, names_line, posting_line, closing_line}
+use Rattle.report_contents.specs.StatementText.{heading_line, names_line, part_of, posting_line, stated_text}
+use Rattle.report_contents.specs.StatementText.{closing_line}
+use Rattle.report_contents.specs.declared.range.Range.{Range}
 
 -- a posting under its ordinal, as a file has it, with the reference of its request
 abbrev pub stated_of : ℕ → DecidedRequest → StatedPosting
@@ -40,3 +42,12 @@ unfoldable pub statement_after : List Command → ℕ → List ℕ
 statement_after log a =
     text_of (heading_line a ∷ names_line
     ∷ (lines_to a (decided log) ++ closing_line (account_balance (decided log) a) ∷ []))
+
+-- of a range of its postings; what is before the range, and what is up to its end, are sums of all of them
+abbrev pub range_after : List Command → ℕ → Range → List ℕ
+range_after log a range = let rows = postings_to a (decided log) in stated_text a (part_of range rows) rows
+
+-- of all of them, or of a range
+abbrev pub stated_after : List Command → ℕ → Option Range → List ℕ
+stated_after log a None = statement_after log a
+stated_after log a (Some range) = range_after log a range

@@ -9,7 +9,7 @@ use crate::fault::ReportFault;
 use message_records::Cents;
 use posting_core::Sink;
 use posting_rules::{Fault, Rule};
-use report_contents::{put, statement_line};
+use report_contents::{Form, put};
 use walked_rows::StatedPosting;
 
 // The balance after one more posting, none where it is out of its limits.
@@ -21,19 +21,20 @@ fn with_delta(before: Cents, delta: i64) -> Option<Cents>
     Cents::new(after)
 }
 
-/// Writes the line of a posting, and gives the running balance after it.
+/// Writes the line of a posting in a form, and gives the running balance after it.
 pub(crate) fn write_line<W: Sink>(
+    form: &Form,
     row: &StatedPosting,
     before: Cents,
     writer: &mut W,
 ) -> Result<Cents, ReportFault>
-    ensures written { WritesLine row.now before (W.contents writer.old) (W.contents writer.new) result }
+    ensures written { WritesLine form.now row.now before (W.contents writer.old) (W.contents writer.new) result }
     ensures more { OnOk result (HasMore (W.told writer.old) (W.told writer.new)) }
     ensures failed { result ≡ Err Write → HasWriteFailed (W.told writer.old) (W.told writer.new) }
 {
     let Some(after) = with_delta(before, row.posting.delta) else {
         return Err(ReportFault::Bank(Fault::Damaged(Rule::Balance)));
     };
-    put(writer, statement_line(row, after).as_str())?;
+    put(writer, form.line(row, after).as_str())?;
     Ok(after)
 }

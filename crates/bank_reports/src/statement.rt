@@ -11,38 +11,83 @@ ghost use Rattle.bank_store.specs.believed.Seen.{bank_seen, database_of, file_of
 ghost use Rattle.bank_reports.specs.declared.fault.ReportFault.TheVariants.{Bank as OfBank, NoAccount, Write};
 ghost use Rattle.bank_reports.specs.Leaving.{ReadsRows, TellsDown};
 ghost use Rattle.bank_store.specs.Leaving.{CommitsAsFound};
-ghost use Rattle.bank_reports.specs.Postings.{WritesStatement};
-ghost use Rattle.bank_reports.specs.Statements.{LeavesWriter, RefusesBalance, States, StatesFile};
+ghost use Rattle.bank_reports.specs.Postings.{WritesDated, WritesPart, WritesStatement};
+ghost use Rattle.bank_reports.specs.Statements.{LeavesWriter, RefusesBalance, States, StatesDated, StatesFile};
+ghost use Rattle.bank_reports.specs.Statements.{StatesFileDated};
 
 use crate::fault::ReportFault;
 use crate::postings::write_postings;
+use crate::summing::sum_postings;
 use bank_store::Bank;
 use message_records::{Account, Cents};
 use posting_core::Sink;
 use posting_rules::{Counter, Fault};
-use report_contents::{put, put_last, statement_closing, statement_heading, statement_names};
+use report_contents::{Form, Range, RangeSums, put, put_last, statement_heading};
 use sqlite::Alter;
 
-// Writes the statement of an account that has this balance.
+// Writes the statement of an account in a form.
 fn write_lines<S: Alter, W: Sink>(
     bank: &mut Bank<S>,
     account: Account,
-    balance: Cents,
+    form: &Form,
     writer: &mut W,
 ) -> Result<(), ReportFault>
     ensures told { HasCleanDisk (file_of bank.new) → (rows : List Pair)
         → HasPairs (database_of S.Store bank.old) history_table reference_table rows
-        → WritesStatement account balance (filter (is_stated_of (Some account)) rows) (W.contents writer.old)
+        → WritesStatement account form.now (filter (is_stated_of (Some account)) rows) (W.contents writer.old)
         (W.contents writer.new) result }
     ensures reads { ReadsRows S.Store bank.old bank.new result }
     ensures flushed { OnOk result (EndsWith IsFlush (W.told writer.old) (W.told writer.new)) }
     ensures failed { result ≡ Err Write → HasWriteFailed (W.told writer.old) (W.told writer.new) }
 {
     put(writer, statement_heading(account).as_str())?;
-    put(writer, statement_names().as_str())?;
-    write_postings(bank, account, writer)?;
-    put_last(writer, statement_closing(balance).as_str())?;
+    put(writer, form.names().as_str())?;
+    write_postings(bank, account, form, writer)?;
+    put_last(writer, form.closing().as_str())?;
     Ok(())
+}
+
+// Writes the statement of a range of an account.
+fn write_part<S: Alter, W: Sink>(
+    bank: &mut Bank<S>,
+    account: Account,
+    range: Range,
+    writer: &mut W,
+) -> Result<(), ReportFault>
+    ensures told { HasCleanDisk (file_of bank.new) → (rows : List Pair)
+        → HasPairs (database_of S.Store bank.old) history_table reference_table rows
+        → WritesPart account range (filter (is_stated_of (Some account)) rows) (W.contents writer.old)
+        (W.contents writer.new) result }
+    ensures reads { ReadsRows S.Store bank.old bank.new result }
+    ensures flushed { OnOk result (EndsWith IsFlush (W.told writer.old) (W.told writer.new)) }
+    ensures failed { result ≡ Err Write → HasWriteFailed (W.told writer.old) (W.told writer.new) }
+{
+    let mut sums = RangeSums::none(range);
+    sum_postings(bank, account, &mut sums)?;
+    let part = sums.form();
+    write_lines(bank, account, &part, writer)
+}
+
+// Writes the statement of an account that has this balance, or of a range of it.
+fn write_open<S: Alter, W: Sink>(
+    bank: &mut Bank<S>,
+    account: Account,
+    balance: Cents,
+    range: Option<Range>,
+    writer: &mut W,
+) -> Result<(), ReportFault>
+    ensures told { HasCleanDisk (file_of bank.new) → (rows : List Pair)
+        → HasPairs (database_of S.Store bank.old) history_table reference_table rows
+        → WritesDated account balance range (filter (is_stated_of (Some account)) rows) (W.contents writer.old)
+        (W.contents writer.new) result }
+    ensures reads { ReadsRows S.Store bank.old bank.new result }
+    ensures flushed { OnOk result (EndsWith IsFlush (W.told writer.old) (W.told writer.new)) }
+    ensures failed { result ≡ Err Write → HasWriteFailed (W.told writer.old) (W.told writer.new) }
+{
+    match range {
+        None => write_lines(bank, account, &Form::Whole { balance }, writer),
+        Some(range) => write_part(bank, account, range, writer),
+    }
 }
 
 /// Writes the statement of an account: its postings by their ordinals, each with the running balance and the
@@ -79,11 +124,40 @@ pub fn write_statement<S: Alter + Drop, W: Sink>(
         ((bank.new ≡ bank.old) × (writer.new ≡ writer.old)) }
     ensures leaves { CommitsAsFound S.Store bank.old bank.new }
 {
+    write_dated(bank, account, None, writer)
+}
+
+/// Writes the statement of an account, as [`write_statement`], or of the range that is asked for: what the
+/// postings before it add up to, those in it with their running balances, and what the postings up to its end
+/// add up to. Of a range all postings are read twice.
+///
+/// # Errors
+///
+/// Those of [`write_statement`].
+pub fn write_dated<S: Alter + Drop, W: Sink>(
+    bank: &mut Bank<S>,
+    account: Account,
+    range: Option<Range>,
+    writer: &mut W,
+) -> Result<(), ReportFault>
+    ensures bank { StatesDated (bank_seen S.Store bank.old) (bank_seen S.Store bank.new) account range
+        (W.contents writer.old) (W.contents writer.new) result }
+    ensures file { (bank_seen S.Store bank.new).honest → ((bank_seen S.Store bank.new).is_down → ⊥)
+        → StatesFileDated S.Store bank.old bank.new account range (W.contents writer.old) (W.contents writer.new)
+        result }
+    ensures refused { (bank_seen S.Store bank.new).is_down
+        → RefusesBalance S.Store bank.old bank.new result }
+    ensures writer { LeavesWriter W.told writer.old writer.new (bank_seen S.Store bank.new).is_down result }
+    ensures frugal { result ≢ Err (OfBank Memory) }
+    ensures down { TellsDown (bank_seen S.Store bank.old).is_down (result ≡ Err (OfBank Down))
+        ((bank.new ≡ bank.old) × (writer.new ≡ writer.old)) }
+    ensures leaves { CommitsAsFound S.Store bank.old bank.new }
+{
     if bank.is_down() {
         return Err(ReportFault::Bank(Fault::Down));
     }
     let Some(balance) = bank.balance(account)? else {
         return Err(ReportFault::NoAccount);
     };
-    write_lines(bank, account, balance, writer)
+    write_open(bank, account, balance, range, writer)
 }

@@ -8,7 +8,7 @@ use Rattle.report_contents.specs.declared.audit.Audit.{Audit}
 use Rattle.message_records.proofs.Examples.{plain_request}
 use Rattle.posting_rules.specs.believed.{Entries.posted_entry, Tables.history_row_of}
 use Rattle.report_contents.specs.{Audit.audit_of, Stored.StoredTables, Stored.posting_stored}
-use Rattle.report_contents.specs.StatementText.{statement_text}
+use Rattle.report_contents.specs.StatementText.{stated_text, statement_text}
 use Rattle.report_contents.specs.AuditText.{audit_text, number_line, branch_line}
 
 teller : ℕ → ℤ → StoredTeller
@@ -111,7 +111,7 @@ statement_of_one : statement_text 1 (rent ∷ []) (pos 500) ≡
     ++ codes "      ordinal       moment   teller branch          delta        balance reference\n"
     ++ codes "            1         1000        1      1           +500            500 RENT MAY            \n"
     ++ codes "closing balance                                                      500\n"
-unfolding rent deposit statement_text digits
+unfolding rent deposit stated_text digits
 statement_of_one = refl
 
 statement_without : statement_text 100001 (bare ∷ []) (negsuc 699) ≡
@@ -119,5 +119,5 @@ statement_without : statement_text 100001 (bare ∷ []) (negsuc 699) ≡
     ++ codes "      ordinal       moment   teller branch          delta        balance reference\n"
     ++ codes "            2         2000        1      1           -700           -700\n"
     ++ codes "closing balance                                                     -700\n"
-unfolding bare withdrawal statement_text digits
+unfolding bare withdrawal stated_text digits
 statement_without = refl

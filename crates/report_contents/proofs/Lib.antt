@@ -9,3 +9,4 @@ pub mod OneMore
 pub mod Printable
 pub mod OfRows
 pub mod Examples
+pub mod Added

@@ -4,6 +4,7 @@ pub mod Audit
 pub mod Consistency
 pub mod Lines
 pub mod AuditText
+pub mod Ranges
 pub mod StatementText
 pub mod Written
 pub mod Sums

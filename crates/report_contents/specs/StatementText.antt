@@ -1,7 +1,12 @@
 -- The text of a statement of an account, over its postings by ordinal.
 use Rattle.std.specs.Prelude.{ℕ, ℤ, pos, ◌+ℤ◌, List, [], ◌∷◌, ◌++◌, Option, Some, None, codes, decimal}
+use Rattle.std.specs.Prelude.{if◌then◌else◌}
 use Rattle.std.specs.Fmt.{signed_decimal}
 use Rattle.walked_rows.specs.declared.stated.StatedPosting.{StatedPosting}
+use Rattle.report_contents.specs.declared.form.Form.{Form}
+use Rattle.report_contents.specs.declared.form.Form.TheVariants.{Part, Whole}
+use Rattle.report_contents.specs.declared.range.Range.{Range}
+use Rattle.report_contents.specs.Ranges.{is_within, sum_before}
 use Rattle.report_contents.specs.Lines.{line, filled_to, left_in, right_in, with_sign, text_of}
 
 -- the account in twelve digits
@@ -32,21 +37,55 @@ posting_line s balance =
     columns (decimal r.ordinal) (decimal r.moment) (signed_decimal r.teller) (signed_decimal r.branch)
     (with_sign r.delta) (signed_decimal balance) s.reference
 
--- a running balance is the sum of the account's deltas up to its line and with it
+-- lines of postings, each with the balance after it: the sum of the account's deltas up to its line and with it
+abbrev pub lines_by : (StatedPosting → ℤ → List ℕ) → ℤ → List StatedPosting → List (List ℕ)
+lines_by line_with before [] = []
+lines_by line_with before (s ∷ rows) = line_with s (before +ℤ s.posting.delta)
+    ∷ lines_by line_with (before +ℤ s.posting.delta) rows
+
 abbrev pub posting_lines : ℤ → List StatedPosting → List (List ℕ)
-posting_lines before [] = []
-posting_lines before (s ∷ rows) = posting_line s (before +ℤ s.posting.delta)
-    ∷ posting_lines (before +ℤ s.posting.delta) rows
+posting_lines before rows = lines_by posting_line before rows
 
--- the balance of the account's row
+-- a balance by its name, below the balances of postings
+abbrev pub balance_line : List ℕ → ℤ → List ℕ
+balance_line name balance = line (left_in 57 name ++ codes " " ++ right_in 14 (signed_decimal balance))
+
+-- what the postings before a range add up to
+abbrev pub opening_line : ℤ → List ℕ
+opening_line balance = balance_line (codes "opening balance") balance
+
+-- the balance of the account's row; of a range, what the postings up to its end add up to
 abbrev pub closing_line : ℤ → List ℕ
-closing_line balance =
-    line (left_in 57 (codes "closing balance") ++ codes " " ++ right_in 14 (signed_decimal balance))
+closing_line balance = balance_line (codes "closing balance") balance
 
--- an account opens at zero
-abbrev pub statement_lines : ℕ → List StatedPosting → ℤ → List (List ℕ)
-statement_lines account rows balance = heading_line account ∷ names_line
-    ∷ (posting_lines (pos 0) rows ++ closing_line balance ∷ [])
+-- ---- a form
 
-unfoldable pub statement_text : ℕ → List StatedPosting → ℤ → List ℕ
-statement_text account rows balance = text_of (statement_lines account rows balance)
+-- what stands between the heading and the postings
+abbrev pub names_of : Form → List ℕ
+names_of (Whole balance) = names_line
+names_of (Part range opening closing) = names_line ++ opening_line opening
+
+-- the line of a posting with the balance after it; one that isn't in the range has none
+abbrev pub line_of : Form → StatedPosting → ℤ → List ℕ
+line_of (Whole balance) = posting_line
+line_of (Part range opening closing) = λ s balance. if is_within range s then posting_line s balance else []
+
+abbrev pub last_of : Form → List ℕ
+last_of (Whole balance) = closing_line balance
+last_of (Part range opening closing) = closing_line closing
+
+-- the lines of a statement of these postings of an account, which opens at zero
+abbrev pub stated_lines : ℕ → Form → List StatedPosting → List (List ℕ)
+stated_lines account form rows = heading_line account ∷ names_of form
+    ∷ (lines_by (line_of form) (pos 0) rows ++ last_of form ∷ [])
+
+unfoldable pub stated_text : ℕ → Form → List StatedPosting → List ℕ
+stated_text account form rows = text_of (stated_lines account form rows)
+
+-- all postings of an account that has this balance
+abbrev pub statement_text : ℕ → List StatedPosting → ℤ → List ℕ
+statement_text account rows balance = stated_text account (Whole balance) rows
+
+-- a range of the postings of an account: its balances are sums of all of them
+abbrev pub part_of : Range → List StatedPosting → Form
+part_of range rows = Part range (sum_before range.from rows) (sum_before range.until rows)

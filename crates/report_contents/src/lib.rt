@@ -45,11 +45,14 @@ mod adding;
 mod audit;
 mod audit_text;
 mod branches;
+mod form;
 mod laws;
 mod limits;
 mod lines;
 mod matching;
 mod ordinals;
+mod range;
+mod range_sums;
 mod statement_text;
 mod sum;
 mod tellers;
@@ -58,14 +61,14 @@ mod writing;
 pub use adding::audit_of_sums;
 pub use audit::{Audit, BranchLine, BranchLines};
 pub use branches::BranchSums;
-pub use laws::{audit_tells_consistency, rows_tell_of_tables};
+pub use form::Form;
+pub use laws::{audit_tells_consistency, ranges_add_up, rows_tell_of_tables};
 pub use limits::MAX_ROWS;
 pub use lines::push_text;
 pub use ordinals::OrdinalSums;
-pub use statement_text::{
-    STATEMENT_LINE, StatementLine, statement_closing, statement_heading, statement_line,
-    statement_names,
-};
+pub use range::Range;
+pub use range_sums::RangeSums;
+pub use statement_text::{STATEMENT_LINE, StatementLine, statement_heading};
 pub use sum::Sum;
 pub use tellers::TellerSums;
 pub use writing::{WriteFault, put, put_last, write_audit};

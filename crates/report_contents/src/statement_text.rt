@@ -2,8 +2,9 @@
 ghost use Rattle.std.specs.Prelude.{◌≡◌, ◌≤◌, ◌+◌, ◌++◌, length};
 ghost use Rattle.message_records.specs.declared.limits.TheConstants.{REFERENCE_BYTES};
 ghost use Rattle.report_contents.specs.StatementText.{after_others, heading_line, names_line, posting_line};
-ghost use Rattle.report_contents.specs.StatementText.{closing_line};
+ghost use Rattle.report_contents.specs.StatementText.{closing_line, last_of, line_of, names_of, opening_line};
 
+use crate::form::Form;
 use crate::lines::{push_delta, push_filled, push_number, push_text};
 use arrayvec::ArrayString;
 use itoa::Buffer;
@@ -44,8 +45,8 @@ pub fn statement_heading(account: Account) -> StatementLine
     line
 }
 
-/// The second line: the names of the columns.
-pub fn statement_names() -> StatementLine
+// The second line: the names of the columns.
+fn statement_names() -> StatementLine
     ensures { result.bytes ≡ names_line }
 {
     let mut line = ArrayString::new();
@@ -67,8 +68,8 @@ fn push_reference(line: &mut StatementLine, reference: &Option<Reference>)
     }
 }
 
-/// The line of a posting with the reference of its request, and the running balance with it.
-pub fn statement_line(row: &StatedPosting, balance: Cents) -> StatementLine
+// The line of a posting with the reference of its request, and the running balance with it.
+fn statement_line(row: &StatedPosting, balance: Cents) -> StatementLine
     ensures { result.bytes ≡ posting_line row.now balance }
 {
     let StatedPosting {
@@ -92,13 +93,63 @@ pub fn statement_line(row: &StatedPosting, balance: Cents) -> StatementLine
     line
 }
 
-/// The last line: the balance of the account's row.
-pub fn statement_closing(balance: Cents) -> StatementLine
+// The names of the columns, and what the postings before a range add up to.
+fn names_and_opening(balance: i128) -> StatementLine
+    ensures { result.bytes ≡ names_line ++ opening_line balance }
+{
+    let mut line = statement_names();
+    line.push_str("opening balance                                           ");
+    push_number(&mut line, BALANCE, balance);
+    line.push_str("\n");
+    line
+}
+
+// The last line: a balance.
+fn statement_closing(balance: i128) -> StatementLine
     ensures { result.bytes ≡ closing_line balance }
 {
     let mut line = ArrayString::new();
     line.push_str("closing balance                                           ");
-    push_number(&mut line, BALANCE, i128::from(balance.get()));
+    push_number(&mut line, BALANCE, balance);
     line.push_str("\n");
     line
+}
+
+impl Form {
+    /// What stands between the heading and the postings: the names of the columns; of a range, also the
+    /// balance before it.
+    pub fn names(&self) -> StatementLine
+        ensures { result.bytes ≡ names_of self.now }
+    {
+        match self {
+            Form::Whole { .. } => statement_names(),
+            Form::Part { opening, .. } => names_and_opening(*opening),
+        }
+    }
+
+    /// The line of a posting with the balance after it, which is empty where it isn't in the range.
+    pub fn line(&self, row: &StatedPosting, balance: Cents) -> StatementLine
+        ensures { result.bytes ≡ line_of self.now row.now balance }
+    {
+        match self {
+            Form::Whole { .. } => statement_line(row, balance),
+            Form::Part { range, .. } => {
+                if range.has(row) {
+                    statement_line(row, balance)
+                } else {
+                    ArrayString::new()
+                }
+            }
+        }
+    }
+
+    /// The last line: the balance of the account's row; of a range, the balance at its end.
+    pub fn closing(&self) -> StatementLine
+        ensures { result.bytes ≡ last_of self.now }
+    {
+        match self {
+            Form::Whole { balance } => statement_closing(i128::from(balance.get())),
+            Form::Part { closing, .. } => statement_closing(*closing),
+        }
+    }
 }

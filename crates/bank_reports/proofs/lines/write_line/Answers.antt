@@ -1,7 +1,7 @@
 -- The line was written, a prefix of it was, or the balance after it is out of its limits.
 use Rattle.std.proofs.Common.{rules, ◌≡◌, Err, refl, ap, ◌∙◌, w64, to_z, of_z}
 use Rattle.std.proofs.lemmas.Int.{to_z-of_z}
-use Rattle.report_contents.specs.StatementText.{posting_line}
+use Rattle.report_contents.specs.StatementText.{line_of}
 use Rattle.report_contents.proofs.Written.{same_all, same_part}
 use Rattle.bank_reports.specs.declared.fault.ReportFault.TheVariants.{Write}
 use Rattle.bank_reports.proofs.ReportEnds.{not_ok}
@@ -15,7 +15,7 @@ returns-in_err-put g c =
     let after = rw delta at c.in-Some.ensures.within in
     record {
       written = rw same (same_part _ _
-          (c.as_str.ensures.value ∙ c.statement_line.ensures ∙ ap (posting_line c.args.row.now) after)
+          (c.as_str.ensures.value ∙ c.line.ensures ∙ ap (line_of c.args.form.now c.args.row.now) after)
           c.in_err-put.ensures.err);
       more = rw same tt;
       failed = λ write. c.in_err-put.ensures.failed;
@@ -29,7 +29,7 @@ returns g c =
       written = (
         rw delta at c.in-Some.ensures.within,
         same_all _ _
-            (c.as_str.ensures.value ∙ c.statement_line.ensures) c.in_ok-put.ensures.ok,
+            (c.as_str.ensures.value ∙ c.line.ensures) c.in_ok-put.ensures.ok,
       );
       more = c.in_ok-put.ensures.more;
       failed = λ write. absurd (not_ok _ _ _ refl write);

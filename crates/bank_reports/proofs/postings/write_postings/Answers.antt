@@ -20,7 +20,7 @@ returns-in_err-walk g c =
     record {
       told = λ clean rows has.
           let all = filter (is_stated_of (Some c.args.account)) rows in
-          rw (same, was.0) (down_err all text all text _ _ (at_first all all text refl));
+          rw (same, was.0) (down_err c.args.form.now all text all text _ _ (at_first c.args.form.now all all text refl));
       more = rw same tt;
       failed = λ write. absurd (not_write _ fault same write);
       reads = record {
@@ -47,7 +47,7 @@ returns g c =
     record {
       told = λ clean rows has.
           let late : HasCleanDisk (state g.S.Store last.conn) = search rules in
-          subst (λ (all : List Pair). WritesPostings all (g.W.Sink.contents c.args.writer.now)
+          subst (λ (all : List Pair). WritesPostings c.args.form.now all (g.W.Sink.contents c.args.writer.now)
           (g.W.Sink.contents c.write_rows.new.writer) c.write_rows.result)
           (begins.all rows has) (says.told late rows (there rows has));
       more = says.more;

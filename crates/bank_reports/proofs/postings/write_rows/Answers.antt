@@ -25,7 +25,7 @@ lines-init g c = record {
   fresh = c.requires.fresh;
   still = λ clean. (refl, refl, refl, refl);
   more = more_none _;
-  far = λ clean rows has. rw c.zero-balance.ensures (at_first _ _ _ refl);
+  far = λ clean rows has. rw c.zero-balance.ensures (at_first _ _ _ _ refl);
 }
 
 pub returns-in_err-row : goal.returns-in_err-row
@@ -42,7 +42,7 @@ returns-in_err-row g c =
       told = λ clean rows has.
           let before = clean_before mid new quiet clean in
           let there = still_has old mid history_table reference_table rows (it.still before) has in
-          rw same (walk_err _ _ _ _ _ _ (it.far before rows has) _ fault
+          rw same (walk_err _ _ _ _ _ _ _ (it.far before rows has) _ fault
           (c.in_err-row.ensures.told clean rows there));
       more = rw same tt;
       failed = λ write. absurd (not_write _ fault same write);
@@ -84,7 +84,7 @@ returns-in_default g c =
       told = λ clean rows has.
           let before = clean_before mid new quiet clean in
           let there = still_has old mid history_table reference_table rows (it.still before) has in
-          walk_end _ _ _ _ _ _ (it.far before rows has)
+          walk_end _ _ _ _ _ _ _ (it.far before rows has)
           (rw c.in_default.is at (c.in_ok-row.ensures.told clean rows there)).0;
       more = it.more;
       failed = λ no. absurd (not_ok _ _ _ refl no);
@@ -111,7 +111,7 @@ returns-in_err-balance g c =
     let same : c.from_residual-in_err-balance.result ≡ Err fault = search rules in
     let wrote = c.in_err-balance.ensures.written in
     let line = λ (e : ReportFault) (is : c.from_residual-in_err-balance.result ≡ Err e).
-    line_is c.in-Some.row c.lines.balance (g.W.Sink.contents c.lines.writer)
+    line_is c.args.form.now c.in-Some.row c.lines.balance (g.W.Sink.contents c.lines.writer)
     (g.W.Sink.contents c.write_line.new.writer) _ fault e same is wrote in
     let still = λ (clean : HasCleanDisk new).
     still_then old mid new (it.still (clean_before mid new quiet clean)) (c.in_ok-row.ensures.bank.same clean) in
@@ -120,7 +120,7 @@ returns-in_err-balance g c =
       told = λ clean rows has.
           let before = clean_before mid new quiet clean in
           let there = still_has old mid history_table reference_table rows (it.still before) has in
-          rw same (line_err _ _ _ _ _ _ _ _ c.in-Some.row
+          rw same (line_err _ _ _ _ _ _ _ _ _ c.in-Some.row
           (rw c.in-Some.is at (c.in_ok-row.ensures.told clean rows there)) (it.far before rows has) fault wrote);
       more = rw same tt;
       failed = λ is.
@@ -156,7 +156,7 @@ lines-preserved g c =
       far = λ clean rows has.
           let before = clean_before mid new quiet clean in
           let there = still_has old mid history_table reference_table rows (it.still before) has in
-          one_line _ _ _ _ _ _ _ _ c.in-Some.row
+          one_line _ _ _ _ _ _ _ _ _ c.in-Some.row
           (rw c.in-Some.is at (c.in_ok-row.ensures.told clean rows there))
           (it.far before rows has)
           c.in_ok-balance.balance c.in_ok-balance.ensures.written;
@@ -170,7 +170,7 @@ returns g c =
     record {
       same_reference = it.reference;
       told = λ clean rows has.
-          worn_out _ _ _ _ _ _ (it.far clean rows has) (omega (arith, c.lines-test.false));
+          worn_out _ _ _ _ _ _ _ (it.far clean rows has) (omega (arith, c.lines-test.false));
       more = tt;
       failed = λ write. absurd (not_write _ (Damaged Value) refl write);
       reads = record {

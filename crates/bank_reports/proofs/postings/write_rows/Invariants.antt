@@ -20,6 +20,6 @@ invariant-lines g l =
       still : HasCleanDisk now → IsStill old now;
       more : HasMore (g.W.Sink.told l.fn.writer) (g.W.Sink.told l.writer);
       far : HasCleanDisk now → (rows : List Pair) → HasPairs old.now history_table reference_table rows
-          → IsFar (postings_to_come rows l.fn.walk) (postings_to_come rows l.walk)
+          → IsFar l.form (postings_to_come rows l.fn.walk) (postings_to_come rows l.walk)
           (g.W.Sink.contents l.fn.writer) (g.W.Sink.contents l.writer) l.balance l.counter;
     }

@@ -16,7 +16,7 @@ returns-in_err-put g c =
     let same : c.from_residual.result ≡ Err Write = search rules in
     record {
       told = λ clean rows has.
-          rw same (heading_err c.args.account c.args.balance (filter (is_stated_of (Some c.args.account)) rows) _ _
+          rw same (heading_err c.args.account c.args.form.now (filter (is_stated_of (Some c.args.account)) rows) _ _
           (same_part _ _ (c.as_str.ensures.value ∙ c.statement_heading.ensures) c.in_err-put.ensures.err));
       flushed = rw same tt;
       failed = λ write. c.in_err-put.ensures.failed;
@@ -37,9 +37,9 @@ returns-in_err-put-2 g c =
     let same : c.from_residual-in_err-put-2.result ≡ Err Write = search rules in
     record {
       told = λ clean rows has.
-          rw same (names_err c.args.account c.args.balance (filter (is_stated_of (Some c.args.account)) rows) _ _
+          rw same (names_err c.args.account c.args.form.now (filter (is_stated_of (Some c.args.account)) rows) _ _
           (same_all _ _ (c.as_str.ensures.value ∙ c.statement_heading.ensures) c.in_ok-put.ensures.ok) _
-          (same_part _ _ (c.as_str-2.ensures.value ∙ c.statement_names.ensures) c.in_err-put-2.ensures.err));
+          (same_part _ _ (c.as_str-2.ensures.value ∙ c.names.ensures) c.in_err-put-2.ensures.err));
       flushed = rw same tt;
       failed = λ write. later_failed c.in_ok-put.ensures.more c.in_err-put-2.ensures.failed;
       reads = record {
@@ -61,9 +61,9 @@ returns-in_err-write_postings g c =
     let says = c.in_err-write_postings.ensures in
     record {
       told = λ clean rows has.
-          rw same (postings_err c.args.account c.args.balance (filter (is_stated_of (Some c.args.account)) rows) _ _
+          rw same (postings_err c.args.account c.args.form.now (filter (is_stated_of (Some c.args.account)) rows) _ _
           (same_all _ _ (c.as_str.ensures.value ∙ c.statement_heading.ensures) c.in_ok-put.ensures.ok) _
-          (same_all _ _ (c.as_str-2.ensures.value ∙ c.statement_names.ensures) c.in_ok-put-2.ensures.ok) _
+          (same_all _ _ (c.as_str-2.ensures.value ∙ c.names.ensures) c.in_ok-put-2.ensures.ok) _
           fault (says.told clean rows has));
       flushed = rw same tt;
       failed = λ write.
@@ -87,11 +87,11 @@ returns-in_err-put_last g c =
     let says = c.in_ok-write_postings.ensures in
     record {
       told = λ clean rows has.
-          rw same (closing_err c.args.account c.args.balance (filter (is_stated_of (Some c.args.account)) rows) _ _
+          rw same (closing_err c.args.account c.args.form.now (filter (is_stated_of (Some c.args.account)) rows) _ _
           (same_all _ _ (c.as_str.ensures.value ∙ c.statement_heading.ensures) c.in_ok-put.ensures.ok) _
-          (same_all _ _ (c.as_str-2.ensures.value ∙ c.statement_names.ensures) c.in_ok-put-2.ensures.ok) _
+          (same_all _ _ (c.as_str-2.ensures.value ∙ c.names.ensures) c.in_ok-put-2.ensures.ok) _
           (says.told clean rows has) _
-          (same_part _ _ (c.as_str-3.ensures.value ∙ c.statement_closing.ensures)
+          (same_part _ _ (c.as_str-3.ensures.value ∙ c.closing.ensures)
           c.in_err-put_last.ensures.err));
       flushed = rw same tt;
       failed = λ write.
@@ -114,11 +114,11 @@ returns g c =
     let says = c.in_ok-write_postings.ensures in
     record {
       told = λ clean rows has.
-          all_written c.args.account c.args.balance (filter (is_stated_of (Some c.args.account)) rows) _ _
+          all_written c.args.account c.args.form.now (filter (is_stated_of (Some c.args.account)) rows) _ _
           (same_all _ _ (c.as_str.ensures.value ∙ c.statement_heading.ensures) c.in_ok-put.ensures.ok) _
-          (same_all _ _ (c.as_str-2.ensures.value ∙ c.statement_names.ensures) c.in_ok-put-2.ensures.ok) _
+          (same_all _ _ (c.as_str-2.ensures.value ∙ c.names.ensures) c.in_ok-put-2.ensures.ok) _
           (says.told clean rows has) _
-          (same_all _ _ (c.as_str-3.ensures.value ∙ c.statement_closing.ensures)
+          (same_all _ _ (c.as_str-3.ensures.value ∙ c.closing.ensures)
           c.in_ok-put_last.ensures.ok);
       flushed =
           more_last IsFlush

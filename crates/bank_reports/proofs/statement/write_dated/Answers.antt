@@ -9,11 +9,11 @@ use Rattle.store_rows.specs.believed.BankTables.{history as history_table, refer
 use Rattle.walked_rows.specs.{Pairs.HasPairs, Pairs.Pair, Stored.is_stated_of}
 use Rattle.bank_store.specs.{believed.Down.OfDamage, Down.WasBroken, believed.Down.bank_reason}
 use Rattle.bank_store.specs.{believed.Seen.bank_seen, believed.Seen.database_of}
-use Rattle.bank_reports.specs.{declared.fault.ReportFault.TheVariants.Bank, StatedLines.statement_after}
+use Rattle.bank_reports.specs.{declared.fault.ReportFault.TheVariants.Bank, StatedLines.stated_after}
 use Rattle.bank_reports.specs.{Postings.StatesRows}
 use Rattle.report_contents.proofs.Written.{nothing_written}
 use Rattle.bank_reports.proofs.FaultsTold.{down_is_sound, unstated}
-use Rattle.bank_reports.proofs.{Passed.failed_later, statement.write_statement.Given.Over}
+use Rattle.bank_reports.proofs.{Passed.failed_later, statement.write_dated.Given.Over}
 use Rattle.bank_reports.proofs.OnLogs.{account_rows, has_stated, stated_rows}
 use Rattle.bank_reports.proofs.ReportEnds.{damaged_not_down, down_not_store, not_both, not_missing, not_write, of_err}
 use Rattle.bank_reports.proofs.ReportEnds.{of_ok, refused_before, refused_down, refused_leaves, refused_sound}
@@ -21,7 +21,7 @@ use Rattle.bank_reports.proofs.ReportEnds.{same_fault, written_of}
 use Rattle.bank_store.proofs.{AsFound.commits_then, AsFound.idle_commits, ReadsLeave.idle_takes, ReadsLeave.reads_after}
 use Rattle.bank_transactions.proofs.Blamed.{comes}
 use Rattle.bank_reports.proofs.StatementReports.{ToldOfLog, log_part, log_sound, log_whole}
-use Rattle.bank_reports.proofs.statement.write_statement.Goals as goal
+use Rattle.bank_reports.proofs.statement.write_dated.Goals as goal
 
 tested_up : (tested is_down : Bool) → tested ≡ is_down → tested ≡ false → is_down ≡ true → ⊥
 tested_up tested is_down same up down = cc
@@ -33,7 +33,7 @@ returns-then-is_down g c =
     let seen = bank_seen g.S.Store c.args.bank.now in
     let was = sym c.is_down.ensures ∙ c.if-is_down.true in
     record {
-      bank = unstated seen seen c.args.account (g.W.Sink.contents c.args.writer.now) _ Down refl
+      bank = unstated seen seen c.args.account c.args.range (g.W.Sink.contents c.args.writer.now) _ Down refl
           (down_is_sound seen seen) (idle_takes seen _);
       file = λ clean up. absurd (up was);
       refused = λ down. record {
@@ -70,7 +70,7 @@ returns-in_err-balance g c =
     let tried = λ (is : c.from_residual.result ≡ Err (Bank Down)).
     refused_before fault old new [] says.call.fault (same_fault _ fault Down same is) in
     record {
-      bank = unstated old new c.args.account (g.W.Sink.contents c.args.writer.now) _ fault same
+      bank = unstated old new c.args.account c.args.range (g.W.Sink.contents c.args.writer.now) _ fault same
           (λ rule is. refused_sound fault old new [] says.call.fault rule is)
           record {
             done = λ answered. absurd (rw same at answered);
@@ -113,7 +113,7 @@ returns-in_default g c =
         found = tt;
         missing = λ none clean log s. sym (rw c.in_default.is at (says.answer clean log s));
         silent = λ none. refl;
-        part = λ clean log s. nothing_written _ (statement_after log c.args.account);
+        part = λ clean log s. nothing_written _ (stated_after log c.args.account c.args.range);
         sound = λ rule is clean log s. not_missing _ _ is refl;
         takes = record {
           done = λ answered. says.call.done;
@@ -141,35 +141,35 @@ returns-in_default g c =
 -- ---- where the lines were begun
 
 -- the disk was clean when the balance was known
-clean_at : (g : Over) (c : goal.After-write_lines g)
-    → HasCleanDisk (state g.S.Store c.write_lines.new.bank.conn)
+clean_at : (g : Over) (c : goal.After-write_open g)
+    → HasCleanDisk (state g.S.Store c.write_open.new.bank.conn)
     → HasCleanDisk (state g.S.Store c.balance.new.self.conn)
-clean_at g c clean = omega (arith, c.write_lines.ensures.reads.survives.clean, clean)
+clean_at g c clean = omega (arith, c.write_open.ensures.reads.survives.clean, clean)
 
 -- the rows are those that the file held
-rows_at : (g : Over) (c : goal.After-write_lines g)
-    → HasCleanDisk (state g.S.Store c.write_lines.new.bank.conn) → (rows : List Pair)
+rows_at : (g : Over) (c : goal.After-write_open g)
+    → HasCleanDisk (state g.S.Store c.write_open.new.bank.conn) → (rows : List Pair)
     → HasPairs (database_of g.S.Store c.args.bank.now) history_table reference_table rows
     → HasPairs (database_of g.S.Store c.balance.new.self) history_table reference_table rows
 rows_at g c clean rows has =
     let same = c.in_ok-balance.ensures.reads.still (clean_at g c clean) in
     subst (λ db. HasPairs db history_table reference_table rows) (sym same) has
 
-stated : (g : Over) (c : goal.After-write_lines g)
-    → HasCleanDisk (state g.S.Store c.write_lines.new.bank.conn) → (rows : List Pair)
+stated : (g : Over) (c : goal.After-write_open g)
+    → HasCleanDisk (state g.S.Store c.write_open.new.bank.conn) → (rows : List Pair)
     → HasPairs (database_of g.S.Store c.args.bank.now) history_table reference_table rows
-    → StatesRows (database_of g.S.Store c.args.bank.now) c.args.account rows
-    (g.W.Sink.contents c.args.writer.now) (g.W.Sink.contents c.write_lines.new.writer) c.write_lines.result
+    → StatesRows (database_of g.S.Store c.args.bank.now) c.args.account c.args.range rows
+    (g.W.Sink.contents c.args.writer.now) (g.W.Sink.contents c.write_open.new.writer) c.write_open.result
 stated g c clean rows has =
     let balance = rw c.in-Some.is at (c.in_ok-balance.ensures.stored (clean_at g c clean)) in
-    (c.in-Some.balance, balance, c.write_lines.ensures.told clean rows (rows_at g c clean rows has))
+    (c.in-Some.balance, balance, c.write_open.ensures.told clean rows (rows_at g c clean rows has))
 
 -- what is told of it where the bank shows a log
-told_of : (g : Over) (c : goal.After-write_lines g)
-    → HasCleanDisk (state g.S.Store c.write_lines.new.bank.conn) → (log : List Command)
+told_of : (g : Over) (c : goal.After-write_open g)
+    → HasCleanDisk (state g.S.Store c.write_open.new.bank.conn) → (log : List Command)
     → ShowsLog (bank_seen g.S.Store c.args.bank.now) log
-    → ToldOfLog c.args.account log (g.W.Sink.contents c.args.writer.now)
-    (g.W.Sink.contents c.write_lines.new.writer) c.write_lines.result
+    → ToldOfLog c.args.account log c.args.range (g.W.Sink.contents c.args.writer.now)
+    (g.W.Sink.contents c.write_open.new.writer) c.write_open.result
 told_of g c clean log s =
     let mid = clean_at g c clean in
     let shown = c.in_ok-balance.ensures.call.done.shows mid log s in
@@ -180,31 +180,31 @@ told_of g c clean log s =
       is = same;
       all = filter (is_stated_of (Some c.args.account)) (stated_rows t);
       rows = account_rows _ t log c.args.account shown.are shown.shows;
-      told = c.write_lines.ensures.told clean (stated_rows t) (has_stated _ t shown.are);
+      told = c.write_open.ensures.told clean (stated_rows t) (has_stated _ t shown.are);
       commands = shown.commands;
     }
 
 pub returns : goal.returns
 returns g c =
     let mid = state g.S.Store c.balance.new.self.conn in
-    let new = state g.S.Store c.write_lines.new.bank.conn in
+    let new = state g.S.Store c.write_open.new.bank.conn in
     let before = c.in_ok-balance.ensures in
-    let says = c.write_lines.ensures in
-    let down_before = λ (down : (bank_seen g.S.Store c.write_lines.new.bank).is_down).
+    let says = c.write_open.ensures in
+    let down_before = λ (down : (bank_seen g.S.Store c.write_open.new.bank).is_down).
     before.call.up (says.reads.up down) in
     record {
       bank = record {
-        text = of_ok c.write_lines.result (λ is clean log s. log_whole (told_of g c clean log s) is);
-        found = of_ok c.write_lines.result (λ is clean log s.
+        text = of_ok c.write_open.result (λ is clean log s. log_whole (told_of g c clean log s) is);
+        found = of_ok c.write_open.result (λ is clean log s.
             subst (λ o. IsSome o) (told_of g c clean log s).is refl);
         missing = λ none. absurd (says.reads.found none);
         silent = λ none. absurd (says.reads.found none);
-        part = of_err c.write_lines.result
+        part = of_err c.write_open.result
             (λ fault is clean log s. log_part (told_of g c clean log s) fault is);
         sound = λ rule is clean log s. log_sound (told_of g c clean log s) rule is;
         takes = reads_after (state g.S.Store c.args.bank.now.conn) mid new _ _ _ _ before.call.done before.call.honest
             (λ answered clean.
-            says.reads.still clean (written_of c.write_lines.result says.reads.found answered))
+            says.reads.still clean (written_of c.write_open.result says.reads.found answered))
             says.reads.survives says.reads.up;
       };
       file = λ clean up. record {
@@ -212,7 +212,7 @@ returns g c =
         tables = λ found t shown. stated g c clean (stated_rows t) (has_stated _ t shown);
         absent = λ none. absurd (says.reads.found none);
         store = λ is rows has.
-            failed_later g.S.Store c.args.bank.now.conn c.balance.new.self.conn c.write_lines.new.bank.conn
+            failed_later g.S.Store c.args.bank.now.conn c.balance.new.self.conn c.write_open.new.bank.conn
             (comes before.reads.leaves.left) (says.reads.store is clean rows (rows_at g c clean rows has));
       };
       refused = λ down. absurd (down_before down);
@@ -230,6 +230,6 @@ returns g c =
         tried = λ is. absurd (before.call.up (says.reads.tried is));
         idle = λ is. absurd (before.call.up (says.reads.tried is));
       };
-      leaves = commits_then g.S.Store c.args.bank.now c.write_lines.new.bank c.balance.new.self.conn
+      leaves = commits_then g.S.Store c.args.bank.now c.write_open.new.bank c.balance.new.self.conn
           before.reads.leaves.now before.reads.leaves.left says.reads.undone says.reads.survives;
     }

@@ -1,0 +1,76 @@
+-- All is added, and then the range of it is written.
+use Rattle.std.proofs.Common.{rules, ◌≡◌, [], Err, Some, filter, refl, sym, subst, inl, inr, ◌∙◌}
+use Rattle.sqlite.specs.{State.HasCleanDisk, Held.state}
+use Rattle.store_rows.specs.believed.BankTables.{history as history_table, reference as reference_table}
+use Rattle.walked_rows.specs.Stored.{is_stated_of}
+use Rattle.report_contents.specs.declared.{form.Form.Form, range.Range.Range}
+use Rattle.report_contents.specs.Ranges.{HasSummed}
+use Rattle.bank_reports.specs.Postings.{WritesStatement}
+use Rattle.bank_reports.proofs.ReadsThen.{reads_then}
+use Rattle.bank_store.proofs.{ReadsLeave.clean_before, StepsKeep.still_has}
+use Rattle.bank_reports.proofs.statement.write_part.Goals as goal
+
+pub sum_postings-requires : goal.sum_postings-requires
+sum_postings-requires g c = record {
+  none = subst (λ (r : Range). HasSummed r c.none-sums.result []) (sym c.none-sums.ensures.range) c.none-sums.ensures;
+}
+
+pub returns-in_err-sum_postings : goal.returns-in_err-sum_postings
+returns-in_err-sum_postings g c =
+    let fault = c.in_err-sum_postings.field-0.0 in
+    let same : c.from_residual.result ≡ Err fault = search rules in
+    let says = c.in_err-sum_postings.ensures in
+    record {
+      told = λ clean rows has.
+          let it = says.told clean rows has in
+          rw same record {
+            summed = it.given;
+            rest = it.rest;
+            are = it.are;
+            ends = inr (fault, refl, it.why, refl);
+          };
+      flushed = rw same tt;
+      failed = λ write. absurd (says.unwritten (sym same ∙ write));
+      reads = record {
+        found = λ none. says.reads.found (sym same ∙ none);
+        frugal = λ is. says.reads.frugal (sym same ∙ is);
+        tried = λ is. says.reads.tried (sym same ∙ is);
+        store = λ is. says.reads.store (sym same ∙ is);
+        still = λ clean written. says.reads.still clean (rw same at written);
+        undone = says.reads.undone;
+        up = says.reads.up;
+        survives = says.reads.survives;
+      };
+    }
+
+pub returns : goal.returns
+returns g c =
+    let old = state g.S.Store c.args.bank.now.conn in
+    let mid = state g.S.Store c.sum_postings.new.bank.conn in
+    let new = state g.S.Store c.write_lines.new.bank.conn in
+    let first = c.in_ok-sum_postings.ensures in
+    let second = c.write_lines.ensures in
+    let before = λ (clean : HasCleanDisk new). clean_before mid new second.reads.survives clean in
+    record {
+      told = λ clean rows has.
+          let it = first.told (before clean) rows has in
+          let there = still_has old mid history_table reference_table rows (first.reads.still (before clean) tt) has in
+          let summed = subst (λ (r : Range). HasSummed r c.sum_postings.new.sums it.given) c.none-sums.ensures.range
+          it.summed in
+          record {
+            summed = it.given;
+            rest = it.rest;
+            are = it.are;
+            ends = inl (
+              it.why,
+              subst (λ (form : Form). WritesStatement c.args.account form
+                  (filter (is_stated_of (Some c.args.account)) rows) (g.W.Sink.contents c.args.writer.now)
+                  (g.W.Sink.contents c.write_lines.new.writer) c.write_lines.result)
+                  (c.form-part.ensures c.args.range it.given summed) (second.told clean rows there),
+            );
+          };
+      flushed = second.flushed;
+      failed = second.failed;
+      reads = reads_then g.S.Store c.args.bank.now c.sum_postings.new.bank c.write_lines.new.bank _ first.reads
+          second.reads;
+    }

@@ -1,0 +1,70 @@
+-- The sums of the walk over the account's postings.
+use Rattle.std.proofs.Common.{rules, ◌≡◌, List, [], Err, Some, filter, refl, sym, subst}
+use Rattle.sqlite.specs.{State.HasCleanDisk, Held.state}
+use Rattle.store_rows.specs.believed.BankTables.{history as history_table, reference as reference_table}
+use Rattle.walked_rows.specs.{Pairs.HasPairs, Pairs.Pair, Stored.is_stated_of}
+use Rattle.bank_store.specs.believed.Seen.{bank_seen, connection_of, database_of}
+use Rattle.bank_reports.specs.declared.fault.ReportFault.TheVariants.{Bank}
+use Rattle.bank_store.specs.Failures.{HasFailedToRead}
+use Rattle.bank_reports.specs.Postings.{AddsPostings}
+use Rattle.bank_reports.proofs.Passed.{failed_at_end}
+use Rattle.bank_reports.proofs.ReportEnds.{down_not_memory, down_not_store, not_missing, not_write}
+use Rattle.bank_reports.proofs.summing.sum_postings.Goals as goal
+
+pub returns-in_err-walk : goal.returns-in_err-walk
+returns-in_err-walk g c =
+    let fault = c.in_err-walk.field-0.0 in
+    let was = c.in_err-walk.ensures.begins.fault in
+    let same : c.from_residual.result ≡ Err (Bank fault) = search rules in
+    record {
+      told = λ clean rows has.
+          rw (same, was.0) record {
+            given = [];
+            rest = filter (is_stated_of (Some c.args.account)) rows;
+            are = refl;
+            why = tt;
+            summed = c.requires.none;
+          };
+      unwritten = λ write. not_write _ fault same write;
+      reads = record {
+        found = not_missing _ fault same;
+        frugal = λ is. down_not_memory _ fault same was.0 is;
+        tried = λ is. was.1;
+        store = λ is. absurd (down_not_store _ fault same was.0 is);
+        still = λ clean written. absurd (rw same at written);
+        undone = search rules;
+        up = λ down. was.1;
+        survives = search rules;
+      };
+    }
+
+pub returns : goal.returns
+returns g c =
+    let begins = c.in_ok-walk.ensures.begins in
+    let says = c.sum_rows.ensures in
+    let last = c.sum_rows.new.walk.bank.now in
+    let there = λ (rows : List Pair) (has : HasPairs (database_of g.S.Store c.args.bank.now) history_table
+    reference_table rows).
+    subst (λ bank. HasPairs (database_of g.S.Store bank) history_table reference_table rows) (sym begins.same) has
+    in
+    record {
+      told = λ clean rows has.
+          let late : HasCleanDisk (state g.S.Store last.conn) = search rules in
+          subst (λ (all : List Pair). AddsPostings c.args.sums.now.range all c.sum_rows.new.sums c.sum_rows.result)
+          (begins.all rows has) (says.told late rows (there rows has));
+      unwritten = says.unwritten;
+      reads = record {
+        found = says.reads.found;
+        frugal = says.reads.frugal;
+        tried = λ is.
+            subst (λ bank. (bank_seen g.S.Store bank).is_down) begins.same (says.reads.tried is);
+        store = λ is clean rows has.
+            let late : HasCleanDisk (state g.S.Store last.conn) = search rules in
+            failed_at_end (subst (λ bank. HasFailedToRead g.S.Store (connection_of bank) last.conn) begins.same
+            (says.reads.store is late rows (there rows has))) (search rules);
+        still = search rules;
+        undone = search rules;
+        up = search rules;
+        survives = search rules;
+      };
+    }
