@@ -18,6 +18,7 @@ use Rattle.branch_loader.specs.{believed.Plans.Rows, declared.fault.PlanFault.Pl
 use Rattle.branch_loader.specs.declared.loader.Loaded.{Loaded}
 use Rattle.posting_sheets.specs.declared.fault.{RepliesFault.RepliesFault, SheetFault.SheetFault}
 use Rattle.report_contents.specs.declared.audit.Audit.{Audit}
+use Rattle.report_contents.specs.declared.range.Range.{Range}
 use Rattle.bank_reports.specs.declared.fault.ReportFault.{ReportFault}
 use Rattle.bank_reports.specs.declared.fault.ReportFault.TheVariants as report
 use Rattle.bank_replays.specs.declared.{chain.Digest.Digest, difference.Replay.Replay, fault.ReplayFault.ReplayFault}
@@ -25,6 +26,7 @@ use Rattle.bank_replays.specs.declared.difference.Replay.TheVariants as replays
 use Rattle.bank_replays.specs.declared.fault.ReplayFault.TheVariants as written
 use Rattle.bank_store.specs.declared.{bank.Bank.Bank, refused.Refused.Refused}
 use Rattle.command_line.specs.{Auditing.Prints, declared.fault.CommandFault.CommandFault}
+use Rattle.command_line.specs.declared.dates.RangeFault.{RangeFault}
 use Rattle.command_line.specs.{declared.reading.Command.Command, declared.status.Status.Status, Lines.driven_line}
 use Rattle.command_line.specs.{Lines.listening_line, Lines.loaded_line, Statuses.status_of_loaded}
 use Rattle.command_line.specs.Faults.{IsOfFile, fault_of_opening, fault_of_stream, status_of}
@@ -36,7 +38,7 @@ use Rattle.load_driver.specs.declared.{drive.Driven.Driven, drive_fault.DriveFau
 use Rattle.command_line.specs.Translating.{ended_by_replies, ended_by_sheet}
 use Rattle.command_line.specs.Working.{DrivesOver, LoadsAnswer, LoadsOver, ServesOver, TellsDrive, TellsLoad}
 use Rattle.command_line.specs.Working.{TellsServing, done_after, ended_by_load}
-use Rattle.bank_commands.specs.Commands.{EndsPost, PrintsDrive, PrintsLoad, PrintsServe, StatesOver, TellsLine}
+use Rattle.bank_commands.specs.Commands.{EndsPost, PrintsDrive, PrintsLoad, PrintsServe, StatesAsked, StatesOver, TellsLine}
 use Rattle.bank_commands.specs.Commands.{ended_by, stated_by}
 use Rattle.bank_commands.specs.{Over.IsRefusedOver, Over.RunsOver}
 use Rattle.bank_commands.specs.Running.{LeavesClock, LeavesInput, PrintsNone, Tells}
@@ -185,12 +187,18 @@ stated_done account (Err report.NoAccount) = tt
 stated_done account (Err report.Write) = tt
 stated_done account (Err (report.Bank cause)) = tt
 
-pub states_done : {S : Type 0} (g : Ghosts S) (conn back : Held S) (account : ℕ) (w w' : Option (List ℕ))
-    (told : Result Status CommandFault) → StatesOver g conn back account w w' None None told
-    → IfOk told (λ status. status ≡ Done)
-states_done g conn back account w w' told (inl none, spares) = rw (err_from_is_err_and told none.0).1 tt
-states_done g conn back account w w' told (inr works, spares) =
+range_done : {S : Type 0} (g : Ghosts S) (conn back : Held S) (account : ℕ) (range : Option Range)
+    (w w' : Option (List ℕ)) (told : Result Status CommandFault)
+    → StatesOver g conn back account range w w' None None told → IfOk told (λ status. status ≡ Done)
+range_done g conn back account range w w' told (inl none, spares) = rw (err_from_is_err_and told none.0).1 tt
+range_done g conn back account range w w' told (inr works, spares) =
     rw works.did.1.1 (stated_done account works.did.1.0)
+
+pub states_done : {S : Type 0} (g : Ghosts S) (conn back : Held S) (account : ℕ)
+    (range : Result (Option Range) RangeFault) (w w' : Option (List ℕ)) (told : Result Status CommandFault)
+    → StatesAsked g conn back account range w w' None None told → IfOk told (λ status. status ≡ Done)
+states_done g conn back account (Ok range) w w' told states = range_done g conn back account range w w' told states
+states_done g conn back account (Err fault) w w' told states = rw states.0 tt
 
 -- where a text was written
 pub written_done : {S : Type 0} {g : Ghosts S} (Why : Refused S → Type 0) (Did : Bank S g → Bank S g → Type 0)
@@ -222,7 +230,7 @@ tells_idle (commands.Load file plan) f r w has = inl (Keeps-refl w)
 tells_idle (commands.Post file) f r w has = (tt, λ _. (refl, refl))
 tells_idle (commands.Drive file seed count) f r w has = inl (Keeps-refl w)
 tells_idle (commands.Audit file) f r w has = inl ((f, refl), Keeps-refl w)
-tells_idle (commands.Statement file account) f r w has = tt
+tells_idle (commands.Statement file account range) f r w has = tt
 tells_idle (commands.Replay file) f r w has = inl ((f, refl), Keeps-refl w)
 tells_idle (commands.Digest file requests) f r w has = inl ((f, refl), Keeps-refl w)
 tells_idle (commands.Export file after) f r w has = tt
@@ -269,6 +277,7 @@ fault_ends (fault.Version version) = inr (inl refl)
 fault_ends fault.NoBranches = inr (inl refl)
 fault_ends (fault.NoAccount account) = inr (inl refl)
 fault_ends (fault.NoRequest count) = inr (inl refl)
+fault_ends (fault.Range range) = inr (inl refl)
 fault_ends fault.Network = inl refl
 
 pub status_is_not_usage : (f : CommandFault) → status_of f ≢ Usage
@@ -347,7 +356,7 @@ told_is_not_usage (commands.Drive file seed count) r r' w w' status told = done_
 told_is_not_usage (commands.Audit file) r r' w w' status (inl none) = not_a_fault status _ none.0.1
 told_is_not_usage (commands.Audit file) r r' w w' status (inr told) =
     audited_is_not_usage told.0 w w' status told.1
-told_is_not_usage (commands.Statement file account) r r' w w' status told = done_is_not_usage status told
+told_is_not_usage (commands.Statement file account range) r r' w w' status told = done_is_not_usage status told
 told_is_not_usage (commands.Replay file) r r' w w' status (inl none) = not_a_fault status _ none.0.1
 told_is_not_usage (commands.Replay file) r r' w w' status (inr told) =
     replayed_is_not_usage told.0 w w' status told.1

@@ -27,7 +27,7 @@ use Rattle.command_line.specs.declared.reading.Command.TheVariants as commands
 use Rattle.command_line.specs.declared.status.Status.{Status}
 use Rattle.command_line.specs.declared.status.Status.TheVariants.{Done, System}
 use Rattle.bank_commands.specs.Commands.{AuditsOver, DrivesBank, EndsPost, Inits, Loads, LooksOver, Migrates, Posts}
-use Rattle.bank_commands.specs.Commands.{PrintsDrive, PrintsLoad, PrintsServe, Serves, StatesOver, TellsLine}
+use Rattle.bank_commands.specs.Commands.{PrintsDrive, PrintsLoad, PrintsServe, Serves, StatesAsked, TellsLine}
 use Rattle.bank_commands.specs.Commands.{migration_line}
 use Rattle.bank_commands.specs.Following.{Follows, LogsOver, PrintsFollow}
 use Rattle.bank_commands.specs.Replaying.{DigestsOver, ExportsOver, PlansOver, PrintsDigest, PrintsReplay}
@@ -60,8 +60,8 @@ DoesOver g conn back IsNamed known r r' w w' k k' (commands.Post file) told =
 DoesOver g conn back IsNamed known r r' w w' k k' (commands.Drive file seed count) told =
     DrivesBank g conn back w w' k k' seed count told
 DoesOver g conn back IsNamed known r r' w w' k k' (commands.Audit file) told = AuditsOver g conn back w w' told
-DoesOver g conn back IsNamed known r r' w w' k k' (commands.Statement file account) told =
-    StatesOver g conn back account w w' None None told
+DoesOver g conn back IsNamed known r r' w w' k k' (commands.Statement file account range) told =
+    StatesAsked g conn back account range w w' None None told
 DoesOver g conn back IsNamed known r r' w w' k k' (commands.Serve file address connections) told =
     Serves g conn back w w' k k' (unwrap_or connections ALL_THAT_COME) told
 DoesOver g conn back IsNamed known r r' w w' k k' (commands.Replay file) told =
@@ -97,7 +97,7 @@ Tells (commands.Post file) r r' w w' told = EndsPost r r' w w' told
 Tells (commands.Drive file seed count) r r' w w' told = PrintsDrive w w' count told
 Tells (commands.Audit file) r r' w w' told =
     PrintsNone w w' told ((found : Result Audit Fault) × Prints found w w' told)
-Tells (commands.Statement file account) r r' w w' told = IfOk told (λ status. status ≡ Done)
+Tells (commands.Statement file account range) r r' w w' told = IfOk told (λ status. status ≡ Done)
 Tells (commands.Replay file) r r' w w' told =
     PrintsNone w w' told ((found : Result Replay Fault) × PrintsReplay found w w' None None told)
 Tells (commands.Digest file requests) r r' w w' told =

@@ -1,12 +1,12 @@
 //! The commands that audit a bank, that write the statement of an account, and that say that a bank can be used.
 ghost use Rattle.std.specs.Prelude.{◌≡◌, IsErrOf, false};
 ghost use Rattle.posting_core.specs.Told.{HasWriteFailed};
-ghost use Rattle.bank_commands.specs.Commands.{AuditsOver, LooksOver, StatesOver, stated_by};
+ghost use Rattle.bank_commands.specs.Commands.{AuditsOver, LooksOver, StatesAsked, StatesOver, stated_by};
 
 use crate::commands::done;
 use crate::ended::{Ended, find};
-use bank_reports::{ReportFault, audit, write_statement};
-use command_line::{CommandFault, Status, print_audit, print_usable};
+use bank_reports::{Range, ReportFault, audit, write_dated};
+use command_line::{CommandFault, RangeFault, Status, print_audit, print_usable};
 use message_records::Account;
 use posting_core::Sink;
 use sqlite::{Alter, Connection};
@@ -37,15 +37,39 @@ pub fn audit_over<S: Alter + Drop, W: Sink>(
     }
 }
 
-/// Writes the statement of an account of the bank that is found.
+/// Writes the statement of an account of the bank that is found, all of it or the range that is asked for. Where
+/// that is none, it looks for no bank.
 pub fn statement_over<S: Alter + Drop, W: Sink>(
     alloc: Global,
     conn: Connection<S>,
     account: Account,
+    range: Result<Option<Range>, RangeFault>,
     output: &mut W,
 ) -> Ended<S>
     requires { conn.in_transaction ≡ false }
-    ensures states { StatesOver S.Store conn result.conn account (W.contents output.old)
+    ensures states { StatesAsked S.Store conn result.conn account range (W.contents output.old)
+        (W.contents output.new) (W.told output.old) (W.told output.new) result.told }
+    ensures idle { result.conn.in_transaction ≡ false }
+{
+    match range {
+        Ok(range) => range_over(alloc, conn, account, range, output),
+        Err(fault) => Ended {
+            told: Err(CommandFault::Range(fault)),
+            conn,
+        },
+    }
+}
+
+// The same where a range is asked for, or all.
+fn range_over<S: Alter + Drop, W: Sink>(
+    alloc: Global,
+    conn: Connection<S>,
+    account: Account,
+    range: Option<Range>,
+    output: &mut W,
+) -> Ended<S>
+    requires { conn.in_transaction ≡ false }
+    ensures states { StatesOver S.Store conn result.conn account range (W.contents output.old)
         (W.contents output.new) (W.told output.old) (W.told output.new) result.told }
     ensures idle { result.conn.in_transaction ≡ false }
 {
@@ -53,7 +77,7 @@ pub fn statement_over<S: Alter + Drop, W: Sink>(
         Ok(bank) => bank,
         Err(ended) => return ended,
     };
-    let told = stated(account, write_statement(&mut bank, account, output));
+    let told = stated(account, write_dated(&mut bank, account, range, output));
     Ended {
         told,
         conn: bank.release(),

@@ -74,7 +74,16 @@ load_is_plain = plain_leaf two_files (
 pub statement_is_plain : IsPlainLeaf file_and_account
 statement_is_plain = plain_leaf file_and_account (
   (inl (refl, omega arith), refl, refl),
-  ((inl (refl, omega arith), refl, refl), ((inr refl, refl, refl), tt)),
+  (
+    (inl (refl, omega arith), refl, refl),
+    (
+      (inl (refl, omega arith), refl, refl),
+      (
+        (inl (refl, omega arith), refl, refl),
+        ((inl (refl, omega arith), refl, refl), ((inr refl, refl, refl), tt)),
+      ),
+    ),
+  ),
 ) refl refl refl
 
 pub digest_is_plain : IsPlainLeaf file_and_requests

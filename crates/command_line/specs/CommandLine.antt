@@ -38,6 +38,10 @@ number_rule name least most =
 abbrev pub optional_rule : Text → ℕ → ℕ → Rule
 optional_rule name least most = record (number_rule name least most) { required = false }
 
+-- an option `--NAME TEXT` that may be left out
+abbrev pub text_rule : Text → Rule
+text_rule name = record (new_rule name) { value_names = 1; long = Some name }
+
 -- an option `--NAME` that has no value
 abbrev pub flag_rule : Text → Rule
 flag_rule name = record (new_rule name) { long = Some name; action = Some SetTrue }
@@ -95,9 +99,22 @@ drive_app = with_rule (with_rule (with_rule (new_app (codes "drive")) file_rule)
 abbrev pub audit_app : App
 audit_app = with_rule (new_app (codes "audit")) file_rule
 
--- `statement FILE ACCOUNT`
+-- `--from DATE`, the first day of a range
+abbrev pub from_rule : Rule
+from_rule = text_rule (codes "from")
+
+-- `--to DATE`, its last day
+abbrev pub to_rule : Rule
+to_rule = text_rule (codes "to")
+
+-- `--zone ZONE`, where these are days
+abbrev pub zone_rule : Rule
+zone_rule = text_rule (codes "zone")
+
+-- `statement FILE ACCOUNT [--from DATE] [--to DATE] [--zone ZONE]`
 abbrev pub statement_app : App
-statement_app = with_rule (with_rule (new_app (codes "statement")) file_rule) account_rule
+statement_app = with_rule (with_rule (with_rule (with_rule (with_rule (new_app (codes "statement")) file_rule)
+    account_rule) from_rule) to_rule) zone_rule
 
 -- `replay FILE`
 abbrev pub replay_app : App

@@ -1,4 +1,6 @@
 pub mod CommandLine
+pub mod RangeTexts
+pub mod Dates
 pub mod Words
 pub mod Statuses
 pub mod Faults

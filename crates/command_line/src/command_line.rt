@@ -1,10 +1,11 @@
 //! The program's command line as `clap` gets it: its commands, their arguments, and the texts of help.
-ghost use Rattle.std.specs.Prelude.{◌≡◌, IfOk, false};
+ghost use Rattle.std.specs.Prelude.{◌≡◌, IfOk, codes, false};
 ghost use Rattle.clap.specs.Words.{App, Rule, app_of, new_app, rule_of, with_rule, with_subcommand};
 ghost use Rattle.command_line.specs.CommandLine.{IsApp, bank_alone, bank_app, decode_app, digest_app, drive_app};
 ghost use Rattle.command_line.specs.CommandLine.{export_app, file_rule, flag_rule, follow_app, init_app, load_app};
 ghost use Rattle.command_line.specs.CommandLine.{log_app, number_rule, optional_rule};
-ghost use Rattle.command_line.specs.CommandLine.{required_rule, serve_app, statement_app, why_app};
+ghost use Rattle.command_line.specs.CommandLine.{account_rule, required_rule, serve_app, statement_app, text_rule};
+ghost use Rattle.command_line.specs.CommandLine.{why_app};
 
 use crate::limits::MAX_CONNECTIONS;
 use crate::texts::{self, CommandTexts};
@@ -117,6 +118,17 @@ fn drive_command<'a>(alloc: Global) -> Result<Command<'a>, AllocError>
 
 fn statement_command<'a>(alloc: Global) -> Result<Command<'a>, AllocError>
     ensures { IfOk result (IsApp statement_app) }
+{
+    let statement = statement_of_all(alloc);
+    let from = optional_text(alloc, "from", "DATE", texts::FROM);
+    let to = optional_text(alloc, "to", "DATE", texts::TO);
+    let zone = optional_text(alloc, "zone", "ZONE", texts::ZONE);
+    with_argument(with_argument(with_argument(statement, from), to), zone)
+}
+
+// The same without dates.
+fn statement_of_all<'a>(alloc: Global) -> Result<Command<'a>, AllocError>
+    ensures { IfOk result (IsApp (with_rule (with_rule (new_app (codes "statement")) file_rule) account_rule)) }
 {
     let statement = command_on_file(alloc, "statement", texts::STATEMENT)?;
     let account = required_argument(alloc, "account", "ACCOUNT", texts::ACCOUNT).value_parser(
@@ -246,6 +258,17 @@ fn optional_number<'a>(
     ensures local { result.global ≡ false }
 {
     number_option(alloc, name, value_name, least, most, help).required(false)
+}
+
+// An option `--NAME TEXT` that may be left out.
+fn optional_text<'a>(alloc: Global, name: &'a str, value_name: &'a str, help: &'a str) -> Arg<'a>
+    ensures rule { rule_of result ≡ text_rule name.now }
+    ensures local { result.global ≡ false }
+{
+    Arg::new(alloc, name)
+        .value_name(value_name)
+        .long(name)
+        .help(help)
 }
 
 // An option `--NAME` that has no value.

@@ -6,6 +6,7 @@ ghost use Rattle.command_line.specs.Faults.{fault_of_bank, fault_of_drive, fault
 ghost use Rattle.command_line.specs.Faults.{fault_of_plan, fault_of_replies, fault_of_serving, fault_of_sheet};
 ghost use Rattle.command_line.specs.Faults.{fault_of_stream, status_of};
 
+use crate::dates::RangeFault;
 use crate::status::Status;
 use branch_loader::{FollowFault, OtherReply, PlanFault};
 use counter_http::ListenFault;
@@ -59,6 +60,8 @@ pub enum CommandFault {
     NoAccount(Account),
     /// Status 4. The bank keeps fewer requests than that.
     NoRequest(u64),
+    /// Status 4. The dates and the zone of a statement are no range of time.
+    Range(RangeFault),
     /// Status 3. The address can't be bound or has no text, or the listener gave no connection.
     Network,
 }
@@ -110,7 +113,8 @@ impl CommandFault {
             | CommandFault::Version(_)
             | CommandFault::NoBranches
             | CommandFault::NoAccount(_)
-            | CommandFault::NoRequest(_) => Status::Input,
+            | CommandFault::NoRequest(_)
+            | CommandFault::Range(_) => Status::Input,
             CommandFault::Differs(_) => Status::Differs,
         }
     }
@@ -145,6 +149,7 @@ impl fmt::Display for CommandFault {
             CommandFault::NoBranches => write!(f, "no branches"),
             CommandFault::NoAccount(account) => write!(f, "no account {account}"),
             CommandFault::NoRequest(count) => write!(f, "no request {count}"),
+            CommandFault::Range(fault) => write!(f, "{fault}"),
             CommandFault::Network => write!(f, "network failed"),
         }
     }

@@ -25,6 +25,7 @@
 
 mod auditing;
 mod command_line;
+mod dates;
 mod driving;
 mod fault;
 mod following;
@@ -40,6 +41,7 @@ mod texts;
 mod translating;
 
 pub use auditing::print_audit;
+pub use dates::RangeFault;
 pub use driving::drive_into;
 pub use fault::CommandFault;
 pub use following::follow_into;

@@ -3,16 +3,19 @@ ghost use Rattle.std.specs.Prelude.{◌≡◌, ℕ, IfErr, IfOk, IsErrAnd, IsSom
 ghost use Rattle.clap.specs.Words.{FailsBy, fault_of, found_of, kind_of, rows_of, subcommand_of};
 ghost use Rattle.clap.specs.Words.{subcommand_rows_of, takes};
 ghost use Rattle.command_line.specs.CommandLine.{bank_app};
+ghost use Rattle.command_line.specs.Dates.{range_in};
 ghost use Rattle.command_line.specs.Words.{AreInRange, AsksForHelp, HasMoreValues, HasNumber, HasNumberIfAny};
 ghost use Rattle.command_line.specs.Words.{HasSomeNumber, HasText, IsCommandOf, IsComplete, IsCompleteOnFile};
 ghost use Rattle.command_line.specs.Words.{IsHelp, IsNumberIfAny, IsNumberIn, IsReadFrom, IsSpelledIn, IsText};
 ghost use Rattle.command_line.specs.Words.{money_in, money_of_flag, words_read};
 
 use crate::command_line::bank_command;
+use crate::dates::{RangeFault, range_told};
 use clap::ArgMatches;
 use clap::error::ErrorKind;
 use message_records::Account;
 use posting_sheets::Money;
+use report_contents::Range;
 use std::alloc::Global;
 use std::convert::AsStr;
 
@@ -42,10 +45,11 @@ pub enum Command<'a> {
     Audit {
         file: &'a str,
     },
-    /// Write the statement of an account of the file's bank.
+    /// Write the statement of an account of the file's bank, all of it or this range of time, if it is one.
     Statement {
         file: &'a str,
         account: Account,
+        range: Result<Option<Range>, RangeFault>,
     },
     /// Replay the file's bank.
     Replay {
@@ -193,7 +197,12 @@ fn command_with_values<'a>(name: &str, file: &'a str, values: &ArgMatches<'a>) -
         "statement" => {
             let number = number_in(values, "account");
             let account = Account::new(number).unwrap();
-            Command::Statement { file, account }
+            let range = range_in(values);
+            Command::Statement {
+                file,
+                account,
+                range,
+            }
         }
         "digest" => {
             let requests = number_in(values, "requests");
@@ -239,6 +248,16 @@ fn money_of_flag(value: Option<&str>) -> Money
         Some("true") => Money::Decimals,
         _ => Money::Cents,
     }
+}
+
+// The range of time that a statement is asked for.
+fn range_in(values: &ArgMatches<'_>) -> Result<Option<Range>, RangeFault>
+    ensures { result ≡ range_in (rows_of (found_of values.now)) }
+{
+    let from = values.get_str("from");
+    let to = values.get_str("to");
+    let zone = values.get_str("zone");
+    range_told(from, to, zone)
 }
 
 // The value of an argument that has one.

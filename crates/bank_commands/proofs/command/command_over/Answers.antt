@@ -45,7 +45,7 @@ returns-in-Statement g c =
     let it = c.statement_over.ensures in
     rw c.in-Statement.is record {
       does = it.states;
-      tells = states_done _ _ _ _ _ _ c.statement_over.result.told it.states;
+      tells = states_done _ _ _ _ _ _ _ c.statement_over.result.told it.states;
       input = refl;
       clock = refl;
       idle = it.idle;

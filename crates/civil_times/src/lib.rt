@@ -1,0 +1,28 @@
+//! Dates and zones as people write them, and the second with which a day begins. It knows no bank.
+//!
+//! [`read_day`] reads a date as `2026-11-28`, and [`read_zone`] how many seconds a zone as `+01:00` is ahead of
+//! UTC. Each has one spelling; what is none is `None`. [`first_second`] gives the second with which a day begins
+//! in a zone. The test `first_midnight` of `counter_tests` reads some:
+//!
+//! ```rust
+//! use civil_times::{first_second, read_day, read_zone};
+//! use std::test::Fail;
+//!
+//! fn first_midnight(rt: HostRuntime) -> Result<(), Fail> {
+//!     assert_eq!(rt; (read_day("2026-11-28"), read_zone("+01:00")), (Some(20_785), Some(3_600)));
+//!     assert_eq!(rt; first_second(20_785, 3_600), 1_795_820_400);
+//!     assert_eq!(rt; (read_day("2028-02-29"), read_day("2027-02-29")), (Some(21_243), None));
+//!     assert_eq!(rt; (read_zone("-00:30"), read_zone("-00:00")), (Some(-1_800), None));
+//!     Ok(())
+//! }
+//! ```
+//!
+//! `specs/Calendar` says which dates there are from 1970 to 9999, and how many days are before each;
+//! `specs/Reading` how they are written.
+#![tactic(auto)]
+
+mod calendar;
+mod reading;
+
+pub use calendar::{LAST_DAY, MAX_AHEAD, first_second};
+pub use reading::{read_day, read_zone};
