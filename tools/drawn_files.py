@@ -6,11 +6,13 @@ refused, some with references and some that come again, and driven ones; beside 
 third are then set back to version 1 or 2 by SQL, and migrated, with the rows that they had. Half are changed by SQL, in
 ways that are drawn too. To SQLite's library the file is sound, and the other table as it was. What `replay`, `digest`
 and `audit` say has to be to the byte what the oracle says, as has the status. Where a file agrees, a second bank is made
-from its plan and its records as the program gives them, which agrees too and keeps as many requests. It needs the built
-program, and stands outside the gate.
+from its plan and its records as the program gives them, which agrees too and keeps as many requests; then its postings
+get drawn moments, and what `statement` says of drawn days has to be what the oracle says. It needs the built program,
+and stands outside the gate.
 
     tools/drawn_files.py [FILES [SEED]]
 """
+import datetime
 import os
 import random
 import sqlite3
@@ -18,6 +20,7 @@ import sys
 import tempfile
 
 import oracle
+from oracle import DAY
 from serve_client import done, need_program, run
 
 # Changes by hand: a statement for keys and amounts that are drawn.
@@ -164,6 +167,26 @@ def again(work, file, requests):
         fail(file, "its second bank")
 
 
+def draw_word(draw, *words):
+    return draw.choice(["", "", *words])
+
+
+def state(file, draw):
+    """Statements of accounts whose postings have drawn moments, of drawn days in a drawn zone."""
+    first, days = draw.randrange(2_000_000_000), draw.choice([1, 400])
+    by_sql(file, f"UPDATE history SET moment = {first} + abs(random()) % {days * DAY}")
+    tables = oracle.tables_of(file)
+    moments = [row[4] for row in tables["history"].values()] or [0]
+    for aid in draw.choices([*tables["account"], 99_999], k=4):
+        days = [datetime.datetime.fromtimestamp(draw.choice(moments), datetime.timezone.utc).date() for _ in range(2)]
+        first = draw_word(draw, str(days[0]), str(min(days)), "2027-02-29", "1969-12-31")
+        last = draw_word(draw, str(days[1]), str(max(days)), "9999-12-31", "2026-1-01")
+        zone = draw_word(draw, "+00:00", "+01:00", "-05:30", "+23:59", "-00:00", "+1:00")
+        words = [f"--{name}={word}" for name, word in (("from", first), ("to", last), ("zone", zone)) if word]
+        lines, status = oracle.statement(file, aid, first, last, zone)
+        compare(file, ("statement", file, str(aid), *words), lines, status)
+
+
 def main():
     need_program()
     files = int(sys.argv[1]) if len(sys.argv) > 1 else 20
@@ -191,6 +214,7 @@ def main():
                 compare(file, ("digest", file, str(some)), oracle.digest_lines(requests[:some]), 0)
                 compare(file, ("digest", file, str(len(requests) + 1)), [f"bank: no request {len(requests) + 1}"], 4)
                 again(work, file, len(requests))
+                state(file, draw)
     print(f"drawn_files: {files} files, of which {agree} agree and {consistent} are consistent: each replay and each "
           "audit is that of tools/oracle.py")
 

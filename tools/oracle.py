@@ -8,7 +8,11 @@ bank that runs, copy both files and ask the copy.
     tools/oracle.py FILE        prints what `bank replay FILE` prints, and ends with its status
     tools/oracle.py FILE N      prints what `bank digest FILE N` prints
     tools/oracle.py FILE N log  writes what `bank log FILE --after N` writes
+    tools/oracle.py FILE statement ACCOUNT FROM TO ZONE
+                                prints what `bank statement FILE ACCOUNT --from FROM --to TO --zone=ZONE` prints; an
+                                empty word stands for an option that isn't given
 """
+import datetime
 import hashlib
 import re
 import sqlite3
@@ -354,6 +358,69 @@ def audit(file):
     return lines + ["CONSISTENT" if sound else "INCONSISTENT"], 0 if sound else 5
 
 
+# ---- a statement
+
+DAY = 86_400
+
+
+def second_of(text, ahead):
+    """The second with which the day of a date begins, by Python's calendar; none where it is no date."""
+    if not re.fullmatch(r"[0-9]{4}-[0-9]{2}-[0-9]{2}", text, re.ASCII) or text < "1970":
+        return None
+    try:
+        day = datetime.datetime.fromisoformat(text).replace(tzinfo=datetime.timezone(ahead))
+    except ValueError:
+        return None
+    return int((day - datetime.datetime(1970, 1, 1, tzinfo=datetime.timezone.utc)).total_seconds())
+
+
+def ahead_of(text):
+    """How far a zone is ahead of UTC; none where it is no zone."""
+    found = re.fullmatch(r"([+-])([01][0-9]|2[0-3]):([0-5][0-9])", text, re.ASCII)
+    if not found or text == "-00:00":
+        return None
+    ahead = datetime.timedelta(hours=int(found.group(2)), minutes=int(found.group(3)))
+    return -ahead if found.group(1) == "-" else ahead
+
+
+def range_of(first, last, zone):
+    """The seconds of a range, the first and the one after the last; or what is wrong with its words."""
+    ahead = ahead_of(zone) if zone else datetime.timedelta()
+    if ahead is None:
+        return "no zone in --zone"
+    begin = second_of(first, ahead) if first else 0
+    if begin is None:
+        return "no date in --from"
+    end = second_of(last, ahead) if last else 253_402_300_799
+    if end is None:
+        return "no date in --to"
+    end += DAY if last else 1
+    return (begin, end) if begin < end else "--to is before --from"
+
+
+def statement(file, aid, first="", last="", zone=""):
+    """What the bank prints of a statement of an account of a path, and its status."""
+    span = range_of(first, last, zone) if first or last or zone else None
+    if isinstance(span, str):
+        return [f"bank: {span}"], 4
+    tables = tables_of(file)
+    if aid not in tables["account"]:
+        return [f"bank: no account {aid}"], 4
+    rows = [(ordinal, *row) for ordinal, row in sorted(tables["history"].items()) if row[0] == aid]
+    lines = [f"STATEMENT ACCOUNT {aid:012}",
+             f"{'ordinal':>13} {'moment':>12} {'teller':>8} {'branch':>6} {'delta':>14} {'balance':>14} reference"]
+    if span:
+        lines.append(f"{'opening balance':<57} {sum(row[4] for row in rows if row[5] < span[0]):>14}")
+    balance = 0
+    for ordinal, _, tid, bid, delta, moment in rows:
+        balance += delta
+        reference = "".join(" " + text for text in tables["request_reference"].get(ordinal, ()))
+        if not span or span[0] <= moment < span[1]:
+            lines.append(f"{ordinal:>13} {moment:>12} {tid:>8} {bid:>6} {delta:>+14} {balance:>14}{reference}")
+    closing = sum(row[4] for row in rows if row[5] < span[1]) if span else tables["account"][aid][0]
+    return [*lines, f"{'closing balance':<57} {closing:>14}"], 0
+
+
 # ---- answers over HTTP
 
 PHRASES = {200: b"OK", 400: b"Bad Request", 404: b"Not Found", 405: b"Method Not Allowed", 503: b"Service Unavailable"}
@@ -424,7 +491,9 @@ def main():
         requests = list(requests_of(tables_of(sys.argv[1])))[int(sys.argv[2]):]
         sys.stdout.buffer.write(b"".join(entry_of(*kept) for kept in requests))
         return
-    if len(sys.argv) > 2:
+    if sys.argv[2:3] == ["statement"]:
+        lines, status = statement(sys.argv[1], int(sys.argv[3]), *sys.argv[4:])
+    elif len(sys.argv) > 2:
         requests, first = list(requests_of(tables_of(sys.argv[1]))), int(sys.argv[2])
         few = first > len(requests)
         lines, status = ([f"bank: no request {first}"], 4) if few else (digest_lines(requests[:first]), 0)
