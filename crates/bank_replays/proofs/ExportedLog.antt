@@ -1,5 +1,5 @@
 -- The records of the kept rows of a log are those of its requests.
-use Rattle.std.proofs.Common.{filter, ◌≡◌, ◌+◌, ◌++◌, ℕ, List, map, Option}
+use Rattle.std.proofs.Common.{filter, ◌≡◌, ◌++◌, ℕ, List, map, Option}
 use Rattle.std.proofs.Common.{Result, Ok, Err, refl, sym, ap, ◌∙◌, append-nil}
 use Rattle.std.specs.{Prelude.int_lt, Prelude.pos, List.flat_map}
 use Rattle.sqlite.specs.Effect.{Database}

@@ -1,7 +1,7 @@
 -- A second bank that is given the rows of a log shows one with the same rows.
-use Rattle.std.proofs.Common.{◌≡◌, ◌∙◌, ◌<◌, ◌≤◌, ◌+◌, ◌++◌, ℕ, zero, suc, Bool, true, false, cond, eqb, List, [], ◌∷◌, length}
+use Rattle.std.proofs.Common.{◌≡◌, ◌∙◌, ◌<◌, ◌≤◌, ◌+◌, ◌++◌, ℕ, zero, suc, Bool, true, false, eqb, List, [], ◌∷◌}
 use Rattle.std.proofs.Common.{leb, map, Option, Some, None, Result, Ok, Err, refl, sym, ap, subst, inl, inr, arith}
-use Rattle.std.specs.Prelude.{◌⊎◌, ◌&&◌, IfSome, OnOk, get_or, set}
+use Rattle.std.specs.Prelude.{◌&&◌, IfSome, OnOk, get_or, set}
 use Rattle.std.specs.Option.{option_or}
 use Rattle.std.proofs.lemmas.Bool.{and_parts, leb-false, leb-true}
 use Rattle.std.proofs.lemmas.{Bool.cases_Bool, Bool.eq-eqb, Bool.eqb-true, List.get_or-set_other, List.map-append}
@@ -9,7 +9,7 @@ use Rattle.sqlite_trees.specs.declared.store.Store.{Ghosts}
 use Rattle.posting_rules.specs.believed.Commands.{Command, IsCommand, Open, Post, Terms, opened, opened_with}
 use Rattle.posting_rules.specs.believed.Counter.{ShowsLog}
 use Rattle.posting_rules.specs.declared.limits.TheConstants.{LAST_BRANCH}
-use Rattle.posting_rules.specs.believed.Entries.{DecidedRequest, decided}
+use Rattle.posting_rules.specs.believed.Entries.{decided}
 use Rattle.posting_rules.specs.believed.Numbering.{branch_of_account, branch_of_teller}
 use Rattle.posting_rules.specs.believed.Runs.{followed_by, posts}
 use Rattle.message_records.specs.believed.Records.{RequestFields}
@@ -29,12 +29,6 @@ pub posts_more : (log : List Command) (moment : ℕ) (batch : List (List ℕ)) (
 posts_more log moment batch bytes =
     ap (followed_by log) (map-append (Post moment) batch (bytes ∷ []))
     ∙ after-append log (posts moment batch) (Post moment bytes ∷ [])
-
--- posts open no branch
-pub posts_open : (log : List Command) (moment : ℕ) (batch : List (List ℕ)) (b : ℕ)
-    → opened (followed_by log (posts moment batch)) b ≡ opened log b
-posts_open log moment [] b = refl
-posts_open log moment (bytes ∷ batch) b = posts_open (Post moment bytes ∷ log) moment batch b
 
 module _ {S : Type 0} {g : Ghosts S} where
   -- nothing is
@@ -66,15 +60,6 @@ pub opening_some : (plan : ℕ → Option Terms) (b : ℕ) (log : List Command) 
     → plan b ≡ Some terms → opening plan b log ≡ Open b terms ∷ log
 opening_some plan b log terms none planned =
     ap (λ (o : Option Terms). open_by o (plan b) b log) none ∙ ap (λ (p : Option Terms). open_by None p b log) planned
-
--- where no account is to be opened the branch is open as planned
-pub none_left : (plan : ℕ → Option Terms) (b : ℕ) (first : Option Terms) (yet : Planned) → IsPlan plan
-    → yet.accounts ≡ 0 → IsYet (plan b) first yet → first ≡ plan b
-none_left plan b first yet is none (inl at) = at.1
-none_left plan b first yet is none (inr at) =
-    let can = subst (λ (o : Option Terms). IfSome o (λ terms. IsCommand (Open b terms))) at.1 (is b) in
-    let some = can.2 in
-    absurd (omega (arith, some, none))
 
 set_default : {A : Type 0} (xs : List A) (i : ℕ) (d : A) → get_or (set xs i d) i d ≡ d
 set_default [] i d = refl
@@ -161,14 +146,6 @@ module _ {S : Type 0} {g : Ghosts S} (bank : Bank S g) (log : List Command) wher
   }
 
 module _ {S W : Type 0} {g : Ghosts S} (plan : ℕ → Option Terms) (is : IsPlan plan) (log : List Command) where
-  -- there is nothing to open
-  pub opened_none : (b : ℕ) (refill : Refill S W g) (yet : Planned) → yet ≡ planned_at refill.planned.items b
-      → yet.accounts ≡ 0 → Holds g plan log refill → Holds g plan (opening plan b log) refill
-  opened_none b refill yet at none holds =
-      subst (λ (l : List Command). Holds g plan l refill)
-      (sym (opening_none plan b log (none_left plan b (opened log b) yet is none
-      (subst (IsYet (plan b) (opened log b)) (sym at) (holds.yet b))))) holds
-
   -- a branch is opened
   pub opened_more : (b : ℕ) (mid last : Refill S W g) (yet : Planned) → yet ≡ planned_at mid.planned.items b
       → (yet.accounts ≡ 0 → ⊥) → mid.batch.items ≡ [] → last.batch.items ≡ []

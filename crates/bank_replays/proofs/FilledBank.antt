@@ -1,5 +1,5 @@
 -- A second bank that was given all rows of a file that shows a log.
-use Rattle.std.proofs.Common.{◌≡◌, ◌∙◌, ℕ, List, [], map, Option, Some, refl, sym, ap, subst}
+use Rattle.std.proofs.Common.{◌≡◌, ◌∙◌, ℕ, List, [], map, Option, refl, sym, subst}
 use Rattle.sqlite_trees.specs.declared.store.Store.{Ghosts}
 use Rattle.posting_rules.specs.believed.Commands.{Command, Terms, opened}
 use Rattle.posting_rules.specs.believed.Counter.{ShowsLog}

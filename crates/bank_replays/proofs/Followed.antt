@@ -1,8 +1,8 @@
 -- A log that follows decided requests, one request more.
 use Rattle.std.proofs.Common.{◌≡◌, ◌∙◌, ℕ, ℤ, pos, Bool, true, false, cond, eqb, leb, List, [], ◌∷◌, map, Option}
 use Rattle.std.proofs.Common.{Some, None, Result, Ok, Err, refl, sym, ap, subst, inl, inr}
-use Rattle.std.specs.{Option.option_or, Prelude.◌⊎◌, Prelude.◌&&◌}
-use Rattle.std.proofs.lemmas.Bool.{cases_Bool, eq-eqb, eqb-true}
+use Rattle.std.specs.{Option.option_or, Prelude.◌⊎◌}
+use Rattle.std.proofs.{Math.Bool.and-false, lemmas.Bool.eq-eqb, lemmas.Bool.eqb-true}
 use Rattle.message_records.specs.believed.{Reading.request_of, Records.RequestFields}
 use Rattle.message_records.specs.declared.{fault.Bad.Bad, records.Outcome.Outcome}
 use Rattle.posting_rules.specs.declared.judgments.{Found.Found, Verdict.Verdict}
@@ -185,82 +185,74 @@ module _ (plan : ℕ → Option Terms) (e : DecidedRequest) (es : List DecidedRe
   -- ---- what was open where it was decided
 
   module _ (first : List Command) (decides : decided first ≡ e ∷ es) (as_planned : IsWithin (λ b. opened first b) plan)
-      where
-    abbrev last : LastDecided first e es
-    last = last_decided first e es decides
+    where
+      abbrev last : LastDecided first e es
+      last = last_decided first e es decides
 
-    abbrev there : ℕ → Option Terms
-    there b = opened last.prev b
+      abbrev there : ℕ → Option Terms
+      there b = opened last.prev b
 
-    there_planned : IsWithin there plan
-    there_planned b terms is = as_planned b terms (last.within b terms is)
+      there_planned : IsWithin there plan
+      there_planned b terms is = as_planned b terms (last.within b terms is)
 
-    before : IsWithin (λ b. opened log b) there
-    before = follows.within last.prev last.before there_planned
+      before : IsWithin (λ b. opened log b) there
+      before = follows.within last.prev last.before there_planned
 
-    -- an open branch is open there, and as planned
-    is_planned : (b : ℕ) → (there b ≡ None → ⊥) → there b ≡ plan b
-    is_planned b some = go (there b) refl
-      where
-        go : (o : Option Terms) → there b ≡ o → there b ≡ plan b
-        go None is = absurd (some is)
-        go (Some terms) is = is ∙ sym (there_planned b terms is)
+      -- an open branch is open there, and as planned
+      is_planned : (b : ℕ) → (there b ≡ None → ⊥) → there b ≡ plan b
+      is_planned b some = go (there b) refl
+        where
+          go : (o : Option Terms) → there b ≡ o → there b ≡ plan b
+          go None is = absurd (some is)
+          go (Some terms) is = is ∙ sym (there_planned b terms is)
 
-    home_open : there home ≡ None → ⊥
-    home_open none =
-        teller_open e (facts there es e.request) e.request
-        (rw (none, closed (leb 1 e.request.teller)) refl) last.judged
-      where
-        closed : (b : Bool) → (b && false) ≡ false
-        closed true = refl
-        closed false = refl
+      home_open : there home ≡ None → ⊥
+      home_open none =
+          teller_open e (facts there es e.request) e.request
+          (rw (none, and-false (leb 1 e.request.teller)) refl) last.judged
 
-    own_open : had_account e.outcome ≡ true → there own ≡ None → ⊥
-    own_open had none =
-        account_open e (facts there es e.request) e.request had
-        (rw (none, closed (leb 1 e.request.account)) refl) last.judged
-      where
-        closed : (b : Bool) → (b && false) ≡ false
-        closed true = refl
-        closed false = refl
+      own_open : had_account e.outcome ≡ true → there own ≡ None → ⊥
+      own_open had none =
+          account_open e (facts there es e.request) e.request had
+          (rw (none, and-false (leb 1 e.request.account)) refl) last.judged
 
-    -- what is opened before the request is open there
-    step_within : (b : ℕ) → (there b ≡ None → ⊥) → (now : List Command) → IsWithin (λ c. opened now c) there
-        → IsWithin (λ c. opened (opening plan b now) c) there
-    step_within b some now within c terms is = elim (opening_opens plan b now c terms is) [
-      | inl old ↦ within c terms old
-      | inr new ↦ ap there new.0 ∙ is_planned b some ∙ ap plan (sym new.0) ∙ new.1
-    ]
+      -- what is opened before the request is open there
+      step_within : (b : ℕ) → (there b ≡ None → ⊥) → (now : List Command) → IsWithin (λ c. opened now c) there
+          → IsWithin (λ c. opened (opening plan b now) c) there
+      step_within b some now within c terms is = elim (opening_opens plan b now c terms is) [
+        | inl old ↦ within c terms old
+        | inr new ↦ ap there new.0 ∙ is_planned b some ∙ ap plan (sym new.0) ∙ new.1
+      ]
 
-    ready_within : (had : Bool) → had_account e.outcome ≡ had
-        → IsWithin (λ c. opened (prepared plan had e.request log) c) there
-    ready_within false is = step_within home home_open log before
-    ready_within true is =
-        step_within own (own_open is) (opening plan home log) (step_within home home_open log before)
+      ready_within : (had : Bool) → had_account e.outcome ≡ had
+          → IsWithin (λ c. opened (prepared plan had e.request log) c) there
+      ready_within false is = step_within home home_open log before
+      ready_within true is =
+          step_within own (own_open is) (opening plan home log) (step_within home home_open log before)
 
-    home_is : (had : Bool) → had_account e.outcome ≡ had → opened (prepared plan had e.request log) home ≡ there home
-    home_is had is = go had (there home) refl
-      where
-        opens : opened (opening plan home log) home ≡ plan home
-        opens = opening_is plan home log (λ b terms h. there_planned b terms (before b terms h))
+      home_is : (had : Bool) → had_account e.outcome ≡ had → opened (prepared plan had e.request log) home ≡ there home
+      home_is had is = go had (there home) refl
+        where
+          opens : opened (opening plan home log) home ≡ plan home
+          opens = opening_is plan home log (λ b terms h. there_planned b terms (before b terms h))
 
-        go : (had : Bool) (o : Option Terms) → there home ≡ o
-            → opened (prepared plan had e.request log) home ≡ there home
-        go had None none = absurd (home_open none)
-        go false (Some terms) at = opens ∙ sym (is_planned home home_open)
-        go true (Some terms) at =
-            opening_keeps plan own (opening plan home log) home terms (opens ∙ sym (is_planned home home_open) ∙ at) ∙ sym at
+          go : (had : Bool) (o : Option Terms) → there home ≡ o
+              → opened (prepared plan had e.request log) home ≡ there home
+          go had None none = absurd (home_open none)
+          go false (Some terms) at = opens ∙ sym (is_planned home home_open)
+          go true (Some terms) at =
+              opening_keeps plan own (opening plan home log) home terms (opens ∙ sym (is_planned home home_open) ∙ at) ∙ sym at
 
-    own_is : had_account e.outcome ≡ true → opened (prepared plan true e.request log) own ≡ there own
-    own_is had =
-        opening_is plan own (opening plan home log)
-        (λ b terms h. there_planned b terms (step_within home home_open log before b terms h))
-        ∙ sym (is_planned own (own_open had))
+      own_is : had_account e.outcome ≡ true → opened (prepared plan true e.request log) own ≡ there own
+      own_is had =
+          opening_is plan own (opening plan home log)
+          (λ b terms h. there_planned b terms (step_within home home_open log before b terms h))
+          ∙ sym (is_planned own (own_open had))
 
-    own_is_by : (had : Bool) → had_account e.outcome ≡ had → had_account e.outcome ≡ true
-        → opened (prepared plan had e.request log) own ≡ there own
-    own_is_by true is had = own_is had
-    own_is_by false is had = absurd (let h = sym is ∙ had in cc)
+      own_is_by : (had : Bool) → had_account e.outcome ≡ had → had_account e.outcome ≡ true
+          → opened (prepared plan had e.request log) own ≡ there own
+      own_is_by true is had = own_is had
+      own_is_by false is had = absurd (let h = sym is ∙ had in cc)
 
   abbrev ready : List Command
   ready = prepared plan (had_account e.outcome) e.request log

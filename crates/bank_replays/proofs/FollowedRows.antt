@@ -1,6 +1,6 @@
 -- Kept rows of decided requests, one row more, and those of a file that shows a log.
-use Rattle.std.proofs.Common.{◌≡◌, ◌∙◌, ◌+◌, ◌++◌, ℕ, pos, Bool, true, cond, eqb, List, [], ◌∷◌, length, map, Option, Some}
-use Rattle.std.proofs.Common.{None, refl, sym, ap, subst, arith}
+use Rattle.std.proofs.Common.{◌≡◌, ◌∙◌, ◌+◌, ◌++◌, Bool, true, cond, eqb, List, [], ◌∷◌, length, map, Option, Some}
+use Rattle.std.proofs.Common.{refl, sym, ap, subst, arith}
 use Rattle.std.specs.Prelude.{◌&&◌, IsSomeAnd, nat_abs, option_map}
 use Rattle.std.proofs.lemmas.{Bool.eq-eqb, List.map-append}
 use Rattle.sqlite.specs.Effect.{Database}
@@ -14,7 +14,6 @@ use Rattle.sql_meanings.specs.believed.Entries.{Entry}
 use Rattle.store_rows.specs.believed.Columns.{number_at}
 use Rattle.store_rows.specs.believed.View.{Shows, history_entry}
 use Rattle.walked_rows.specs.KeptRows.{KeptItem}
-use Rattle.walked_rows.specs.Requests.{IsRequestRow}
 use Rattle.bank_store.proofs.LogRows.{Stand, item_of, kept_is, kept_of, last_answered, postings, references, requests_of}
 use Rattle.bank_store.proofs.LogRows.{stand_earlier, stand_in}
 use Rattle.bank_replays.specs.{FollowedRows.AreRowsOf, FollowedRows.IsRowOf, Prefixes.no_row}

@@ -1,7 +1,7 @@
 -- What the rows of `branch` and of `branch_floor` of a log plan: the branches that it opened.
 use Rattle.std.proofs.Common.{◌≡◌, ◌∙◌, ◌<◌, ◌≤◌, ◌+◌, ℕ, ℤ, pos, Bool, true, false, cond, eqb, leb, List, [], ◌∷◌, length}
 use Rattle.std.proofs.Common.{map, find, replicate, Option, Some, None, refl, sym, ap, subst, inl, inr, arith}
-use Rattle.std.specs.Prelude.{◌⊎◌, ◌++◌, IfSome, get_or, set, nat_abs, nat_le, option_and_then, option_map}
+use Rattle.std.specs.Prelude.{◌++◌, IfSome, set, nat_abs, nat_le, option_and_then, option_map}
 use Rattle.std.proofs.lemmas.{Bool.leb-false, Bool.leb-true}
 use Rattle.std.proofs.lemmas.{Bool.cases_Bool, Bool.eqb-true, List.get_or-replicate, List.get_or_past, List.length-replicate}
 use Rattle.std.proofs.lemmas.List.{get_or-set_other, get_or-set_same, length-set}
@@ -162,8 +162,8 @@ module _ (b : ℕ) (z : ℤ) where
       → IsYet first None (applied with_floor f (applied with_accounts o unplanned))
   plan_one None o f has has_floor can = inl (
     ap (λ (x : Option StoredFloor). (applied with_floor x (applied with_accounts o unplanned)).accounts)
-    (no_entry floor_entry f has_floor)
-    ∙ ap (λ (x : Option StoredBranch). (applied with_accounts x unplanned).accounts) (no_entry branch_entry o has),
+        (no_entry floor_entry f has_floor)
+        ∙ ap (λ (x : Option StoredBranch). (applied with_accounts x unplanned).accounts) (no_entry branch_entry o has),
     refl,
   )
   plan_one (Some terms) o f has has_floor can =
@@ -229,7 +229,7 @@ module _ (branches : List StoredBranch) (floors : List StoredFloor) (ts : List B
   beyond : (b : ℕ) → LAST_BRANCH + 1 ≤ b → IsYet (plan b) None (planned_at last b)
   beyond b high = inl (
     ap (λ (p : Planned). p.accounts)
-    (get_or_past last b unplanned (omega (arith, high, length_is, count, count'))),
+        (get_or_past last b unplanned (omega (arith, high, length_is, count, count'))),
     go (plan b) (is b),
   )
     where

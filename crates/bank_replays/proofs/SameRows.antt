@@ -1,14 +1,14 @@
 -- Two files that show logs with the same rows have the same rows.
-use Rattle.std.proofs.Common.{◌≡◌, ◌∙◌, ◌+◌, ℕ, ℤ, pos, Bool, true, false, cond, eqb, leb, List, [], ◌∷◌, length, map}
-use Rattle.std.proofs.Common.{Option, Some, None, refl, sym, ap, inl, inr}
-use Rattle.std.specs.Prelude.{◌&&◌, option_map}
-use Rattle.std.proofs.lemmas.{Bool.cases_Bool, List.length-map}
+use Rattle.std.proofs.Common.{◌≡◌, ◌∙◌, ◌+◌, ℕ, ℤ, pos, Bool, true, false, cond, eqb, List, [], ◌∷◌, length, map}
+use Rattle.std.proofs.Common.{Option, Some, refl, sym, ap}
+use Rattle.std.specs.Prelude.{◌&&◌}
+use Rattle.std.proofs.lemmas.{List.length-map}
 use Rattle.sqlite.specs.Effect.{Database}
 use Rattle.message_records.specs.believed.Records.{RequestFields}
 use Rattle.posting_rules.specs.declared.rows.{AccountRow.AccountRow, BranchRow.BranchRow, FloorRow.FloorRow}
 use Rattle.posting_rules.specs.declared.rows.{HistoryRow.HistoryRow, ReferenceRow.ReferenceRow, RequestRow.RequestRow}
 use Rattle.posting_rules.specs.declared.rows.TellerRow.{TellerRow}
-use Rattle.posting_rules.specs.believed.Commands.{Command, Terms, opened}
+use Rattle.posting_rules.specs.believed.Commands.{Command, opened}
 use Rattle.posting_rules.specs.believed.Entries.{DecidedRequest, decided, is_posted, posted_sum}
 use Rattle.posting_rules.specs.believed.Numbering.{branch_of_account, branch_of_teller}
 use Rattle.posting_rules.specs.believed.Tables.{AreTablesOf, Tables, account_key, account_row, branch_key, branch_row}
@@ -17,7 +17,7 @@ use Rattle.posting_rules.specs.believed.Tables.{reference_key, reference_row, re
 use Rattle.posting_rules.specs.believed.Tables.{teller_key, teller_row}
 use Rattle.sql_meanings.specs.believed.Entries.{Entry, Rise}
 use Rattle.store_rows.specs.believed.View as view
-use Rattle.walked_rows.proofs.RisingRows.{Rising, rising_keys, rising_once}
+use Rattle.walked_rows.proofs.RisingRows.{rising_keys, rising_once}
 use Rattle.walked_rows.proofs.Shown.{has_accounts, has_branches, has_floors, has_history, has_references, has_requests}
 use Rattle.walked_rows.proofs.Shown.{has_tellers}
 use Rattle.bank_replays.specs.Following.{HaveSameRows, timed}

@@ -1,15 +1,13 @@
 -- A request gets the same verdict where fewer branches are open, if those that it needs are.
-use Rattle.std.proofs.Common.{◌≡◌, ◌∙◌, ℕ, ℤ, pos, Bool, true, false, cond, eqb, leb, List, Option, Some, None, refl}
-use Rattle.std.proofs.Common.{sym, ap, subst, inl, inr}
-use Rattle.std.specs.Prelude.{◌&&◌}
-use Rattle.std.proofs.lemmas.Bool.{cases_Bool}
+use Rattle.std.proofs.Common.{◌≡◌, ◌∙◌, ℕ, ℤ, pos, true, false, eqb, leb, List, Option, Some, None, refl}
+use Rattle.std.proofs.Common.{sym, inl, inr}
+use Rattle.std.proofs.{Math.Bool.and-false, lemmas.Bool.cases_Bool}
 use Rattle.message_records.specs.believed.Records.{RequestFields}
 use Rattle.message_records.specs.declared.records.Outcome.TheVariants as outcome
 use Rattle.posting_rules.specs.declared.limits.TheConstants.{MAX_DECIDED}
 use Rattle.posting_rules.specs.declared.judgments.{Found.Found, Verdict.Verdict}
 use Rattle.posting_rules.specs.declared.judgments.Verdict.TheVariants.{Again, Posted, Refused, Unkept}
-use Rattle.posting_rules.specs.believed.Cases.{account_case, case_of, is_same, known_case, new_case, plus_within}
-use Rattle.posting_rules.specs.believed.Cases.{posting_of, teller_case}
+use Rattle.posting_rules.specs.believed.Cases.{account_case, case_of, new_case, plus_within}
 use Rattle.posting_rules.specs.believed.Commands.{Terms}
 use Rattle.posting_rules.specs.believed.Entries.{DecidedRequest, facts}
 use Rattle.posting_rules.specs.believed.Kept.{KeptFields}
@@ -96,10 +94,6 @@ module _ (e : DecidedRequest) where
 
 -- ---- fewer branches
 
-never : (b : Bool) → (b && false) ≡ false
-never true = refl
-never false = refl
-
 facts_two : (here there : ℕ → Option Terms) (es : List DecidedRequest) (r : RequestFields)
     → here (branch_of_teller r.teller) ≡ there (branch_of_teller r.teller)
     → here (branch_of_account r.account) ≡ there (branch_of_account r.account)
@@ -114,7 +108,7 @@ module _ (here there : ℕ → Option Terms) (es : List DecidedRequest) (e : Dec
   without : here (branch_of_account e.request.account) ≡ None → had_account e.outcome ≡ false
       → case_of (facts here es e.request) e.request ≡ case_of (facts there es e.request) e.request
   without none had =
-      rw (home, none, never (leb 1 e.request.account))
+      rw (home, none, and-false (leb 1 e.request.account))
       (bare e had (facts there es e.request).teller (facts there es e.request).kept (facts there es e.request).decided
       (facts there es e.request).account (facts there es e.request).floor None e.request judged)
 

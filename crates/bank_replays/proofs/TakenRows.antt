@@ -1,13 +1,13 @@
 -- A row more, of a second bank that follows rows.
-use Rattle.std.proofs.Common.{◌≡◌, ◌∙◌, ◌++◌, ℕ, pos, Bool, true, List, [], ◌∷◌, map, Option, Some, None, Result, Ok, Err}
-use Rattle.std.proofs.Common.{refl, sym, ap, subst}
-use Rattle.std.specs.Prelude.{IfSome, IsSomeAnd, OnOk, nat_abs, option_map}
+use Rattle.std.proofs.Common.{◌≡◌, ◌∙◌, ◌++◌, ℕ, pos, Bool, List, [], ◌∷◌, map, Option, Some, None, Result, Ok, Err}
+use Rattle.std.proofs.Common.{sym, ap, subst}
+use Rattle.std.specs.Prelude.{IsSomeAnd, OnOk, nat_abs, option_map}
 use Rattle.std.proofs.lemmas.List.{map-append}
 use Rattle.sqlite_trees.specs.declared.store.Store.{Ghosts}
-use Rattle.message_records.specs.believed.{Outcomes.code_of, Reading.request_of, Records.RequestFields}
+use Rattle.message_records.specs.believed.{Outcomes.code_of, Records.RequestFields}
 use Rattle.message_records.specs.declared.records.Outcome.{Outcome}
 use Rattle.posting_rules.specs.believed.Commands.{Command, Post, Terms}
-use Rattle.posting_rules.specs.believed.Entries.{DecidedRequest, is_posted}
+use Rattle.posting_rules.specs.believed.Entries.{DecidedRequest}
 use Rattle.store_rows.specs.believed.Columns.{number_at}
 use Rattle.walked_rows.specs.Requests.{IsRequestRow}
 use Rattle.walked_rows.specs.{Came.CameAs, KeptRows.KeptItem, KeptRows.kept_item, Stored.posting_entry}
@@ -62,10 +62,10 @@ module _ {T W : Type 0} {h : Ghosts T} (first old : Refill T W h) (rows : List K
         (λ posted. moment_is it.moment row.posting more.0 it.is (more.3.moment posted)) in (
           Post it.moment it.bytes ∷ prepared plan (had_account more.0.outcome) more.0.request mid.0,
           subst (λ (q : RequestFields). Holds h plan (Post it.moment it.bytes ∷ prepared plan (had_account more.0.outcome) q mid.0) last)
-          asked
-          (subst (λ (b : Bool). Holds h plan (Post it.moment it.bytes ∷ prepared plan b r mid.0) last) hads it.holds),
+              asked
+              (subst (λ (b : Bool). Holds h plan (Post it.moment it.bytes ∷ prepared plan b r mid.0) last) hads it.holds),
           subst (λ (l : List DecidedRequest). Follows plan l
-          (Post it.moment it.bytes ∷ prepared plan (had_account more.0.outcome) more.0.request mid.0)) (sym more.2) now,
+              (Post it.moment it.bytes ∷ prepared plan (had_account more.0.outcome) more.0.request mid.0)) (sym more.2) now,
         )
 
   -- so it is where all went well

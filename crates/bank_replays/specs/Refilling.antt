@@ -127,11 +127,11 @@ pub record OpensBelow {S W : Type 0} (g : Ghosts S) (plan : ℕ → Option Terms
 
 -- it shows a log that decided nothing more, and all of the plan is open
 pub record OpensRest {S : Type 0} (g : Ghosts S) (plan : ℕ → Option Terms) (log : List Command) (bank : Bank S g) : Type 0
-    where
-  pub now : List Command
-  pub shows : ShowsLog (bank_seen g bank) now
-  pub decides : decided now ≡ decided log
-  pub opens : (b : ℕ) → opened now b ≡ plan b
+  where
+    pub now : List Command
+    pub shows : ShowsLog (bank_seen g bank) now
+    pub decides : decided now ≡ decided log
+    pub opens : (b : ℕ) → opened now b ≡ plan b
 
 -- whichever log was shown by the file, the second bank shows one with the same rows
 abbrev pub ShowsSameRows : {S T : Type 0} (g : Ghosts S) (h : Ghosts T) → Bank S g → Bank T h → Type 0

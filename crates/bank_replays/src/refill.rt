@@ -204,7 +204,12 @@ impl<T: Alter + Drop, W: Watch + Drop> Refill<T, W> {
 
     // Opens the branches that a request needs, and takes it to be posted. One that wasn't posted comes at the moment
     // before it: no row has one of its own.
-    fn take(&mut self, request: &Request, had: bool, posting: Option<StoredPosting>) -> Result<(), ReplayFault>
+    fn take(
+        &mut self,
+        request: &Request,
+        had: bool,
+        posting: Option<StoredPosting>,
+    ) -> Result<(), ReplayFault>
         ensures shows { ShowsSome T.Store self.old.bank → OnOk result (ShowsSome T.Store self.new.bank) }
         ensures holds { IsNeverInDoubt T.Store → (plan : ℕ → Option Terms) → IsPlan plan → (log : List Command)
             → Holds T.Store plan log self.old

@@ -14,7 +14,7 @@ returns-clause-took g c first rows took =
     ∙ ap (planned_at old.planned.items) at in (
       took.0,
       plans_more (λ r. r.branch) with_accounts first old _ rows row c.get-branch.result _ took.1 refl refl at
-      (yet_same _ row.accounts _ (planned_at old.planned.items row.branch).floor c.get.ensures.value
-      (ap (λ yet. yet.floor) there))
-      c.plan_at.ensures,
+          (yet_same _ row.accounts _ (planned_at old.planned.items row.branch).floor c.get.ensures.value
+          (ap (λ yet. yet.floor) there))
+          c.plan_at.ensures,
     )

@@ -18,8 +18,8 @@ returns-clause-took g c first rows took =
     ∙ ap (planned_at old.planned.items) at in (
       took.0,
       plans_more (λ r. r.branch) with_floor first old _ rows row c.get-branch.result _ took.1 refl refl at
-      (yet_same _ (planned_at old.planned.items row.branch).accounts _ (cents_within MAX_BALANCE row.lowest)
-      (ap (λ yet. yet.accounts) there)
-      (c.new.ensures ∙ ap (cents_within MAX_BALANCE) (to_z-of_z w64 row.lowest fits)))
-      c.plan_at.ensures,
+          (yet_same _ (planned_at old.planned.items row.branch).accounts _ (cents_within MAX_BALANCE row.lowest)
+          (ap (λ yet. yet.accounts) there)
+          (c.new.ensures ∙ ap (cents_within MAX_BALANCE) (to_z-of_z w64 row.lowest fits)))
+          c.plan_at.ensures,
     )

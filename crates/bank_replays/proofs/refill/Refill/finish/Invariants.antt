@@ -8,5 +8,5 @@ abbrev pub invariant-branches : goal.invariant-branches
 invariant-branches g l = record {
   some : ShowsSome g.T.Store l.fn.self.bank → ShowsSome g.T.Store l.self.bank;
   below : IsNeverInDoubt g.T.Store → (plan : ℕ → Option Terms) → IsPlan plan → (log : List Command)
-      → Holds g.T.Store plan log l.fn.self → OpensBelow g.T.Store plan log l.branch l.self
+      → Holds g.T.Store plan log l.fn.self → OpensBelow g.T.Store plan log l.branch l.self;
 }

@@ -1,7 +1,7 @@
 -- What came before is posted first.
-use Rattle.std.proofs.Common.{rules, ◌≡◌, ◌∙◌, sym, ap}
+use Rattle.std.proofs.Common.{◌∙◌, sym, ap}
 use Rattle.bank_replays.specs.Refilling.{planned_at}
-use Rattle.bank_replays.proofs.Filled.{opened_more, opened_none}
+use Rattle.bank_replays.proofs.Filled.{opened_more}
 use Rattle.bank_replays.proofs.refill.Refill.open.Goals as goal
 
 pub returns-clause-shows : goal.returns-clause-shows
