@@ -17,6 +17,8 @@
 //!   `part TEXT`         gives the next run these bytes
 //!   `from FILE`         gives it what a file holds
 //!   `piped`             gives it what the last run wrote
+//!   `get FILE PATH`     serves the bank in a file to a client who asks for a path, and prints the head of the answer;
+//!                       what comes after it is what the last run wrote
 //!   `like FILE`         prints whether the last run wrote what a file holds
 //!   `broken END`        gives the next run an `input` that fails, or an `output` that does
 //!   `bank WORD..`       runs the program on these words
@@ -25,8 +27,10 @@
 //!   `simulate SEED COUNT` plays the simulations of so many seeds, and prints what they did
 #![tactic(auto)]
 
+mod asked;
 mod ends;
 mod first_programs;
+mod loopback;
 mod script;
 mod script_files;
 mod showing;

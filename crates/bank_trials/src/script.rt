@@ -1,4 +1,5 @@
 //! The lines of a script.
+use crate::asked::get;
 use crate::ends::Broken;
 use crate::first_programs;
 use crate::script_files::{compare, look, put, query, run_sql, write_lines};
@@ -55,12 +56,19 @@ impl Script {
             "ask" => query(rt, rest),
             "look" => any(look(rt, rest)),
             "like" => any(compare(rt, rest, self.output.as_slice())),
+            "get" => self.ask_served(rt, rest),
             "bank" => any(self.run(rt, line)),
             "first" => self.run_first(rt, rest),
             "simulate" => simulate(rt, rest),
             "tellers" => play_tellers(rt, rest),
             _ => self.prepare(rt, word, rest),
         }
+    }
+
+    // Asks a bank that is served for a path, and keeps what it answers below the head.
+    fn ask_served(&mut self, rt: &HostRuntime, rest: &str) -> Result<()> {
+        self.output = get(rt, rest)?;
+        Ok(())
     }
 
     // Gives the next run what a line says.

@@ -1,81 +1,14 @@
 //! Tellers who are served at once, each over a connection of its own on a port of loopback.
 ghost use Rattle.std.specs.Prelude.{◌≡◌, false};
 
+use crate::loopback::{Clients, serve_clients, taken};
 use anyhow::{Context, Result, ensure};
-use bank_commands::{Ended, replay_over, serve_over};
+use bank_commands::{Ended, replay_over};
 use bank_replays::Unwatched;
-use command_line::Network;
-use counter_http::ServeWatch;
-use posting_core::StoredClock;
 use sqlite::{Alter, Connection, FileStore};
 use sqlite_disk::Disk;
 use std::alloc::{Alloc, AllocError, Global};
-use std::cell::Cell;
-use std::io;
-use std::net::{Shutdown, SocketAddr, TcpListener, TcpStream};
-use std::time::{Clock, Duration};
-
-// A network on which so many tellers have sent a record each, once a listener is bound.
-#[derive(Drop)]
-struct Tellers<'a> {
-    rt: &'a HostRuntime,
-    count: u64,
-    streams: Cell<Option<Vec<TcpStream>>>,
-}
-
-impl<'a> Alloc for Tellers<'a> {
-    type A = Global;
-
-    fn alloc(&self) -> Global {
-        self.rt.alloc()
-    }
-}
-
-impl<'a> Clock for Tellers<'a> {
-    fn monotonic(&self) -> io::Result<Duration> {
-        self.rt.monotonic()
-    }
-
-    fn since_1970(&self) -> io::Result<Duration> {
-        self.rt.since_1970()
-    }
-}
-
-impl<'a> Network for Tellers<'a> {
-    fn bind(&self, address: &str) -> io::Result<TcpListener> {
-        let listener = TcpListener::bind(self.rt, address)?;
-        let streams = send_all(self.rt, listener.local_addr()?, self.count)?;
-        self.streams.set(Some(streams));
-        Ok(listener)
-    }
-}
-
-// Nobody watches.
-#[derive(Drop)]
-struct Unseen;
-
-impl ServeWatch for Unseen {
-    fn served(&mut self, _connected: usize, _postings: u64) {}
-
-    fn ended(&mut self) {}
-}
-
-fn send_all(rt: &HostRuntime, address: SocketAddr, count: u64) -> io::Result<Vec<TcpStream>> {
-    let mut streams = Vec::new(rt.alloc());
-    for teller in 1..=count {
-        streams.push(send(rt, address, teller)?)?;
-    }
-    Ok(streams)
-}
-
-// The teller sends its record, and ends its side.
-fn send(rt: &HostRuntime, address: SocketAddr, teller: u64) -> io::Result<TcpStream> {
-    let message = message_of(rt.alloc(), teller)?;
-    let stream = TcpStream::connect(rt, address)?;
-    io::copy(&mut message.as_bytes(), &mut &stream)?;
-    stream.shutdown(Shutdown::Write)?;
-    Ok(stream)
-}
+use std::net::TcpStream;
 
 // The number of the branch of a teller.
 fn branch_of(teller: u64) -> u64 {
@@ -103,9 +36,8 @@ fn answer_to(alloc: Global, teller: u64) -> Result<String, AllocError> {
 }
 
 // What comes to the teller is the answer to its own record.
-fn is_answered(rt: &HostRuntime, mut stream: &TcpStream, teller: u64) -> Result<()> {
-    let mut taken: Vec<u8> = Vec::new(rt.alloc());
-    io::copy(&mut stream, &mut taken)?;
+fn is_answered(rt: &HostRuntime, stream: &TcpStream, teller: u64) -> Result<()> {
+    let taken = taken(rt, stream)?;
     let answer = answer_to(rt.alloc(), teller)?;
     ensure!(taken.as_slice() == answer.as_bytes(), "teller {teller}");
     Ok(())
@@ -122,33 +54,22 @@ fn are_answered(rt: &HostRuntime, streams: &[TcpStream]) -> Result<()> {
 
 // Serves the tellers by the bank of a connection, and replays it.
 fn serve<S: Alter + Drop>(
-    tellers: &Tellers<'_>,
+    tellers: &Clients<'_>,
     conn: Connection<S>,
     output: &mut Vec<u8>,
 ) -> Ended<S>
     requires { conn.in_transaction ≡ false }
 {
-    let alloc = tellers.alloc();
-    let mut clock = StoredClock::new(Vec::new(alloc));
-    let count = tellers.count;
-    let served = serve_over(
-        alloc,
-        conn,
-        tellers,
-        "127.0.0.1:0",
-        count,
-        Unseen,
-        output,
-        &mut clock,
-    );
+    let served = serve_clients(tellers, conn, output);
     match served.told {
-        Ok(_) => replay_over(alloc, served.conn, output, Unwatched),
+        Ok(_) => replay_over(tellers.alloc(), served.conn, output, Unwatched),
         Err(_) => served,
     }
 }
 
 fn play_over<D: Disk + Drop>(
-    tellers: &Tellers<'_>,
+    rt: &HostRuntime,
+    tellers: &Clients<'_>,
     conn: Connection<FileStore<D>>,
 ) -> Result<bool> {
     ensure!(conn.is_autocommit(), "a transaction");
@@ -156,9 +77,18 @@ fn play_over<D: Disk + Drop>(
     let Ended { told, conn } = serve(tellers, conn, &mut output);
     conn.close()?;
     told?;
-    let streams = tellers.streams.take().context("no tellers")?;
-    are_answered(tellers.rt, streams.as_slice())?;
+    let streams = tellers.streams().context("no tellers")?;
+    are_answered(rt, streams.as_slice())?;
     Ok(output.ends_with(b"AGREES\n"))
+}
+
+// The messages of so many tellers.
+fn messages_of(alloc: Global, count: u64) -> Result<Vec<String>, AllocError> {
+    let mut messages = Vec::new(alloc);
+    for teller in 1..=count {
+        messages.push(message_of(alloc, teller)?)?;
+    }
+    Ok(messages)
 }
 
 /// So many tellers post to the bank in a file at once. Each gets the answer to its own record, and a replay says
@@ -166,12 +96,8 @@ fn play_over<D: Disk + Drop>(
 pub fn play_tellers(rt: &HostRuntime, rest: &str) -> Result<()> {
     let (count, file) = rest.split_once(' ').context("a count and a file")?;
     let count = count.parse::<u64>().ok().context("a count")?;
-    let tellers = Tellers {
-        rt,
-        count,
-        streams: Cell::new(None),
-    };
-    let agrees = play_over(&tellers, Connection::open(rt, file)?)?;
+    let tellers = Clients::new(rt, messages_of(rt.alloc(), count)?);
+    let agrees = play_over(rt, &tellers, Connection::open(rt, file)?)?;
     let told = if agrees { "AGREES" } else { "DIFFERS" };
     println!(rt; "  {count} tellers, each with its answer, and {told}")?;
     Ok(())

@@ -1,0 +1,125 @@
+//! Clients of a bank that is served on a port of loopback.
+ghost use Rattle.std.specs.Prelude.{◌≡◌, false};
+
+use bank_commands::{Ended, serve_over};
+use command_line::Network;
+use counter_http::ServeWatch;
+use posting_core::StoredClock;
+use sqlite::{Alter, Connection};
+use std::alloc::{Alloc, Global};
+use std::cell::Cell;
+use std::io;
+use std::net::{Shutdown, SocketAddr, TcpListener, TcpStream};
+use std::time::{Clock, Duration};
+
+/// A network on which each client has sent its message, once a listener is bound.
+#[derive(Drop)]
+pub struct Clients<'a> {
+    rt: &'a HostRuntime,
+    messages: Vec<String>,
+    streams: Cell<Option<Vec<TcpStream>>>,
+}
+
+impl<'a> Clients<'a> {
+    /// Clients with these messages.
+    pub fn new(rt: &'a HostRuntime, messages: Vec<String>) -> Self {
+        Clients {
+            rt,
+            messages,
+            streams: Cell::new(None),
+        }
+    }
+
+    /// Their connections, in the order of their messages, once they have sent them.
+    pub fn streams(&self) -> Option<Vec<TcpStream>> {
+        self.streams.take()
+    }
+}
+
+impl<'a> Alloc for Clients<'a> {
+    type A = Global;
+
+    fn alloc(&self) -> Global {
+        self.rt.alloc()
+    }
+}
+
+impl<'a> Clock for Clients<'a> {
+    fn monotonic(&self) -> io::Result<Duration> {
+        self.rt.monotonic()
+    }
+
+    fn since_1970(&self) -> io::Result<Duration> {
+        self.rt.since_1970()
+    }
+}
+
+impl<'a> Network for Clients<'a> {
+    fn bind(&self, address: &str) -> io::Result<TcpListener> {
+        let listener = TcpListener::bind(self.rt, address)?;
+        let streams = send_all(self.rt, listener.local_addr()?, self.messages.as_slice())?;
+        self.streams.set(Some(streams));
+        Ok(listener)
+    }
+}
+
+// Nobody watches.
+#[derive(Drop)]
+struct Unseen;
+
+impl ServeWatch for Unseen {
+    fn served(&mut self, _connected: usize, _postings: u64) {}
+
+    fn ended(&mut self) {}
+}
+
+fn send_all(
+    rt: &HostRuntime,
+    address: SocketAddr,
+    messages: &[String],
+) -> io::Result<Vec<TcpStream>> {
+    let mut streams = Vec::new(rt.alloc());
+    for message in messages {
+        streams.push(send(rt, address, message.as_str())?)?;
+    }
+    Ok(streams)
+}
+
+// A client sends its message, and ends its side.
+fn send(rt: &HostRuntime, address: SocketAddr, message: &str) -> io::Result<TcpStream> {
+    let stream = TcpStream::connect(rt, address)?;
+    io::copy(&mut message.as_bytes(), &mut &stream)?;
+    stream.shutdown(Shutdown::Write)?;
+    Ok(stream)
+}
+
+/// What has come to a client.
+pub fn taken(rt: &HostRuntime, mut stream: &TcpStream) -> io::Result<Vec<u8>> {
+    let mut taken: Vec<u8> = Vec::new(rt.alloc());
+    io::copy(&mut stream, &mut taken)?;
+    Ok(taken)
+}
+
+/// Serves the clients by the bank of a connection.
+pub fn serve_clients<S: Alter + Drop>(
+    clients: &Clients<'_>,
+    conn: Connection<S>,
+    output: &mut Vec<u8>,
+) -> Ended<S>
+    requires { conn.in_transaction ≡ false }
+    ensures { result.conn.in_transaction ≡ false }
+{
+    let alloc = clients.alloc();
+    let mut clock = StoredClock::new(Vec::new(alloc));
+    let count = clients.messages.len() as u64;
+    serve_over(
+        alloc,
+        conn,
+        clients,
+        "127.0.0.1:0",
+        count,
+        Unseen,
+        output,
+        &mut clock,
+    )
+}
