@@ -19,3 +19,4 @@ pub mod Output
 pub mod LogGrowth
 pub mod EntryParts
 pub mod LogPlaces
+pub mod Tills

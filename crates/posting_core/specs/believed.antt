@@ -3,3 +3,4 @@ pub mod Clock
 pub mod Batches
 pub mod Stream
 pub mod LogEntries
+pub mod Tills

@@ -12,7 +12,8 @@ use super::PlainBank;
 use crate::entries::{ENTRY_BYTES, encode_entry};
 use crate::followed::{ENTRIES_PER_ANSWER, Followed};
 use crate::walking::reference_at;
-use message_records::{Number, Outcome, Reply, Request, Teller};
+use message_records::{Cents, Number, Outcome, Reply, Request, Teller};
+use posting_batch::balance_at;
 use posting_rules::{Decision, Fault, HistoryRow, RequestRow};
 use std::alloc::AllocError;
 
@@ -99,5 +100,9 @@ impl Followed for PlainBank {
         }
         let to = kept.min(after + ENTRIES_PER_ANSWER as u64);
         Ok(Some(self.entries_between(after, to)?))
+    }
+
+    fn teller_balance(&mut self, teller: Teller) -> Result<Option<Cents>, Fault> {
+        Ok(balance_at(&self.tellers, teller.get()))
     }
 }
