@@ -63,4 +63,4 @@ pub use batches::{answer_batch, post_all, post_looked_up};
 pub use look_ups::{branch_at, decided, kept_request, open_balance, teller_balances};
 pub use next_branch::read_next_branch;
 pub use slots::fill;
-pub use transactions::{begin, finish, note_settled, open_branch, read_balance};
+pub use transactions::{begin, finish, note_settled, open_branch, read_balance, read_teller};

@@ -6,17 +6,17 @@ ghost use Rattle.posting_rules.specs.Changes.{tables_with_branch};
 ghost use Rattle.posting_rules.specs.believed.Commands.{opened_with};
 ghost use Rattle.posting_rules.specs.believed.Counter.{opening_for};
 ghost use Rattle.posting_rules.specs.believed.LookUps.{account_balance_in};
-ghost use Rattle.posting_rules.specs.believed.LookUps.{terms_in};
+ghost use Rattle.posting_rules.specs.believed.LookUps.{teller_balances_in, terms_in};
 ghost use Rattle.posting_rules.specs.Sound.{AreSound};
 ghost use Rattle.bank_transactions.specs.believed.Openings.{IsReadyToOpen};
 ghost use Rattle.bank_transactions.specs.believed.Additions.{AddsBranch};
 ghost use Rattle.bank_transactions.specs.Doing.{Consults, Ends, Transacts};
-ghost use Rattle.bank_transactions.specs.believed.Stored.{IsStoredBalance, OpensByStored};
+ghost use Rattle.bank_transactions.specs.believed.Stored.{IsStoredBalance, IsStoredTeller, OpensByStored};
 ghost use Rattle.bank_transactions.specs.Undone.{UndoesFaults};
 
-use crate::look_ups::open_balance;
+use crate::look_ups::{open_balance, teller_balances};
 use crate::new_branch::open_inside;
-use message_records::{Account, Branch, Cents};
+use message_records::{Account, Branch, Cents, Teller};
 use posting_rules::{LAST_BRANCH, MAX_ACCOUNTS, Opening};
 use sqlite::{Alter, Connection, Transaction};
 use store_rows::{TableFault, commit};
@@ -98,6 +98,31 @@ pub fn open_branch<S: Alter>(
     let mut tx = begin(conn);
     let opening = open_inside(&mut tx, branch, count, floor);
     finish(tx, opening)
+}
+
+/// Looks up the balances of a teller and of its branch, none where the teller isn't open. One transaction, which
+/// changes nothing.
+///
+/// # Errors
+///
+/// As [`open_branch`].
+pub fn read_teller<S: Alter>(
+    conn: &mut Connection<S>,
+    teller: Teller,
+) -> Result<Option<(Cents, Cents)>, TableFault>
+    requires { conn.old.in_transaction ≡ false }
+    ensures says { Consults S.Store conn.old conn.new AreSound
+        (λ tables. teller_balances_in tables teller) result }
+    // Whatever rows the file holds.
+    ensures stored { IfOk result (λ balances. HasCleanDisk (state S.Store conn.new)
+        → IsStoredTeller (state S.Store conn.old).now teller balances) }
+    ensures still { OnOk result (HasCleanDisk (state S.Store conn.new)
+        → (state S.Store conn.new).now ≡ (state S.Store conn.old).now) }
+    ensures undone { UndoesFaults S.Store conn.old conn.new result }
+{
+    let mut tx = begin(conn);
+    let balances = teller_balances(&mut tx, teller);
+    finish(tx, balances)
 }
 
 /// Looks up the balance of an account, none where it isn't open. One transaction, which changes nothing.
