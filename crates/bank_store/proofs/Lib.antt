@@ -30,3 +30,4 @@ pub mod PiecesRead
 pub mod ReadThen
 pub mod KeptRead
 pub mod EntriesGiven
+pub mod Tills

@@ -13,6 +13,7 @@ pub mod Seen
 pub mod Walking
 pub mod Walks
 pub mod KeptEntries
+pub mod Tills
 pub mod Failures
 pub mod Leaving
 pub mod Room

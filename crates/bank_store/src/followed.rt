@@ -1,9 +1,12 @@
-//! A bank in a file whose log another bank can follow.
-ghost use Rattle.std.specs.Prelude.{◌≡◌, [], IfErr, IfOk, OnOk};
+//! A bank in a file whose log another bank can follow, and whose tellers are asked what they hold.
+ghost use Rattle.std.specs.Prelude.{◌≡◌, ◌≢◌, [], Err, IfErr, IfOk, OnOk};
 ghost use Rattle.std.specs.Option.{option_map};
 ghost use Rattle.posting_rules.specs.believed.Tables.{Tables};
+ghost use Rattle.posting_rules.specs.declared.fault.Fault.TheVariants as fault;
 ghost use Rattle.posting_core.specs.believed.LogEntries.{entries_given};
+ghost use Rattle.posting_core.specs.believed.Tills.{teller_after};
 ghost use Rattle.bank_store.specs.KeptEntries.{GivesStored};
+ghost use Rattle.bank_store.specs.Tills.{IsStoredTill, own_balance};
 ghost use Rattle.bank_store.specs.Down.{WasBroken};
 ghost use Rattle.bank_store.specs.Leaving.{OnlyReads};
 ghost use Rattle.bank_store.specs.believed.Down.{AnswersBy, IsBankCall, OfDamage};
@@ -12,9 +15,18 @@ ghost use Rattle.bank_store.specs.believed.Sparing.{SparesOtherTables};
 
 use crate::bank::Bank;
 use crate::entries::read_log;
+use bank_transactions::read_teller;
+use message_records::{Cents, Teller};
 use posting_core::{ENTRIES_PER_ANSWER, ENTRY_BYTES, Followed};
 use posting_rules::{Fault, MAX_DECIDED};
 use sqlite::Alter;
+
+// Of the balances of a teller and of its branch the teller's.
+fn own_balance(balances: Option<(Cents, Cents)>) -> Option<Cents>
+    ensures { result ≡ option_map own_balance balances }
+{
+    balances.map(|(own, _)| own)
+}
 
 impl<S: Alter + Drop> Followed for Bank<S> {
     // The rows are looked up by their ordinals, so that an answer costs what it gives. All room is made before the
@@ -44,6 +56,28 @@ impl<S: Alter + Drop> Followed for Bank<S> {
                 }
                 Ok(None)
             }
+            Err(fault) => Err(self.go_down(fault)),
+        }
+    }
+
+    fn teller_balance(&mut self, teller: Teller) -> Result<Option<Cents>, Fault>
+        ensures answer { AnswersBy S.Store self.old self.new result
+            (λ log balance. balance ≡ teller_after log teller) }
+        ensures call { IsBankCall S.Store self.old self.new [] result }
+        ensures tables { OnOk result ((bank_seen S.Store self.new).honest → (t : Tables)
+            → (bank_seen S.Store self.old).tables t → (bank_seen S.Store self.new).tables t) }
+        ensures frugal { result ≢ Err fault.Memory }
+        ensures spares { SparesOtherTables S.Store self.old self.new }
+        // Whatever rows the file holds.
+        ensures stored { IfOk result (λ balance. (bank_seen S.Store self.new).honest
+            → IsStoredTill (database_of S.Store self.old) teller balance) }
+        ensures still { OnOk result ((bank_seen S.Store self.new).honest
+            → database_of S.Store self.new ≡ database_of S.Store self.old) }
+        ensures broken { IfErr result (λ fault. OfDamage fault (WasBroken S.Store self.old self.new)) }
+    {
+        self.up()?;
+        match read_teller(&mut self.conn, teller) {
+            Ok(balances) => Ok(own_balance(balances)),
             Err(fault) => Err(self.go_down(fault)),
         }
     }
