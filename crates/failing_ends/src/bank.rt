@@ -1,5 +1,5 @@
 //! A bank that fails.
-use message_records::{Account, Branch, Cents, Moment, REPLY_BYTES, REQUEST_BYTES};
+use message_records::{Account, Branch, Cents, Moment, REPLY_BYTES, REQUEST_BYTES, Teller};
 use posting_core::{BranchLine, Counter, Fault, Followed, Opening, PlainBank};
 
 /// Opens branch 1 with three accounts and branch 2 with two.
@@ -157,5 +157,22 @@ impl Followed for FailingBank {
         }
         self.left -= 1;
         self.bank.entries_after(after)
+    }
+
+    fn teller_balance(&mut self, teller: Teller) -> Result<Option<Cents>, Fault> {
+        if self.down {
+            return Err(Fault::Down);
+        }
+        if self.left == 0 {
+            return match self.failing {
+                Failing::Memory => Err(Fault::Memory),
+                Failing::Store => {
+                    self.down = true;
+                    Err(Fault::Store)
+                }
+            };
+        }
+        self.left -= 1;
+        self.bank.teller_balance(teller)
     }
 }
