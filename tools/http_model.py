@@ -141,7 +141,8 @@ def damaged(draw, text, chance):
 
 TARGETS = [b"/log/0", b"/log/1", b"/log/2", b"/log/00", b"/log/01", b"/log/x", b"/log/", b"/log/0/1", b"/log/1000000000000",
            b"/log/9999999999999", b"/log/10000000000000", b"/plan", b"/plan?x", b"/plans", b"/post", b"/health", b"/account/1", b"/account/100001", b"/account/4", b"/account/01", b"/account/", b"/account/1/2",
-           b"/account/999999999999", b"/account/1000000000000", b"/account/x", b"/branches", b"/branches?x=/post",
+           b"/account/999999999999", b"/account/1000000000000", b"/account/x", b"/teller/1", b"/teller/11", b"/teller/21", b"/teller/01",
+           b"/teller/99999999", b"/teller/100000000", b"/teller/", b"/tellers", b"/branches", b"/branches?x=/post",
            b"/", b"/post/", b"*", b"/post?", "/caf\u00e9".encode()]
 FIELDS = [b"Host: a", b"Connection: close", b"connection: keep-alive, Close", b"Connection: closed", b"Accept:",
           b"Transfer-Encoding: chunked", b"CONTENT-LENGTH: 4", b"X: \t y \t", b"Connection:\t,close\t"]

@@ -449,8 +449,9 @@ def routed(book, method, target, body):
             return bare(405, b"POST")
         return (200, BYTES, book.answer(0, body), b"") if len(body) == 100 else bare(400)
     account = re.fullmatch(rb"/account/([^/]+)", path, re.DOTALL)
+    teller = re.fullmatch(rb"/teller/([^/]+)", path, re.DOTALL)
     log = re.fullmatch(rb"/log/([^/]+)", path, re.DOTALL)
-    if path not in (b"/branches", b"/health", b"/plan") and not account and not log or not is_utf8(path):
+    if path not in (b"/branches", b"/health", b"/plan") and not (account or teller or log) or not is_utf8(path):
         return bare(404)
     if method not in (b"GET", b"HEAD"):
         return bare(405, b"GET, HEAD")
@@ -466,9 +467,10 @@ def routed(book, method, target, body):
         first = int(number) if re.fullmatch(rb"0|[1-9][0-9]{0,12}", number) else book.decided + 1
         entries = [entry_of(*kept) for kept in requests_of(book.rows)][first:first + ENTRIES_PER_ANSWER]
         return (200, BYTES, b"".join(entries), b"") if first <= book.decided else bare(404)
-    number = account.group(1)
-    balance = book.rows["account"].get(int(number)) if re.fullmatch(rb"[1-9][0-9]{0,11}", number) else None
-    return (200, TEXT, b"account %s balance %d\n" % (number, *balance), b"") if balance else bare(404)
+    holder, digits = ("account", rb"[1-9][0-9]{0,11}") if account else ("teller", rb"[1-9][0-9]{0,7}")
+    number = (account or teller).group(1)
+    balance = book.rows[holder].get(int(number)) if re.fullmatch(digits, number) else None
+    return (200, TEXT, b"%s %s balance %d\n" % (holder.encode(), number, *balance), b"") if balance else bare(404)
 
 
 def plan_of(book):

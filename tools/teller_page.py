@@ -216,6 +216,8 @@ def words(place, page):
     page.press("Send again")
     page.settled()
     same("after the branch is open", page.browser.run(LINES)[0][3:], ["EARLY", "Posted", "5.00"])
+    page.press("Total of the till")
+    page.until("the till", "document.getElementById('done').textContent", "The till of teller 11 has 5.00.")
     page.browser.run("(document.getElementById('sign-out').click(), 0)")
     page.patiently(lambda: page.browser.run("document.title === 'Signed out'"))
     page.browser.open(place.address(path="/branches"))

@@ -2,19 +2,19 @@
 use Rattle.std.proofs.Common.{◌≡◌, ℕ, inl, inr, Bool, true, false, List, [], ◌∷◌, length, take, Option, Some, None}
 use Rattle.std.proofs.Common.{Result, Ok, Err, refl, sym, ap, subst, eqb, ◌∙◌, arith}
 use Rattle.std.proofs.lemmas.{Bool.and_parts, Bool.ne_eqb, List.take_all}
-use Rattle.std.specs.{Prelude.ℤ, Prelude.codes, Prelude.bytes_eq, Io.KnownBytes.Appends}
+use Rattle.std.specs.{Prelude.codes, Prelude.bytes_eq, Io.KnownBytes.Appends}
 use Rattle.message_records.specs.believed.Spelling.{reply_spelling}
 use Rattle.posting_rules.specs.declared.fault.Fault.{Fault}
-use Rattle.posting_rules.specs.believed.{Entries.reply, Entries.balance_after, Commands.Command, Commands.Post}
+use Rattle.posting_rules.specs.believed.{Entries.reply, Commands.Command, Commands.Post}
 use Rattle.posting_rules.specs.believed.Counter.{Seen, IsCounterCall, ShowsLog, Takes, Refuses}
 use Rattle.posting_rules.proofs.CounterCalls.{call_refused_after, refused_after, takes_none}
 use Rattle.posting_core.specs.{Clock.IsReading, believed.Clock.AreReadings, Stream.IsOfCall, Told.WriteTold}
 use Rattle.counter_http.specs.{declared.fault.ServeFault.ServeFault, declared.routes.Route.Route, Ends.SendsAs}
 use Rattle.counter_http.specs.declared.fault.ServeFault.TheVariants as told
-use Rattle.counter_http.specs.believed.Answers.{octets, balance_answer, status_words, bare, is_record, submits}
+use Rattle.counter_http.specs.believed.Answers.{octets, status_words, bare, is_record, submits}
 use Rattle.counter_http.specs.believed.Answers.{answer_on, Asked, Answer, answer_to, answer_text, shows, unavailable}
 use Rattle.counter_http.specs.believed.Answers.{is_posting}
-use Rattle.counter_http.specs.declared.routes.Route.TheVariants.{Posting, Account, Branches, Health, Log, Plan}
+use Rattle.counter_http.specs.declared.routes.Route.TheVariants.{Posting, Account, Teller, Branches, Health, Log, Plan}
 use Rattle.counter_http.specs.believed.Paths.{route_of, path_of}
 use Rattle.counter_http.proofs.PartsWritten.{bare_of, front_of}
 use Rattle.counter_http.specs.believed.Turns.{commands_if, commands_for, readings_if, readings_for}
@@ -163,6 +163,7 @@ posting_on log a (Some Posting) e =
     let parts = and_parts (bytes_eq a.method (codes "POST")) (eqb (length a.body) 100) e in
     rw (parts.0, parts.1) refl
 posting_on log a (Some Account) e = cc e
+posting_on log a (Some Teller) e = cc e
 posting_on log a (Some Branches) e = cc e
 posting_on log a (Some Health) e = cc e
 posting_on log a (Some Log) e = cc e
@@ -235,14 +236,7 @@ fixed seen c a x result none is sent =
     idle seen c c a result none (told_answer seen c c a [] x result (takes_none (seen c)) (λ d. d)
     (λ h log s. sym (is log)) (λ h. h) (λ d. refl) sent)
 
--- ---- an account
-
--- what was told of a balance is the answer
-pub account_told : (log : List Command) (a : Asked) (account : ℕ) (o balance : Option ℤ) (x : Answer)
-    → ((log : List Command) → answer_to log a ≡ balance_answer account (balance_after log account))
-    → o ≡ balance_after log account → o ≡ balance → x ≡ balance_answer account balance → x ≡ answer_to log a
-account_told log a account o balance x answers b same is =
-    is ∙ ap (balance_answer account) (sym same ∙ b) ∙ sym (answers log)
+-- ---- what was read
 
 -- the bank was asked, and what it showed was told, or that it refused
 pub reading_told : {C : Type 0} (seen : C → Seen) {reason : Fault → C → C → Type 0} {w w' : Option (List ℕ)}

@@ -13,7 +13,7 @@ use Rattle.std.specs.{List.repeat, Int.is_negative}
 use lib.IntN.{nat_abs}
 use lib.Utf8.{encode}
 use Rattle.std.specs.Fmt.{padded_integral, format_spec, decimal, signed_decimal, char_count}
-use Rattle.counter_http.specs.believed.Answers.{account_line, right_in, branch_line, line_if_open, lines_up_to}
+use Rattle.counter_http.specs.believed.Answers.{right_in, branch_line, line_if_open, lines_up_to}
 use Rattle.counter_http.specs.believed.Answers.{balance_line, branch_lines, plan_line, plan_lines, plan_names}
 use Rattle.counter_http.specs.Listing.{listed, listed_line, names_of, shown_line}
 use Rattle.counter_http.specs.declared.lines.Listing.{Listing}
@@ -201,11 +201,12 @@ pub plan_text_bare : (b a k : ℕ) → k ≡ b
     → decimal k ++ (codes "," ++ (decimal a ++ codes ",\n")) ≡ plan_line b (opened_with a None)
 plan_text_bare b a k f = rw f (five (decimal b) (codes ",") (decimal a) (codes ",") [] (codes "\n"))
 
-pub account_text : (a b : ℕ) (z y : ℤ) → b ≡ a → y ≡ z
-    → codes "account " ++ (decimal b ++ (codes " balance " ++ (signed_decimal y ++ codes "\n")))
-    ≡ account_line a z
-account_text a b z y f e =
-    rw (f, e) (four (codes "account ") (decimal a) (codes " balance ") (signed_decimal z) (codes "\n"))
+-- of an account or a teller
+pub holder_text : (word : List ℕ) (a b : ℕ) (z y : ℤ) → b ≡ a → y ≡ z
+    → word ++ (decimal b ++ (codes " balance " ++ (signed_decimal y ++ codes "\n")))
+    ≡ word ++ decimal a ++ codes " balance " ++ signed_decimal z ++ codes "\n"
+holder_text word a b z y f e =
+    rw (f, e) (four word (decimal a) (codes " balance ") (signed_decimal z) (codes "\n"))
   where
     four : (p d q s l : List ℕ) → p ++ (d ++ (q ++ (s ++ l))) ≡ p ++ d ++ q ++ s ++ l
     four p d q s l = simp append_assoc

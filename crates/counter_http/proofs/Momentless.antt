@@ -5,19 +5,20 @@ use Rattle.std.specs.Prelude.{ℤ, codes, bytes_eq}
 use Rattle.std.specs.List.{AllByRecursion}
 use Rattle.message_records.specs.believed.{Records.ReplyFields, Reading.request_of, Spelling.reply_spelling}
 use Rattle.posting_rules.specs.{declared.limits.TheConstants.LAST_BRANCH, believed.Runs.followed_by}
-use Rattle.posting_rules.specs.believed.Commands.{Command, Post, opened, is_account_open, Terms}
+use Rattle.posting_rules.specs.believed.Commands.{Command, Post, opened, is_account_open, is_teller_open, Terms}
 use Rattle.posting_rules.specs.believed.Entries.{DecidedRequest, account_balance, branch_balance, with_record}
-use Rattle.posting_rules.specs.believed.Entries.{decided, reply_given, reply, balance_after}
+use Rattle.posting_rules.specs.believed.Entries.{decided, reply_given, reply, balance_after, teller_balance}
+use Rattle.posting_core.specs.believed.Tills.{teller_after}
 use Rattle.posting_core.proofs.Timeless.{zeroed, sum_zeroed, reply_zeroed, record_zeroed}
 use Rattle.counter_http.specs.{declared.routes.Route.Route, Momentless.AsksNoLog}
-use Rattle.counter_http.specs.declared.routes.Route.TheVariants.{Posting, Account, Branches, Health, Log, Plan}
+use Rattle.counter_http.specs.declared.routes.Route.TheVariants.{Posting, Account, Teller, Branches, Health, Log, Plan}
 use Rattle.counter_http.specs.believed.Messages.{Message}
-use Rattle.counter_http.specs.believed.Paths.{account_in, path_of, route_of}
-use Rattle.counter_http.specs.believed.Answers.{Asked, Answer, asked_by, account_answer, account_named, answer_of}
+use Rattle.counter_http.specs.believed.Paths.{account_in, path_of, route_of, teller_in}
+use Rattle.counter_http.specs.believed.Answers.{Asked, Answer, asked_by, account_answer, account_line, account_named, answer_of}
 use Rattle.counter_http.specs.believed.Answers.{answer_on, answer_text, answer_to, balance_answer, balance_line, bare}
 use Rattle.counter_http.specs.believed.Answers.{branch_line, branch_lines, csv, is_posting, is_reading, line_if_open}
 use Rattle.counter_http.specs.believed.Answers.{lines_up_to, not_allowed, plain, plan_line, plan_lines, plan_names}
-use Rattle.counter_http.specs.believed.Answers.{shows}
+use Rattle.counter_http.specs.believed.Answers.{shows, teller_answer, teller_line, teller_named}
 use Rattle.counter_http.specs.believed.Turns.{Turn, commands_for, commands_if, commands_in, answers_to, messages_of}
 use Rattle.counter_http.proofs.Timed.{head_same, tail_same}
 
@@ -48,6 +49,15 @@ balance_alike a b account h =
     ap (λ (o : Opened). cond (is_account_open o account) (Some (account_balance (decided a) account)) None)
     h.opens
     ∙ ap (λ (z : ℤ). cond (is_account_open (λ n. opened b n) account) (Some z) None) sum
+
+till_alike : (a b : List Command) (teller : ℕ) → IsAlike a b → teller_after a teller ≡ teller_after b teller
+till_alike a b teller h =
+    let sum : teller_balance (decided a) teller ≡ teller_balance (decided b) teller =
+    sym (sum_zeroed (λ r. eqb r.teller teller) (decided a))
+    ∙ ap (λ (es : List DecidedRequest). teller_balance es teller) h.entries
+    ∙ sum_zeroed (λ r. eqb r.teller teller) (decided b) in
+    ap (λ (o : Opened). cond (is_teller_open o teller) (Some (teller_balance (decided a) teller)) None) h.opens
+    ∙ ap (λ (z : ℤ). cond (is_teller_open (λ n. opened b n) teller) (Some z) None) sum
 
 line_alike : (f g : Terms → List ℕ) (o : Option Terms) → ((t : Terms) → f t ≡ g t)
     → line_if_open f o ≡ line_if_open g o
@@ -83,7 +93,11 @@ plan_alike a b h =
 account_alike : (a b : List Command) (account : Option ℕ) → IsAlike a b
     → account_answer a account ≡ account_answer b account
 account_alike a b None h = refl
-account_alike a b (Some account) h = ap (balance_answer account) (balance_alike a b account h)
+account_alike a b (Some account) h = ap (balance_answer (account_line account)) (balance_alike a b account h)
+
+teller_alike : (a b : List Command) (teller : Option ℕ) → IsAlike a b → teller_answer a teller ≡ teller_answer b teller
+teller_alike a b None h = refl
+teller_alike a b (Some teller) h = ap (balance_answer (teller_line teller)) (till_alike a b teller h)
 
 on_alike : (a b : List Command) (o : Option Route) (asked : Asked) → (o ≡ Some Log → ⊥) → IsAlike a b
     → answer_on a o asked ≡ answer_on b o asked
@@ -97,6 +111,9 @@ on_alike a b (Some Posting) asked other h =
 on_alike a b (Some Account) asked other h =
     ap (λ (x : Answer). cond (is_reading asked.method) x (not_allowed (codes "GET, HEAD")))
     (account_alike a b (account_named (account_in (path_of asked.target))) h)
+on_alike a b (Some Teller) asked other h =
+    ap (λ (x : Answer). cond (is_reading asked.method) x (not_allowed (codes "GET, HEAD")))
+    (teller_alike a b (teller_named (teller_in (path_of asked.target))) h)
 on_alike a b (Some Branches) asked other h =
     ap (λ (x : List ℕ). cond (is_reading asked.method) (plain x) (not_allowed (codes "GET, HEAD")))
     (branches_alike a b h)

@@ -13,6 +13,7 @@ pub mod Prompt
 pub mod ListenFaults
 pub mod Clients
 pub mod Connections
+pub mod Holders
 pub mod Tasks
 pub mod Asking
 pub mod Listing

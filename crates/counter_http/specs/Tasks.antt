@@ -1,8 +1,8 @@
 -- What is to be done for a message.
 use Rattle.std.specs.Prelude.{◌≡◌, List, Option, true, false}
 use Rattle.posting_rules.specs.believed.Commands.{Command}
-use Rattle.posting_rules.specs.believed.Entries.{balance_after}
 use Rattle.posting_core.specs.believed.LogEntries.{entries_given}
+use Rattle.counter_http.specs.Holders.{balance_of, holder_line}
 use Rattle.counter_http.specs.Listing.{listing_answer}
 use Rattle.counter_http.specs.believed.Answers.{Asked, answer_on, balance_answer, entries_answer, submits}
 use Rattle.counter_http.specs.believed.Paths.{path_of, route_of}
@@ -16,9 +16,9 @@ abbrev pub IsTaskOn : Option Route → Asked → Task → Type 0
 IsTaskOn route asked (Say response) =
     (submits route asked ≡ false) × ((log : List Command) → answer_on log route asked ≡ said response)
 IsTaskOn route asked (Submit bytes) = (submits route asked ≡ true) × (bytes.now ≡ asked.body)
-IsTaskOn route asked (Balance account) =
+IsTaskOn route asked (Balance holder) =
     (submits route asked ≡ false)
-    × ((log : List Command) → answer_on log route asked ≡ balance_answer account (balance_after log account))
+    × ((log : List Command) → answer_on log route asked ≡ balance_answer (holder_line holder) (balance_of log holder))
 IsTaskOn route asked (Branches listing) =
     (submits route asked ≡ false) × ((log : List Command) → answer_on log route asked ≡ listing_answer listing log)
 IsTaskOn route asked (Entries after) =

@@ -1,11 +1,11 @@
 //! The answer to each message.
-ghost use Rattle.std.specs.Prelude.{◌≡◌, ℕ, List, take, true, Err, IfOk, string_bytes};
+ghost use Rattle.std.specs.Prelude.{◌≡◌, [], ℕ, List, take, true, Err, IfOk, string_bytes};
 ghost use Rattle.std.specs.Io.KnownBytes.{Appends};
 ghost use Rattle.posting_rules.specs.believed.Commands.{Command};
-ghost use Rattle.posting_rules.specs.believed.Counter.{ShowsLog};
-ghost use Rattle.posting_rules.specs.believed.Entries.{balance_after};
+ghost use Rattle.posting_rules.specs.believed.Counter.{Answers, IsCounterCall, ShowsLog};
 ghost use Rattle.counter_http.specs.believed.Answers.{refusal, answer_text, shows, unavailable, is_posting};
 ghost use Rattle.counter_http.specs.believed.Answers.{balance_answer, entries_answer};
+ghost use Rattle.counter_http.specs.Holders.{balance_of, holder_line};
 ghost use Rattle.counter_http.specs.Listing.{answer_with, listing_answer};
 ghost use Rattle.posting_core.specs.believed.LogEntries.{entries_given};
 ghost use Rattle.counter_http.specs.Ends.{SendsAs};
@@ -16,13 +16,14 @@ ghost use Rattle.counter_http.specs.Turns.{IsAsked, IsSentAs, IsTellingOf, TurnI
 
 use crate::fault::ServeFault;
 use crate::fixed::{bad_request, not_found, unavailable};
-use crate::lines::{Listing, all_lines, line_of_account};
+use crate::holders::Holder;
+use crate::lines::{Listing, all_lines, line_of_holder};
 use crate::next::{Whole, is_head};
 use crate::routes::Routes;
 use crate::tasks::{Task, task_of};
 use crate::telling::{Response, tell};
 use http::StatusCode;
-use message_records::{Account, REQUEST_BYTES};
+use message_records::{Cents, REQUEST_BYTES};
 use posting_core::{Clock, Counter, Fault, Followed, Sink};
 use std::alloc::Global;
 
@@ -99,7 +100,7 @@ fn answer_posting<W: Sink, K: Clock, C: Counter>(
 /// What the bank showed for a message that reads.
 #[derive(Drop)]
 pub(crate) enum Reading {
-    /// The account isn't open.
+    /// The account or the teller isn't open, or fewer requests are kept.
     NotFound,
     /// These lines.
     Lines(String),
@@ -138,24 +139,37 @@ impl Reading {
     }
 }
 
-/// Reads the balance of an account.
-pub(crate) fn read_balance<C: Counter>(
+// The balance of an account or a teller.
+fn balance_of<C: Followed>(holder: &Holder, bank: &mut C) -> Result<Option<Cents>, Fault>
+    ensures answer { Answers (C.seen bank.old) (C.seen bank.new) result
+        (λ log balance. balance ≡ balance_of log holder.now) }
+    ensures call { IsCounterCall C.seen C.contents C.reason bank.old bank.new [] result }
+    ensures spares { C.spares bank.old bank.new }
+{
+    match holder {
+        Holder::Account(account) => bank.balance(*account),
+        Holder::Teller(teller) => bank.teller_balance(*teller),
+    }
+}
+
+/// Reads the balance of an account or a teller.
+pub(crate) fn read_balance<C: Followed>(
     alloc: Global,
-    account: Account,
+    holder: Holder,
     bank: &mut C,
 ) -> Result<Reading, Fault>
     ensures answer { IfOk result (λ reading. (C.seen bank.new).honest
         → (log : List Command) → ShowsLog (C.seen bank.old) log
-        → said_in reading ≡ balance_answer account (balance_after log account)) }
+        → said_in reading ≡ balance_answer (holder_line holder) (balance_of log holder)) }
     ensures asked { IsAsked C.seen C.reason bank.old bank.new result }
     ensures spares { C.spares bank.old bank.new }
 {
-    let balance = match bank.balance(account) {
+    let balance = match balance_of(&holder, bank) {
         Ok(Some(balance)) => balance,
         Ok(None) => return Ok(Reading::NotFound),
         Err(fault) => return Err(fault),
     };
-    match line_of_account(alloc, account, balance) {
+    match line_of_holder(alloc, &holder, balance) {
         Ok(line) => Ok(Reading::Lines(line)),
         Err(_) => Err(Fault::Memory),
     }
@@ -236,8 +250,8 @@ pub(crate) fn answer_message<W: Sink, K: Clock, C: Followed>(
     match task_of(message, routes) {
         Task::Say(response) => say(message, &response, writer),
         Task::Submit(record) => answer_posting(message, record, writer, clock, bank),
-        Task::Balance(account) => {
-            let read = read_balance(alloc, account, bank);
+        Task::Balance(holder) => {
+            let read = read_balance(alloc, holder, bank);
             answer_reading(message, read, writer)
         }
         Task::Branches(listing) => {

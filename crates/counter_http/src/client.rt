@@ -325,8 +325,8 @@ impl<R: Source + Drop, W: Sink + Drop> Client<R, W> {
                         head,
                     })),
                     Task::Say(response) => Ok(self.say(&response, head)),
-                    Task::Balance(account) => {
-                        let read = read_balance(alloc, account, bank);
+                    Task::Balance(holder) => {
+                        let read = read_balance(alloc, holder, bank);
                         self.answer_reading(read, head)
                     }
                     Task::Branches(listing) => {

@@ -1,8 +1,8 @@
 //! The counter over HTTP: messages that are read from a connection are answered one after another, in their
 //! order, by any counter. `POST /post` with the 100 bytes of a record submits it (TPC-B 1.2), and the 200
-//! bytes of its reply come back. `GET /account/1` answers the line `account 1 balance 500`, and
-//! `GET /branches` a line for each open branch, with its number, its count of accounts and its balance. Another
-//! bank follows by `GET /log/0`, entries of the log after so many, and `GET /plan`, the branches as a plan. The
+//! bytes of its reply come back. `GET /account/1` answers the line `account 1 balance 500`,
+//! `GET /teller/1` so that of a teller, and `GET /branches` a line for each open branch, with its number, its count
+//! of accounts and its balance. Another bank follows by `GET /log/0`, entries of the log after so many, and `GET /plan`, the branches as a plan. The
 //! function `first_message` of `http_tests`, which a test runs, posts a record, and gives what is answered:
 //!
 //! ```rust
@@ -41,7 +41,6 @@
 //! [`serve_connections`], which serves the clients of a listener at once.
 #![tactic(auto)]
 
-mod accounts;
 mod answers;
 mod batch;
 mod client;
@@ -52,6 +51,7 @@ mod connections;
 mod fault;
 mod fields;
 mod fixed;
+mod holders;
 mod laws;
 mod limits;
 mod lines;

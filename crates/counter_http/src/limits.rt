@@ -15,5 +15,8 @@ pub(crate) const BUFFER: usize = MAX_HEAD + MAX_BODY;
 /// How many digits the number of an account has at most.
 pub(crate) const ACCOUNT_DIGITS: usize = 12;
 
+/// How many digits the number of a teller has at most.
+pub(crate) const TELLER_DIGITS: usize = 8;
+
 /// How many digits a number of requests has at most in a path: as many as that of a full bank.
 pub(crate) const PLACE_DIGITS: usize = 13;

@@ -1,18 +1,20 @@
-//! The lines of accounts and branches.
+//! The lines of accounts, tellers and branches.
 ghost use Rattle.std.specs.Prelude.{◌≡◌, ◌++◌, ℕ, List, [], IfOk, OnOk, IfErr, OnErr, string_bytes};
 ghost use Rattle.posting_core.specs.Stream.{IsOfCall};
 ghost use Rattle.posting_rules.specs.believed.Commands.{Command, opened_with};
 ghost use Rattle.posting_rules.specs.believed.Counter.{ShowsLog, Takes};
 ghost use Rattle.counter_http.specs.Listing.{listed, names_of, shown_line};
-ghost use Rattle.counter_http.specs.believed.Answers.{account_line, branch_line, plan_line};
+ghost use Rattle.counter_http.specs.Holders.{holder_line};
+ghost use Rattle.counter_http.specs.believed.Answers.{account_line, branch_line, plan_line, teller_line};
 ghost use Rattle.counter_http.specs.Turns.{IsRefusedAt};
 
-use message_records::{Account, Cents};
+use crate::holders::Holder;
+use message_records::{Account, Cents, Teller};
 use posting_core::{BranchLine, Counter, Fault};
 use std::alloc::{AllocError, Global};
 
-/// The line of an account.
-pub(crate) fn line_of_account(
+// The line of an account.
+fn line_of_account(
     alloc: Global,
     account: Account,
     balance: Cents,
@@ -22,6 +24,29 @@ pub(crate) fn line_of_account(
     let number = account.get();
     let cents = balance.get();
     format!(in alloc; "account {number} balance {cents}\n")
+}
+
+// The line of a teller.
+fn line_of_teller(alloc: Global, teller: Teller, balance: Cents) -> Result<String, AllocError>
+    ensures { IfOk result (λ text. string_bytes text ≡ teller_line teller balance) }
+{
+    let number = teller.get();
+    let cents = balance.get();
+    format!(in alloc; "teller {number} balance {cents}\n")
+}
+
+/// The line of an account or a teller.
+pub(crate) fn line_of_holder(
+    alloc: Global,
+    holder: &Holder,
+    balance: Cents,
+) -> Result<String, AllocError>
+    ensures { IfOk result (λ text. string_bytes text ≡ holder_line holder.now balance) }
+{
+    match holder {
+        Holder::Account(account) => line_of_account(alloc, *account, balance),
+        Holder::Teller(teller) => line_of_teller(alloc, *teller, balance),
+    }
 }
 
 // The line of a branch.

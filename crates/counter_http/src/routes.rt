@@ -14,6 +14,8 @@ pub(crate) enum Route {
     Posting,
     /// `/account/` and a number: the balance of the account is read.
     Account,
+    /// `/teller/` and a number: the balance of the teller is read.
+    Teller,
     /// `/branches`: the open branches are read.
     Branches,
     /// `/health`: whether the counter answers.
@@ -59,6 +61,7 @@ fn insert_all(router: &mut Router<Route>) -> Result<(), InsertError>
     router.insert("/health", Route::Health)?;
     router.insert("/log/{after}", Route::Log)?;
     router.insert("/plan", Route::Plan)?;
+    router.insert("/teller/{id}", Route::Teller)?;
     Ok(())
 }
 

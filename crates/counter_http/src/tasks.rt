@@ -5,14 +5,14 @@ ghost use Rattle.counter_http.specs.Next.{asked};
 ghost use Rattle.counter_http.specs.believed.Paths.{path_of};
 ghost use Rattle.counter_http.specs.Tasks.{IsTaskOf, IsTaskOn};
 
-use crate::accounts::account_in;
 use crate::fixed::{bad_request, healthy, not_found, not_taken};
+use crate::holders::{Holder, account_in, teller_in};
 use crate::lines::Listing;
 use crate::next::{Whole, is_head};
 use crate::places::place_in;
 use crate::routes::{Route, Routes, path_of};
 use crate::telling::Response;
-use message_records::{Account, REQUEST_BYTES};
+use message_records::REQUEST_BYTES;
 
 /// What is to be done for a message.
 #[derive(Clone, Copy)]
@@ -21,8 +21,8 @@ pub(crate) enum Task<'b> {
     Say(Response<'static>),
     /// This record is submitted.
     Submit(&'b [u8; REQUEST_BYTES]),
-    /// The balance of this account is read.
-    Balance(Account),
+    /// The balance of this account or teller is read.
+    Balance(Holder),
     /// The open branches are read, and listed so.
     Branches(Listing),
     /// The entries of the log after so many are read.
@@ -65,7 +65,21 @@ fn account_task<'b>(message: &Whole<'b>, path: &[u8]) -> Task<'b>
         return Task::Say(not_taken(b"GET, HEAD"));
     }
     match account_in(path) {
-        Some(account) => Task::Balance(account),
+        Some(account) => Task::Balance(Holder::Account(account)),
+        None => Task::Say(not_found()),
+    }
+}
+
+// At the path of a teller.
+fn teller_task<'b>(message: &Whole<'b>, path: &[u8]) -> Task<'b>
+    requires { path.now ≡ path_of message.now.target.now }
+    ensures { IsTaskOn (Some Route.Teller) (asked message.now) result }
+{
+    if !is_reading(message.method) {
+        return Task::Say(not_taken(b"GET, HEAD"));
+    }
+    match teller_in(path) {
+        Some(teller) => Task::Balance(Holder::Teller(teller)),
         None => Task::Say(not_found()),
     }
 }
@@ -126,6 +140,7 @@ pub(crate) fn task_of<'b>(message: &Whole<'b>, routes: &Routes) -> Task<'b>
         None => Task::Say(not_found()),
         Some(Route::Posting) => posting_task(message),
         Some(Route::Account) => account_task(message, path),
+        Some(Route::Teller) => teller_task(message, path),
         Some(Route::Branches) => branches_task(message),
         Some(Route::Health) => health_task(message),
         Some(Route::Log) => log_task(message, path),

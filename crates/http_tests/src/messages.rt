@@ -101,6 +101,26 @@ const CASES: &[(&[u8], u128, &[u8])] = &[
         b"HTTP/1.1 404 Not Found\r\nContent-Type: text/plain\r\nContent-Length: 14\r\n\r\n404 Not Found\n",
     ),
     (
+        b"GET /teller/1 HTTP/1.1\r\n\r\n",
+        1,
+        b"HTTP/1.1 200 OK\r\nContent-Type: text/plain\r\nContent-Length: 22\r\n\r\nteller 1 balance -200\n",
+    ),
+    (
+        b"HEAD /teller/20 HTTP/1.1\r\n\r\n",
+        1,
+        b"HTTP/1.1 200 OK\r\nContent-Type: text/plain\r\nContent-Length: 20\r\n\r\n",
+    ),
+    (
+        b"GET /teller/21 HTTP/1.1\r\n\r\n",
+        1,
+        b"HTTP/1.1 404 Not Found\r\nContent-Type: text/plain\r\nContent-Length: 14\r\n\r\n404 Not Found\n",
+    ),
+    (
+        b"GET /teller/000000001 HTTP/1.1\r\n\r\n",
+        1,
+        b"HTTP/1.1 404 Not Found\r\nContent-Type: text/plain\r\nContent-Length: 14\r\n\r\n404 Not Found\n",
+    ),
+    (
         b"GET /post HTTP/1.1\r\n\r\n",
         1,
         b"HTTP/1.1 405 Method Not Allowed\r\nContent-Type: text/plain\r\nContent-Length: 23\r\n\

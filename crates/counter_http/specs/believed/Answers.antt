@@ -5,7 +5,7 @@ use Rattle.std.specs.Prelude.{unwrap_or, get_or, replicate, if◌then◌else◌}
 use Rattle.std.specs.Option.{option_and_then}
 use Rattle.std.specs.Fmt.{decimal, signed_decimal}
 use Rattle.http.specs.StatusCode.{reason_phrase, code_digits}
-use Rattle.message_records.specs.declared.limits.TheConstants.{MAX_ACCOUNT}
+use Rattle.message_records.specs.declared.limits.TheConstants.{MAX_ACCOUNT, MAX_TELLER}
 use Rattle.message_records.specs.believed.Ranges.{whole_within}
 use Rattle.message_records.specs.believed.Reading.{number_of}
 use Rattle.message_records.specs.believed.Spelling.{reply_spelling}
@@ -14,10 +14,11 @@ use Rattle.posting_rules.specs.believed.Commands.{Command, opened, Terms}
 use Rattle.posting_rules.specs.believed.Entries.{reply, balance_after, branch_balance, decided}
 use Rattle.message_records.specs.declared.limits.TheConstants.{REQUEST_BYTES}
 use Rattle.posting_core.specs.believed.LogEntries.{entries_given}
-use Rattle.counter_http.specs.declared.limits.TheConstants.{ACCOUNT_DIGITS, PLACE_DIGITS}
+use Rattle.posting_core.specs.believed.Tills.{teller_after}
+use Rattle.counter_http.specs.declared.limits.TheConstants.{ACCOUNT_DIGITS, PLACE_DIGITS, TELLER_DIGITS}
 use Rattle.counter_http.specs.declared.routes.Route.{Route}
-use Rattle.counter_http.specs.declared.routes.Route.TheVariants.{Posting, Account, Branches, Health, Log, Plan}
-use Rattle.counter_http.specs.believed.Paths.{path_of, account_in, place_in, route_of}
+use Rattle.counter_http.specs.declared.routes.Route.TheVariants.{Posting, Account, Teller, Branches, Health, Log, Plan}
+use Rattle.counter_http.specs.believed.Paths.{path_of, account_in, place_in, route_of, teller_in}
 use Rattle.counter_http.specs.believed.Messages.{Message, closes, Ending, Finished, Closed, No_head, No_body}
 use Rattle.counter_http.specs.believed.Messages.{is_head_request}
 
@@ -70,26 +71,40 @@ posted_answer log body =
     then octets (reply_spelling (reply log body))
     else bare 400
 
--- the account that 1 to 12 digits name, the first not 0
-abbrev pub is_account_long : List ℕ → Bool
-is_account_long id = nat_lt 0 (length id) && nat_le (length id) ACCOUNT_DIGITS && not (get_or id 0 0 == 48)
+-- the number from 1 on that up to so many digits name, the first not 0
+abbrev pub is_number_long : ℕ → List ℕ → Bool
+is_number_long digits id = nat_lt 0 (length id) && nat_le (length id) digits && not (get_or id 0 0 == 48)
+
+abbrev pub number_named : ℕ → ℕ → List ℕ → Option ℕ
+number_named digits most id =
+    if is_number_long digits id then option_and_then (whole_within 1 most) (number_of id) else None
 
 abbrev pub account_named : List ℕ → Option ℕ
-account_named id =
-    if is_account_long id then option_and_then (whole_within 1 MAX_ACCOUNT) (number_of id) else None
+account_named id = number_named ACCOUNT_DIGITS MAX_ACCOUNT id
+
+abbrev pub teller_named : List ℕ → Option ℕ
+teller_named id = number_named TELLER_DIGITS MAX_TELLER id
 
 abbrev pub account_line : ℕ → ℤ → List ℕ
 account_line account balance =
     codes "account " ++ decimal account ++ codes " balance " ++ signed_decimal balance ++ codes "\n"
 
--- of an account that is open
-abbrev pub balance_answer : ℕ → Option ℤ → Answer
-balance_answer account None = bare 404
-balance_answer account (Some balance) = plain (account_line account balance)
+abbrev pub teller_line : ℕ → ℤ → List ℕ
+teller_line teller balance =
+    codes "teller " ++ decimal teller ++ codes " balance " ++ signed_decimal balance ++ codes "\n"
+
+-- of an account or a teller that is open
+abbrev pub balance_answer : (ℤ → List ℕ) → Option ℤ → Answer
+balance_answer line None = bare 404
+balance_answer line (Some balance) = plain (line balance)
 
 abbrev pub account_answer : List Command → Option ℕ → Answer
 account_answer log None = bare 404
-account_answer log (Some account) = balance_answer account (balance_after log account)
+account_answer log (Some account) = balance_answer (account_line account) (balance_after log account)
+
+abbrev pub teller_answer : List Command → Option ℕ → Answer
+teller_answer log None = bare 404
+teller_answer log (Some teller) = balance_answer (teller_line teller) (teller_after log teller)
 
 abbrev pub spaces : ℕ → List ℕ
 spaces n = replicate n 32
@@ -156,6 +171,9 @@ answer_on log (Some Posting) asked =
     if bytes_eq asked.method (codes "POST") then posted_answer log asked.body else not_allowed (codes "POST")
 answer_on log (Some Account) asked =
     if is_reading asked.method then account_answer log (account_named (account_in (path_of asked.target)))
+    else not_allowed (codes "GET, HEAD")
+answer_on log (Some Teller) asked =
+    if is_reading asked.method then teller_answer log (teller_named (teller_in (path_of asked.target)))
     else not_allowed (codes "GET, HEAD")
 answer_on log (Some Branches) asked =
     if is_reading asked.method then plain (branch_lines log) else not_allowed (codes "GET, HEAD")

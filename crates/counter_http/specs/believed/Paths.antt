@@ -4,7 +4,7 @@ use Rattle.std.specs.Prelude.{codes, bytes_eq, if◌then◌else◌}
 use Rattle.std.specs.List.{list_any, before_first}
 use Rattle.std.specs.Str.{is_utf8}
 use Rattle.counter_http.specs.declared.routes.Route.{Route}
-use Rattle.counter_http.specs.declared.routes.Route.TheVariants.{Posting, Account, Branches, Health, Log, Plan}
+use Rattle.counter_http.specs.declared.routes.Route.TheVariants.{Posting, Account, Teller, Branches, Health, Log, Plan}
 
 abbrev pub path_of : List ℕ → List ℕ
 path_of target = before_first (λ b. b == 63) target
@@ -25,6 +25,12 @@ is_account_path path = is_part_after (codes "/account/") path
 abbrev pub account_in : List ℕ → List ℕ
 account_in path = drop 9 path
 
+abbrev pub is_teller_path : List ℕ → Bool
+is_teller_path path = is_part_after (codes "/teller/") path
+
+abbrev pub teller_in : List ℕ → List ℕ
+teller_in path = drop 8 path
+
 -- so many requests, as the number is printed
 abbrev pub is_log_path : List ℕ → Bool
 is_log_path path = is_part_after (codes "/log/") path
@@ -40,7 +46,8 @@ route_named path =
     else (if bytes_eq path (codes "/health") then Some Health
     else (if bytes_eq path (codes "/plan") then Some Plan
     else (if is_account_path path then Some Account
-    else (if is_log_path path then Some Log else None)))))
+    else (if is_log_path path then Some Log
+    else (if is_teller_path path then Some Teller else None))))))
 
 unfoldable pub route_of : List ℕ → Option Route
 route_of path = if is_utf8 path then route_named path else None

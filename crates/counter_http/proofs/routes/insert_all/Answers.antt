@@ -11,4 +11,5 @@ returns c =
     let e = c.in_ok-insert-4.ensures in
     let f = c.in_ok-insert-5.ensures in
     let h = c.in_ok-insert-6.ensures in
-    rw (f.1, e.1, d.1, b.1, a.1, c.requires) at h.1
+    let i = c.in_ok-insert-7.ensures in
+    rw (h.1, f.1, e.1, d.1, b.1, a.1, c.requires) at i.1

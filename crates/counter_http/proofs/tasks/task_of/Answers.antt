@@ -1,6 +1,6 @@
 use Rattle.std.proofs.Common.{rules, ◌≡◌, Option, Some, ap, subst, sym, ◌∙◌}
 use Rattle.counter_http.specs.{declared.routes.Route.Route, declared.routes.Route.TheVariants.Account, Next.asked}
-use Rattle.counter_http.specs.declared.routes.Route.TheVariants.{Health, Log, Plan}
+use Rattle.counter_http.specs.declared.routes.Route.TheVariants.{Health, Log, Plan, Teller}
 use Rattle.counter_http.specs.{believed.Paths.route_of, Tasks.IsTaskOn}
 use Rattle.counter_http.proofs.tasks.task_of.Goals as goal
 
@@ -12,6 +12,15 @@ returns-in-Some-Account c =
     ∙ ap route_of c.path_of-path.ensures in
     subst (λ (o : Option Route). IsTaskOn o (asked c.args.message.now) c.account_task.result) route
     c.account_task.ensures
+
+-- the path is that of a teller
+pub returns-in-Some-Teller : goal.returns-in-Some-Teller
+returns-in-Some-Teller c =
+    let teller : c.in-Some-Teller.field-0 ≡ Teller = search rules in
+    let route = sym (c.in-Some-Teller.is ∙ ap (λ (r : Route). Some r) teller) ∙ c.find.ensures
+    ∙ ap route_of c.path_of-path.ensures in
+    subst (λ (o : Option Route). IsTaskOn o (asked c.args.message.now) c.teller_task.result) route
+    c.teller_task.ensures
 
 -- the path is that of the counter's health
 pub returns-in-Some-Health : goal.returns-in-Some-Health

@@ -8,7 +8,7 @@ use Rattle.counter_http.specs.believed.Answers.{answer_to, asked_by, balance_ans
 use Rattle.counter_http.specs.Telling.{said}
 use Rattle.counter_http.specs.declared.parting.Parting.TheVariants as parting
 use Rattle.counter_http.specs.declared.tasks.Task.TheVariants.{Submit}
-use Rattle.posting_rules.specs.believed.Entries.{balance_after}
+use Rattle.counter_http.specs.Holders.{balance_of, holder_line}
 use Rattle.counter_http.proofs.AnsweredTurns.{answers_as, reading_as, submits_as}
 use Rattle.counter_http.proofs.Asked.{answered_nothing, asked_none}
 use Rattle.counter_http.proofs.Fronts.{number_ended}
@@ -57,7 +57,7 @@ returns-in-Say-clause-answers g c =
     (λ h log s. sym (ap (answer_to log) (sym whole.asks)
     ∙ answers_as a log (said c.in-Say.response) (c.in-Say.ensures.1 log)))
 
--- the balance of an account
+-- a balance
 pub returns-in-Balance-clause-answers : goal.returns-in-Balance-clause-answers
 returns-in-Balance-clause-answers g c =
     let whole : IsWhole (take c.args.self.now.filled c.args.self.now.input.items) c.in-Message.message =
@@ -69,7 +69,8 @@ returns-in-Balance-clause-answers g c =
     (none_if c.args.self.now.parting c.is_some.result c.is_some.ensures c.if-is_some.false)
     (ap is_posting (sym whole.asks) ∙ submits_as a false c.in-Balance.ensures.0) c.read_balance-read.ensures.asked
     (reading_as (g.C.Counter.seen c.read_balance-read.new.bank).honest (g.C.Counter.seen c.args.bank.now)
-    c.read_balance-read.result (λ log. balance_answer c.in-Balance.account (balance_after log c.in-Balance.account))
+    c.read_balance-read.result
+    (λ log. balance_answer (holder_line c.in-Balance.holder) (balance_of log c.in-Balance.holder))
     (asked_by whole.message)
     (λ log. ap (answer_to log) (sym whole.asks) ∙ answers_as a log _ (c.in-Balance.ensures.1 log))
     c.read_balance-read.ensures.answer)
