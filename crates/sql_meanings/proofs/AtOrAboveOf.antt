@@ -2,7 +2,7 @@
 use Rattle.sql_meanings.specs.Names.{Bool, ℕ, List, [], map, Ok, Some, None, true, false, Program, Select, lit, col}
 use Rattle.sql_meanings.specs.Names.{op2, Value, Schema, Table, Expr, out-Expr, Expr-F, Core, Shown, Sort, out-Sort}
 use Rattle.sql_meanings.specs.Names.{Parsed, Inner, Output, Carried, integer, nothing, alone, Name, declared}
-use Rattle.sql_meanings.specs.Names.{alias_of, number, affinity_of, ungrouped, lower_to, both, source, whole}
+use Rattle.sql_meanings.specs.Names.{alias_of, number, affinity_of, ungrouped, lower_to, both, source}
 use Rattle.sql_meanings.specs.Names.{compiled, first, with_command}
 use Rattle.sql_meanings.proofs.Names.{suc, nat_lt, ap, ◌∙◌}
 use Rattle.sqlite_value.specs.declared.keys.Collation.TheVariants.{Binary}

@@ -21,7 +21,7 @@ use Rattle.sql_meanings.specs.believed.Tables.{tree_of}
 use Rattle.sql_meanings.proofs.{Defining.defined_stands, Keyed.WritesAs, OnlyShowing.no_rows_error}
 use Rattle.sql_meanings.proofs.PlainReads.{first_answers, none_or_fails}
 use Rattle.sql_meanings.proofs.ReadTables.{ReadsAs, overlay_low}
-use Rattle.sql_meanings.proofs.{RowsUnder.answer_under, TablesBeside.standing, TablesBeside.trees_apart}
+use Rattle.sql_meanings.proofs.{RowsUnder.answer_under, TablesBeside.Standing, TablesBeside.standing, TablesBeside.trees_apart}
 use Rattle.sql_meanings.proofs.{UnderKeys.cast_under, UnderKeys.others_left, UnderKeys.others_put, UnderKeys.put_under}
 use Rattle.sql_meanings.proofs.{UnderKeys.taken_out, Writing.Wrote, Writing.inserts, Writing.uncounted}
 use Rattle.sql_meanings.proofs.{Writing.updates, PutRows.PutsEachAs, TableWrites.IsPlain}
@@ -131,7 +131,7 @@ pub record SetsUnder (old new : State) (table : Table) (k : ℤ) (set : Row → 
   pub there : Has (rows_under new.now table k) (set was)
   pub sound : IsDatabase new.now
 
-module _ (old new : State) (table : Table) (free : table.references ≡ []) (sound : ∥ IsDatabase old.now ∥₁)
+module _ (old new : State) (table : Table) (free : table.references ≡ []) (at : Standing old.now.schema table)
     (defined : Defines old.now.schema table) (text : List ℕ) (k : ℤ) (more : Row) (project : List Term)
     (writes : WritesAs table text (Int k ∷ more) project)
     (keyed : (r : Row) → (column (eval_all project ((Int k ∷ more) ∷ r ∷ [])) 0 ≡ column r 0)
@@ -167,7 +167,6 @@ module _ (old new : State) (table : Table) (free : table.references ≡ []) (sou
 
   pub sets_under : Executes text (Int k ∷ more) old new (Ok 1) → SetsUnder old new table k set_as
   sets_under h =
-      let at = standing old.now table free sound defined in
       let wrote = updates old new text (Int k ∷ more) at.place (placed_at table tree) at.has.listed at.stands 1 _
       (writes.means old.now.schema at.place tree at.has) h in
       let moved = subst (λ l. IsPermutation (map given (filter (has_rowid k) l)) wrote.0)

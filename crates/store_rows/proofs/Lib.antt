@@ -1,6 +1,7 @@
 -- What each statement means of the tables of a bank, and what it leaves of them.
 pub mod AddMeta
 pub mod Checked
+pub mod Counted
 pub mod CreateTexts
 pub mod CreationEnds
 pub mod CreationSteps

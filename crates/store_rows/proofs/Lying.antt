@@ -22,7 +22,7 @@ use Rattle.sql_meanings.proofs.Keyed.{WritesAs}
 use Rattle.sql_meanings.specs.believed.Tables.{placed_at, tree_of}
 use Rattle.sqlite_rules.specs.Cast.{cast_row}
 use Rattle.sql_meanings.proofs.KeyedRows.{none_under, puts_beside, sets_under, shows_under}
-use Rattle.sql_meanings.proofs.{PutRows.PutsEachAs, ReadTables.ReadsAs}
+use Rattle.sql_meanings.proofs.{PutRows.PutsEachAs, ReadTables.ReadsAs, TablesBeside.standing}
 use Rattle.store_rows.specs.believed.BankTables.{bank_tables}
 use Rattle.store_rows.specs.{Faults.added, Failures.ReadsAnswer, Statements.PutsRow, Statements.RunsUnder}
 use Rattle.store_rows.specs.believed.Readings.{Reading}
@@ -120,7 +120,7 @@ whole_kept v n is = ap (cast Integer) is ∙ cast_int n
 pub in_limit : (z : ℤ) → neg_ℤ (pos MAX_BALANCE) ≤ℤ z → z ≤ℤ pos MAX_BALANCE → nat_abs z ≤ MAX_BALANCE
 in_limit z least most = omega (arith, ints)
 
-met_one : (count : ℕ) → true ≡ nat_eq count 1 → count ≡ 1
+pub met_one : (count : ℕ) → true ≡ nat_eq count 1 → count ≡ 1
 met_one count is = eqb-true count 1 (sym is)
 
 module _ (place : ℕ) (table : Table) (listed : slice_get bank_tables place ≡ Some table) (text : List ℕ) (k : ℕ)
@@ -145,8 +145,8 @@ module _ (place : ℕ) (table : Table) (listed : slice_get bank_tables place ≡
       let ran = subst (λ n. ExecutesInside 0 text (Int (pos k) ∷ Int z ∷ []) before after (Ok n))
       (met_one it.0 it.2) it.1 in
       let own = all_has (λ (t : Table). t.references ≡ []) bank_tables table free (has_got bank_tables place table listed) in
-      let left = sets_under before after table own file.sound
-      (defined before.now file place table listed) text (pos k) (Int z ∷ []) project writes keyed ran.0 in (
+      let it_is = defined before.now file place table listed in
+      let left = sets_under before after table own (standing before.now table own file.sound it_is) it_is text (pos k) (Int z ∷ []) project writes keyed ran.0 in (
         record {
           beside = left_beside before after table file left.beside ∣ left.sound ∣₁;
           others = left.others;

@@ -45,7 +45,7 @@ only_one xs x y is had = go (subst (λ l. Has l y) is had)
     go (inl same) = same
     go (inr none) = absurd none
 
-number_ok : (v : Value) (z : ℤ) → number v ≡ Ok z → v ≡ Int z
+pub number_ok : (v : Value) (z : ℤ) → number v ≡ Ok z → v ≡ Int z
 number_ok (Int y) z is = let same : y ≡ z = cc in ap (λ x. Int x) same
 number_ok Null z is = absurd cc
 number_ok (Real x) z is = absurd cc

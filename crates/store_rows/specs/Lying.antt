@@ -9,6 +9,7 @@ use Rattle.sqlite.specs.Order.{Row, column}
 use Rattle.sqlite.specs.State.{HasCleanDisk}
 use Rattle.sqlite.specs.Table.{Table}
 use Rattle.sqlite.specs.declared.transaction.Transaction.{Transaction}
+use Rattle.sqlite.specs.declared.types.Value.TheVariants.{Int}
 use Rattle.sqlite_rules.specs.Lists.{Has}
 use Rattle.sqlite_trees.specs.declared.store.Store.{Ghosts}
 use Rattle.posting_rules.specs.declared.rows.BranchRow.{BranchRow}
@@ -56,6 +57,10 @@ BalanceLies (Teller teller) = LiesAs bank.teller (λ row. column row 2 ∷ []) b
 -- the row of the bank
 abbrev pub MetaLies : Database → Option StoredMeta → Type 0
 MetaLies = LiesAs bank.meta (λ row. column row 2 ∷ column row 3 ∷ []) meta_of META_ID
+
+-- the row of the bank counts so many decided requests, whatever else it has
+abbrev pub CountLies : Database → ℕ → Type 0
+CountLies db n = (row : Row) × Has (rows_under db bank.meta (pos META_ID)) row × (column row 3 ≡ Int (pos n))
 
 -- ---- what a look-up finds
 
@@ -113,3 +118,14 @@ SetsBalance (holder.Branch branch) balance old new = (row : BranchRow) → Branc
 abbrev pub SetsDecided : ℕ → Database → Database → Type 0
 SetsDecided decided old new = (row : StoredMeta) → MetaLies old (Some row)
     → MetaLies new (Some (record row { decided = pos decided }))
+
+-- after a call inside a transaction the row of the bank counts so many, if the file is a bank's
+abbrev pub Counts : {S : Type 0} → Ghosts S → Transaction S → Transaction S → ℕ → Type 0
+Counts g old new n = HasCleanDisk (state g new.conn.now) → IsTrue (state g old.conn.now).in_transaction
+    → IsBankFile (state g new.conn.now).now → CountLies (state g new.conn.now).now n
+
+-- it was written
+abbrev pub SetsCount : {S E : Type 0} → Ghosts S → Transaction S → Transaction S → ℕ → Result Bool E → Type 0
+SetsCount g old new n (Ok true) = Counts g old new n
+SetsCount g old new n (Ok false) = ⊤
+SetsCount g old new n (Err e) = ⊤

@@ -11,7 +11,7 @@ ghost use Rattle.sqlite.specs.declared.types.Value.TheVariants.{Int};
 ghost use Rattle.store_rows.specs.believed.Columns.{meta_in};
 ghost use Rattle.store_rows.specs.Columns.{meta_shown};
 ghost use Rattle.store_rows.specs.Failures.{Asks, Changes, Looks};
-ghost use Rattle.store_rows.specs.Lying.{FindsLying, MetaLies, SetsDecided, SetsLying};
+ghost use Rattle.store_rows.specs.Lying.{FindsLying, MetaLies, SetsCount, SetsDecided, SetsLying};
 ghost use Rattle.store_rows.specs.Migration.{SetsVersion};
 ghost use Rattle.store_rows.specs.TableAnswers.{FindsMeta};
 ghost use Rattle.store_rows.specs.declared.texts.TheConstants.{SET_META, SET_VERSION};
@@ -90,6 +90,7 @@ pub fn set_decided<S: Alter>(tx: &mut Transaction<'_, S>, decided: u64) -> Resul
         (with_decided decided) result }
     // Whatever rows the file holds.
     ensures lies { SetsLying S.Store tx.old tx.new table id (SetsDecided decided) result }
+    ensures counts { SetsCount S.Store tx.old tx.new decided result }
 {
     write_under(tx, SET_META, META_ID, decided as i64)
 }

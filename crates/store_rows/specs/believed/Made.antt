@@ -1,5 +1,5 @@
 -- What statements that write make of a database, be the tables that they name a bank's or not.
-use Rattle.std.specs.Prelude.{◌≡◌, ℕ, List, [], ◌∷◌, Option, Ok, false, OnOk, Result}
+use Rattle.std.specs.Prelude.{◌≡◌, ℕ, List, [], ◌∷◌, Option, Ok, false}
 use Rattle.std.specs.List.{AllByRecursion}
 use Rattle.sqlite.specs.Clock.{timed}
 use Rattle.sqlite.specs.Does.{Does, Tally}

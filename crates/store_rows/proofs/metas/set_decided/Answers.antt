@@ -1,6 +1,6 @@
 -- What the write leaves.
 use Rattle.std.proofs.Common.{refl, rules, arith}
-use Rattle.store_rows.proofs.{Lookups.as_integer, LyingRows.decided_set, MetaRow.tells_decided}
+use Rattle.store_rows.proofs.{Counted.count_set, Lookups.as_integer, LyingRows.decided_set, MetaRow.tells_decided}
 use Rattle.store_rows.proofs.{SparedTexts.spared_met, SparedTexts.spares}
 use Rattle.store_rows.proofs.metas.set_decided.Goals as goal
 
@@ -24,4 +24,8 @@ returns-clause-sets g c = record {
 
 pub returns-clause-lies : goal.returns-clause-lies
 returns-clause-lies g c = decided_set g.S.Store _ _ c.args.decided c.write_under.result
+    (rw (as_integer c.args.decided c.args.decided refl (omega arith)) at c.write_under.ensures)
+
+pub returns-clause-counts : goal.returns-clause-counts
+returns-clause-counts g c = count_set g.S.Store _ _ c.args.decided c.write_under.result
     (rw (as_integer c.args.decided c.args.decided refl (omega arith)) at c.write_under.ensures)
