@@ -15,6 +15,7 @@ pub mod ShownSlots
 pub mod Statements
 pub mod Transacted
 pub mod LookUps
+pub mod Remembered
 pub mod Loops
 pub mod OwnRows
 pub mod Partly

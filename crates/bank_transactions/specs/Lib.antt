@@ -12,4 +12,5 @@ pub mod Writing
 pub mod Additions
 pub mod InTurn
 pub mod Batches
+pub mod Memory
 pub mod Tries

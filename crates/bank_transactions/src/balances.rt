@@ -1,10 +1,10 @@
 //! The balances that a posting changes are written. A row that is written was looked up, so it is there, or
 //! its rule is broken.
-ghost use Rattle.std.specs.Prelude.{◌≡◌, ◌≤◌, ⊤};
+ghost use Rattle.std.specs.Prelude.{◌≡◌, ◌≤◌, ⊤, OnOk};
 ghost use Rattle.posting_rules.specs.believed.Changes.{with_decided};
 ghost use Rattle.store_rows.specs.believed.Failures.{IsUpdateOf};
 ghost use Rattle.store_rows.specs.Holders.{HasRow, holder_update, with_balance};
-ghost use Rattle.store_rows.specs.Lying.{holder_key};
+ghost use Rattle.store_rows.specs.Lying.{Counts, holder_key};
 ghost use Rattle.store_rows.specs.believed.Inserts.{meta_key, meta_update};
 ghost use Rattle.bank_transactions.specs.believed.Additions.{WritesUnder};
 ghost use Rattle.bank_transactions.specs.Doing.{Does, expected};
@@ -51,8 +51,10 @@ pub fn write_balance<S: Alter>(
 /// Writes how many requests are decided.
 pub fn write_decided<S: Alter>(tx: &mut Transaction<'_, S>, decided: u64) -> Result<(), TableFault>
     requires { decided ≤ MAX_DECIDED }
-    ensures { Does S.Store (WritesUnder meta_update meta_key) tx.old tx.new (λ _. ⊤) (with_decided decided) (λ _. tt)
-        result }
+    ensures does { Does S.Store (WritesUnder meta_update meta_key) tx.old tx.new (λ _. ⊤) (with_decided decided)
+        (λ _. tt) result }
+    // Whatever rows the file holds.
+    ensures counts { OnOk result (Counts S.Store tx.old tx.new decided) }
 {
     expect_row(set_decided(tx, decided), Rule::Meta)
 }

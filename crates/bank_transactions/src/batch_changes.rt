@@ -12,7 +12,7 @@ ghost use Rattle.sqlite_rules.specs.Lists.{Has};
 ghost use Rattle.store_rows.specs.believed.Failures.{Additions};
 ghost use Rattle.posting_batch.specs.Slots.{account_slot_key, branch_slot_key, teller_slot_key};
 ghost use Rattle.store_rows.specs.Holders.{HasRow, holder_update, with_balance};
-ghost use Rattle.store_rows.specs.Lying.{holder_key};
+ghost use Rattle.store_rows.specs.Lying.{Counts, holder_key};
 ghost use Rattle.store_rows.specs.believed.Inserts.{account_update, branch_update, teller_update};
 ghost use Rattle.store_rows.specs.SeveralRows.{PutsNew};
 ghost use Rattle.bank_transactions.specs.believed.Additions.{AddsPostings, AddsReferences};
@@ -250,8 +250,10 @@ pub(crate) fn write_after<S: Alter>(
     tx: &mut Transaction<'_, S>,
     overlay: &Overlay,
 ) -> Result<(), TableFault>
-    ensures { Does S.Store (AddsNew (view overlay.now)) tx.old tx.new (MayWriteAfter (view overlay.now))
+    ensures does { Does S.Store (AddsNew (view overlay.now)) tx.old tx.new (MayWriteAfter (view overlay.now))
         (after_requests (view overlay.now)) (λ _. tt) result }
+    // Whatever rows the file holds.
+    ensures counts { OnOk result (Counts S.Store tx.old tx.new overlay.now.decided) }
 {
     make_all(tx, &overlay.accounts)?;
     make_all(tx, &overlay.tellers)?;
@@ -263,10 +265,12 @@ pub(crate) fn write_after<S: Alter>(
 
 /// Writes what a batch has changed, each row once, and how many requests are decided.
 pub fn write<S: Alter>(tx: &mut Transaction<'_, S>, overlay: &Overlay) -> Result<(), TableFault>
-    ensures { Does S.Store (AddsNew (view overlay.now)) tx.old tx.new
+    ensures does { Does S.Store (AddsNew (view overlay.now)) tx.old tx.new
         (λ tables. AreBranchNumbers (view overlay.now).branches × HasRisingSlots (view overlay.now)
         × ChangesRows (view overlay.now) tables × AddsFreeRows (view overlay.now) tables)
         (λ tables. tables_over (view overlay.now) tables) (λ _. tt) result }
+    // Whatever rows the file holds.
+    ensures counts { OnOk result (Counts S.Store tx.old tx.new overlay.now.decided) }
 {
     put_requests(tx, &overlay.requests)?;
     write_after(tx, overlay)

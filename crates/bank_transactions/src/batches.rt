@@ -9,7 +9,7 @@
 //! ```rust
 //! ghost use Rattle.std.specs.Prelude.{◌≡◌, false};
 //!
-//! use bank_transactions::post_all;
+//! use bank_transactions::{Memory, post_all};
 //! use message_records::{Moment, REQUEST_BYTES};
 //! use posting_batch::{Batch, Replies};
 //! use sqlite::{Alter, Connection};
@@ -25,7 +25,7 @@
 //! {
 //!     let batch = Batch::new(alloc, &[*record, *record])?;
 //!     let moment = Moment::new(1_795_442_400).unwrap();
-//!     Ok(post_all(conn, moment, batch)?)
+//!     Ok(post_all(conn, &mut Memory::new(), moment, batch)?)
 //! }
 //! ```
 //!
@@ -45,13 +45,14 @@ ghost use Rattle.bank_transactions.specs.believed.Additions.{AddsForRecords};
 ghost use Rattle.bank_transactions.specs.Doing.{Acts, Transacts};
 ghost use Rattle.bank_transactions.specs.believed.Batches.{DecidesNone, HasRoomFor};
 ghost use Rattle.bank_transactions.specs.Batches.{items_of, WritesNothing, KeepsOnly, RepliesLookedUp};
+ghost use Rattle.bank_transactions.specs.Memory.{Keeps, Remembers};
 ghost use Rattle.bank_transactions.specs.believed.Stored.{RepliesToAllStored};
 ghost use Rattle.bank_transactions.specs.Undone.{UndoesFaults};
 
 use crate::batch_changes::write;
 use crate::first_try::{Tried, try_new};
 use crate::slots::fill;
-use crate::{begin, finish};
+use crate::{Memory, begin, finish};
 use message_records::Moment;
 use posting_batch::{Batch, Replies};
 use sqlite::{Alter, Connection, Transaction};
@@ -60,9 +61,12 @@ use store_rows::{TableFault, other_table};
 /// Answers the records that a batch is made of, in order. A batch in which nothing is decided writes nothing.
 pub fn answer_batch<S: Alter>(
     tx: &mut Transaction<'_, S>,
+    memory: &mut Memory,
     moment: Moment,
     mut batch: Batch,
 ) -> Result<Replies, TableFault>
+    requires { ∥ Remembers S.Store tx.old.conn.now memory.old ∥₁ }
+    ensures same_reference { tx.new.conn.ghost_name ≡ tx.old.conn.ghost_name }
     ensures says { (records : List (List ℕ)) → IsMadeOf batch records
         → Acts S.Store (AddsForRecords (state S.Store tx.old.conn.now).now records) tx.old tx.new
         (HasRoomFor (length records)) (λ tables. tables_past_all tables moment records)
@@ -78,12 +82,14 @@ pub fn answer_batch<S: Alter>(
         → (records : List (List ℕ)) → IsMadeOf batch records
         → RepliesLookedUp (state S.Store tx.old.conn.now).now (state S.Store tx.new.conn.now).now moment records
         replies.items) }
+    ensures remembers { OnOk result (∥ Keeps S.Store tx.old tx.new memory.new ∥₁) }
 {
-    fill(tx, &mut batch.overlay)?;
+    fill(tx, memory, &mut batch.overlay)?;
     let before = batch.overlay.decided;
     let judged = batch.judge(moment);
     if judged.overlay.decided != before {
         write(tx, &judged.overlay)?;
+        memory.note(judged.overlay.decided);
     }
     Ok(judged.into_replies())
 }
@@ -96,10 +102,12 @@ pub fn answer_batch<S: Alter>(
 /// As [`open_branch`](crate::open_branch).
 pub fn post_looked_up<S: Alter>(
     conn: &mut Connection<S>,
+    memory: &mut Memory,
     moment: Moment,
     batch: Batch,
 ) -> Result<Replies, TableFault>
-    requires { conn.old.in_transaction ≡ false }
+    requires mode { conn.old.in_transaction ≡ false }
+    requires remembers { ∥ Remembers S.Store conn.old memory.old ∥₁ }
     ensures says { (records : List (List ℕ)) → IsMadeOf batch records
         → Transacts S.Store (AddsForRecords (state S.Store conn.old).now records) conn.old conn.new
         (HasRoomFor (length records)) (λ tables. tables_past_all tables moment records)
@@ -117,9 +125,11 @@ pub fn post_looked_up<S: Alter>(
         replies.items) }
     ensures undone { (records : List (List ℕ)) → IsMadeOf batch records
         → UndoesFaults S.Store conn.old conn.new (items_of result) }
+    // After an error all has to be forgotten.
+    ensures remembers { OnOk result (∥ Remembers S.Store conn.new memory.new ∥₁) }
 {
     let mut tx = begin(conn);
-    let replies = answer_batch(&mut tx, moment, batch);
+    let replies = answer_batch(&mut tx, memory, moment, batch);
     finish(tx, replies)
 }
 
@@ -141,10 +151,12 @@ fn is_tried<S: Alter>(conn: &Connection<S>, batch: &Batch) -> bool
 /// them is decided, the tables are as they were, and a crash leaves nothing else.
 pub fn post_all<S: Alter>(
     conn: &mut Connection<S>,
+    memory: &mut Memory,
     moment: Moment,
     batch: Batch,
 ) -> Result<Replies, TableFault>
-    requires { conn.old.in_transaction ≡ false }
+    requires mode { conn.old.in_transaction ≡ false }
+    requires remembers { ∥ Remembers S.Store conn.old memory.old ∥₁ }
     ensures says { (records : List (List ℕ)) → IsMadeOf batch records
         → Transacts S.Store (AddsForRecords (state S.Store conn.old).now records) conn.old conn.new
         (HasRoomFor (length records)) (λ tables. tables_past_all tables moment records)
@@ -162,12 +174,14 @@ pub fn post_all<S: Alter>(
         replies.items) }
     ensures undone { (records : List (List ℕ)) → IsMadeOf batch records
         → UndoesFaults S.Store conn.old conn.new (items_of result) }
+    // After an error all has to be forgotten.
+    ensures remembers { OnOk result (∥ Remembers S.Store conn.new memory.new ∥₁) }
 {
     if !is_tried(conn, &batch) {
-        return post_looked_up(conn, moment, batch);
+        return post_looked_up(conn, memory, moment, batch);
     }
-    match try_new(conn, moment, batch)? {
+    match try_new(conn, memory, moment, batch)? {
         Tried::Answered(replies) => Ok(replies),
-        Tried::Again(batch) => post_looked_up(conn, moment, batch),
+        Tried::Again(batch) => post_looked_up(conn, memory, moment, batch),
     }
 }

@@ -1,6 +1,6 @@
 //! A batch is tried as if none of its requests were kept, which spares them their look-ups. Where the first one is
 //! kept, or the INSERT of one says otherwise, all is undone.
-ghost use Rattle.std.specs.Prelude.{◌≡◌, ◌&&◌, ◌==◌, not, ℕ, List, length, false, true, is_some, IfSome, IsTrue, None, ⊤};
+ghost use Rattle.std.specs.Prelude.{◌≡◌, ◌&&◌, ◌==◌, not, ℕ, List, length, false, true, is_some, IfSome, IsTrue, None, OnOk, ⊤};
 ghost use Rattle.sqlite.specs.State.{HasCleanDisk, KeepsCommit};
 ghost use Rattle.sqlite.specs.Held.{state};
 ghost use Rattle.posting_rules.specs.believed.Changes.{tables_past_all, replies_past_all};
@@ -15,6 +15,7 @@ ghost use Rattle.bank_transactions.specs.Additions.{AddsTried};
 ghost use Rattle.bank_transactions.specs.believed.Additions.{AddsForRecords};
 ghost use Rattle.bank_transactions.specs.believed.Batches.{DecidesNone, HasRoomFor};
 ghost use Rattle.bank_transactions.specs.Doing.{Acts, Reads, Transacts};
+ghost use Rattle.bank_transactions.specs.Memory.{Keeps, Remembers};
 ghost use Rattle.bank_transactions.specs.believed.Stored.{RepliesToAllStored};
 ghost use Rattle.bank_transactions.specs.Tries.{IsAsBefore, IsMadeAgain, answer_of, batch_of, replies_of};
 ghost use Rattle.bank_transactions.specs.Tries.{first_kept, may_be_kept};
@@ -22,7 +23,7 @@ ghost use Rattle.bank_transactions.specs.Undone.{UndoesFaults};
 
 use crate::batch_changes::{put_requests, write_after};
 use crate::slots::fill_known;
-use crate::{begin, finish, kept_request};
+use crate::{Memory, begin, finish, kept_request};
 use message_records::Moment;
 use posting_batch::{Batch, Overlay, Replies, RequestSlot};
 use sqlite::{Alter, Connection, Constraint, Error, ErrorCode, Transaction};
@@ -80,9 +81,11 @@ fn keeps_first<S: Alter>(tx: &mut Transaction<'_, S>, overlay: &Overlay) -> Resu
 // anything else is written, so that the INSERTs see what was there: who is put in was not kept.
 fn answer_unkept<S: Alter>(
     tx: &mut Transaction<'_, S>,
+    memory: &mut Memory,
     moment: Moment,
     mut batch: Batch,
 ) -> Result<Tried, TableFault>
+    requires { ∥ Remembers S.Store tx.old.conn.now memory.old ∥₁ }
     ensures says { IfSome (answer_of result) (λ answer. (records : List (List ℕ)) → IsMadeOf batch records
         → Acts S.Store (AddsTried (state S.Store tx.old.conn.now).now records) tx.old tx.new
         (HasRoomFor (length records)) (λ tables. tables_past_all tables moment records)
@@ -100,8 +103,9 @@ fn answer_unkept<S: Alter>(
         replies) }
     ensures again { IfSome (batch_of result) (IsMadeAgain batch) }
     ensures quiet { Says S.Store tx.old tx.new (λ _ _. ⊤) (Inside KeepsCommit) }
+    ensures remembers { IfSome (replies_of result) (λ _. ∥ Keeps S.Store tx.old tx.new memory.new ∥₁) }
 {
-    fill_known(tx, &mut batch.overlay)?;
+    fill_known(tx, memory, &mut batch.overlay)?;
     let before = batch.overlay.decided;
     let judged = batch.judge(moment);
     if !all_decided(&judged.overlay, before) {
@@ -110,6 +114,7 @@ fn answer_unkept<S: Alter>(
     match put_requests(tx, &judged.overlay.requests) {
         Ok(()) => {
             write_after(tx, &judged.overlay)?;
+            memory.note(judged.overlay.decided);
             Ok(Tried::Answered(judged.into_replies()))
         }
         Err(fault) if may_be_kept(&fault) => Ok(Tried::Again(judged.again())),
@@ -120,9 +125,11 @@ fn answer_unkept<S: Alter>(
 // Answers the records so, unless the first request is kept: a batch that was sent again is mostly kept whole.
 fn answer_new<S: Alter>(
     tx: &mut Transaction<'_, S>,
+    memory: &mut Memory,
     moment: Moment,
     batch: Batch,
 ) -> Result<Tried, TableFault>
+    requires { ∥ Remembers S.Store tx.old.conn.now memory.old ∥₁ }
     ensures says { IfSome (answer_of result) (λ answer. (records : List (List ℕ)) → IsMadeOf batch records
         → Acts S.Store (AddsTried (state S.Store tx.old.conn.now).now records) tx.old tx.new
         (HasRoomFor (length records)) (λ tables. tables_past_all tables moment records)
@@ -140,21 +147,24 @@ fn answer_new<S: Alter>(
         replies) }
     ensures again { IfSome (batch_of result) (IsMadeAgain batch) }
     ensures quiet { Says S.Store tx.old tx.new (λ _ _. ⊤) (Inside KeepsCommit) }
+    ensures remembers { IfSome (replies_of result) (λ _. ∥ Keeps S.Store tx.old tx.new memory.new ∥₁) }
 {
     if keeps_first(tx, &batch.overlay)? {
         return Ok(Tried::Again(batch));
     }
-    answer_unkept(tx, moment, batch)
+    answer_unkept(tx, memory, moment, batch)
 }
 
 /// Tries a batch as if none of its requests were kept. Where one may be, nothing was done. That an INSERT tells of
 /// it rests on the tables as they are made.
 pub(crate) fn try_new<S: Alter>(
     conn: &mut Connection<S>,
+    memory: &mut Memory,
     moment: Moment,
     batch: Batch,
 ) -> Result<Tried, TableFault>
     requires mode { conn.old.in_transaction ≡ false }
+    requires remembers { ∥ Remembers S.Store conn.old memory.old ∥₁ }
     requires made { IsOtherTable (state S.Store conn.old).now.schema None }
     ensures says { IfSome (answer_of result) (λ answer. (records : List (List ℕ)) → IsMadeOf batch records
         → Transacts S.Store (AddsForRecords (state S.Store conn.old).now records) conn.old conn.new
@@ -172,11 +182,13 @@ pub(crate) fn try_new<S: Alter>(
         → UndoesFaults S.Store conn.old conn.new answer) }
     ensures again { IfSome (batch_of result) (λ again. IsMadeAgain batch again
         × IsAsBefore S.Store conn.old conn.new) }
+    ensures remembers { OnOk result (∥ Remembers S.Store conn.new memory.new ∥₁) }
 {
     let mut tx = begin(conn);
-    let tried = answer_new(&mut tx, moment, batch);
+    let tried = answer_new(&mut tx, memory, moment, batch);
     if let Ok(Tried::Again(batch)) = tried {
         tx.rollback();
+        memory.forget();
         // The store is asked whether it is open still.
         probe_table(conn, BankTable::Meta)?;
         return Ok(Tried::Again(batch));

@@ -12,7 +12,7 @@
 //! ```rust
 //! ghost use Rattle.std.specs.Prelude.{◌≡◌, false};
 //!
-//! use bank_transactions::{open_branch, post_looked_up};
+//! use bank_transactions::{Memory, open_branch, post_looked_up};
 //! use message_records::{Account, Branch, Cents, Moment, Number, Request, Teller};
 //! use posting_batch::{Batch, Replies};
 //! use sqlite::{Alter, Connection};
@@ -35,7 +35,8 @@
 //!         None,
 //!     );
 //!     let batch = Batch::of_one(alloc, request.unwrap());
-//!     post_looked_up(conn, Moment::new(1_795_442_400).unwrap(), batch)
+//!     let moment = Moment::new(1_795_442_400).unwrap();
+//!     post_looked_up(conn, &mut Memory::new(), moment, batch)
 //! }
 //! ```
 //!
@@ -51,7 +52,9 @@ mod batch_changes;
 mod batches;
 mod first_try;
 mod floors;
+mod known;
 mod look_ups;
+mod memory;
 mod new_branch;
 mod next_branch;
 mod slots;
@@ -61,6 +64,7 @@ pub use balances::{write_balance, write_decided};
 pub use batch_changes::write;
 pub use batches::{answer_batch, post_all, post_looked_up};
 pub use look_ups::{branch_at, decided, kept_request, open_balance, teller_balances};
+pub use memory::Memory;
 pub use next_branch::read_next_branch;
 pub use slots::fill;
 pub use transactions::{begin, finish, note_settled, open_branch, read_balance, read_teller};

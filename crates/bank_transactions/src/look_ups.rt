@@ -7,6 +7,7 @@ ghost use Rattle.posting_rules.specs.believed.LookUps.{teller_balances_in, accou
 ghost use Rattle.posting_rules.specs.believed.Tables.{row_at, branch_key};
 ghost use Rattle.sqlite.specs.Held.{state};
 ghost use Rattle.sqlite.specs.State.{HasCleanDisk};
+ghost use Rattle.store_rows.specs.Lying.{CountLies, FindsLying};
 ghost use Rattle.store_rows.specs.believed.Readings.{read_branch};
 ghost use Rattle.store_rows.specs.believed.Rules.{branch_under, row_under, OfRows};
 ghost use Rattle.store_rows.specs.believed.Stored.{FindsStored};
@@ -152,6 +153,8 @@ pub fn decided<S: Alter>(tx: &mut Transaction<'_, S>) -> Result<u64, TableFault>
     ensures says { Reads S.Store tx.old tx.new (λ tables. tables.decided) result }
     ensures stored { IfOk result (λ decided. HasCleanDisk (state S.Store tx.new.conn.now)
         → OfRows (λ rows. HoldsDecided rows decided) (state S.Store tx.old.conn.now).now) }
+    // Whatever rows the file holds.
+    ensures lies { FindsLying S.Store tx.old tx.new CountLies result }
 {
     let Some(meta) = read_meta(tx)? else {
         return Err(TableFault::Damaged(Rule::Meta));

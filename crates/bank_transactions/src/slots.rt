@@ -20,10 +20,12 @@ ghost use Rattle.bank_transactions.specs.Filling.{handing, HasBranch, HoldsBranc
 ghost use Rattle.bank_transactions.specs.Filling.{AreHeld, AreKnown, AreShown, HasOwnRow, TellsFloor, TellsStored};
 ghost use Rattle.bank_transactions.specs.Filling.{emptied};
 ghost use Rattle.bank_transactions.specs.believed.Stored.{HoldsAccount, HoldsFloor};
+ghost use Rattle.bank_transactions.specs.Memory.{Remembers};
 ghost use Rattle.bank_transactions.specs.Stored.{HoldsTellerRow};
 
 use crate::floors::{balance_and_floor, floor_at, is_below};
-use crate::{branch_at, decided, kept_request, teller_balances};
+use crate::known::known_decided;
+use crate::{Memory, branch_at, kept_request, teller_balances};
 use message_records::{Account, Cents, Teller};
 use posting_batch::{
     AccountSlot, BranchSlot, FloorSlot, Overlay, RequestSlot, TellerSlot, stored_branch,
@@ -310,8 +312,10 @@ fn fill_all<S: Alter, T: Slot>(
 /// how many requests are decided.
 pub(crate) fn fill_known<S: Alter>(
     tx: &mut Transaction<'_, S>,
+    memory: &mut Memory,
     overlay: &mut Overlay,
 ) -> Result<(), TableFault>
+    requires { ∥ Remembers S.Store tx.old.conn.now memory.old ∥₁ }
     ensures new_rows { (overlay.new.history ≡ overlay.old.history)
         × (overlay.new.requests ≡ overlay.old.requests)
         × (overlay.new.references ≡ overlay.old.references) × (overlay.new.kept ≡ overlay.old.kept) }
@@ -325,8 +329,9 @@ pub(crate) fn fill_known<S: Alter>(
         → OfRows (λ rows. AreKnown rows (view overlay.new)) (state S.Store tx.old.conn.now).now) }
     ensures own { OnOk result (HasCleanDisk (state S.Store tx.new.conn.now)
         → AllByRecursion HasOwnRow (view overlay.new).branches) }
+    ensures remembers { OnOk result (∥ Remembers S.Store tx.new.conn.now memory.new ∥₁) }
 {
-    overlay.decided = decided(tx)?;
+    overlay.decided = known_decided(tx, memory)?;
     fill_all(tx, &mut overlay.branches, &[], &[])?;
     fill_all(tx, &mut overlay.floors, &[], &[])?;
     fill_all(tx, &mut overlay.tellers, &overlay.branches, &[])?;
@@ -340,7 +345,12 @@ pub(crate) fn fill_known<S: Alter>(
 }
 
 /// Fills an overlay: each slot with what is in the tables under its key, and how many requests are decided.
-pub fn fill<S: Alter>(tx: &mut Transaction<'_, S>, overlay: &mut Overlay) -> Result<(), TableFault>
+pub fn fill<S: Alter>(
+    tx: &mut Transaction<'_, S>,
+    memory: &mut Memory,
+    overlay: &mut Overlay,
+) -> Result<(), TableFault>
+    requires { ∥ Remembers S.Store tx.old.conn.now memory.old ∥₁ }
     ensures new_rows { (overlay.new.history ≡ overlay.old.history)
         × (overlay.new.requests ≡ overlay.old.requests)
         × (overlay.new.references ≡ overlay.old.references) }
@@ -355,8 +365,9 @@ pub fn fill<S: Alter>(tx: &mut Transaction<'_, S>, overlay: &mut Overlay) -> Res
     // Whatever tables it has.
     ensures shown { OnOk result (HasCleanDisk (state S.Store tx.new.conn.now)
         → AreShown (state S.Store tx.old.conn.now).now (view overlay.new)) }
+    ensures remembers { OnOk result (∥ Remembers S.Store tx.new.conn.now memory.new ∥₁) }
 {
-    fill_known(tx, overlay)?;
+    fill_known(tx, memory, overlay)?;
     fill_all(tx, &mut overlay.kept, &[], &[])?;
     Ok(())
 }

@@ -1,7 +1,7 @@
 //! The first program of `bank_transactions`.
 ghost use Rattle.std.specs.Prelude.{◌≡◌, false};
 
-use bank_transactions::post_all;
+use bank_transactions::{Memory, post_all};
 use message_records::{Moment, REQUEST_BYTES};
 use posting_batch::{Batch, Replies};
 use sqlite::{Alter, Connection};
@@ -17,5 +17,5 @@ pub fn first_batch<S: Alter>(
 {
     let batch = Batch::new(alloc, &[*record, *record])?;
     let moment = Moment::new(1_795_442_400).unwrap();
-    Ok(post_all(conn, moment, batch)?)
+    Ok(post_all(conn, &mut Memory::new(), moment, batch)?)
 }

@@ -1,7 +1,7 @@
 //! The first program of `bank_transactions`.
 ghost use Rattle.std.specs.Prelude.{◌≡◌, false};
 
-use bank_transactions::{open_branch, post_looked_up};
+use bank_transactions::{Memory, open_branch, post_looked_up};
 use message_records::{Account, Branch, Cents, Moment, Number, Request, Teller};
 use posting_batch::{Batch, Replies};
 use sqlite::{Alter, Connection};
@@ -24,5 +24,6 @@ pub fn first_request<S: Alter>(
         None,
     );
     let batch = Batch::of_one(alloc, request.unwrap());
-    post_looked_up(conn, Moment::new(1_795_442_400).unwrap(), batch)
+    let moment = Moment::new(1_795_442_400).unwrap();
+    post_looked_up(conn, &mut Memory::new(), moment, batch)
 }

@@ -1,11 +1,12 @@
 -- A batch that is filled, judged and written.
-use Rattle.std.proofs.Common.{◌≡◌, Err, rules, arith, length, refl}
+use Rattle.std.proofs.Common.{◌≡◌, ◌∙◌, Err, rules, arith, length, refl}
+use Rattle.std.proofs.Math.Logic.{∥∥₁_map}
 use Rattle.sqlite.specs.{State.HasCleanDisk, Held.state}
 use Rattle.posting_batch.specs.View.{view}
 use Rattle.bank_transactions.proofs.Chained.{acts_read, does_adds}
 use Rattle.bank_transactions.proofs.{Added.adds_looked_up, HeldBatch.homes_made, HeldBatch.in_turn_looked_up}
 use Rattle.bank_transactions.proofs.HeldBatch.{new_unkept}
-use Rattle.bank_transactions.proofs.LookUps.{does_fail, does_look}
+use Rattle.bank_transactions.proofs.{LookUps.does_fail, LookUps.does_look, Remembered.noted_after}
 use Rattle.bank_transactions.proofs.JudgedSlots.{answered_idle, answered_not, answered_written, counts_none}
 use Rattle.bank_transactions.proofs.JudgedSlots.{fills, judging_all}
 use Rattle.bank_transactions.proofs.batches.answer_batch.Goals.{then-judged-before+in_ok-write, else-judged-before}
@@ -27,13 +28,13 @@ returns-in_err-write-clause-says g c records made =
     rw same (answered_not so (does_look (fills (length records) (view c.fill.new.overlay) (view c.args.batch.overlay) fill.says fill.same (λ clean.
     fill.stored clean (homes_made c.args.batch records made)))) (does_adds (λ clean.
     let before : HasCleanDisk (state g.S.Store c.fill.new.tx.conn.now) = omega
-    (arith, c.in_err-write.ensures.says.survives.clean, clean) in
+    (arith, c.in_err-write.ensures.does.says.survives.clean, clean) in
     adds_looked_up c.args.batch records (view c.fill.new.overlay) (view c.judge-judged.result.overlay) _ made
     fill.same
     (λ rows has. (fill.stored before (homes_made c.args.batch records made) rows has).decided) j.next j.again.keys
     (new_unkept _ c.args.batch _ records c.args.moment (view c.judge-judged.result.overlay)
     c.judge-judged.result.replies.items made refl fill.same (fill.shown before) j.judged))
-    c.in_err-write.ensures))
+    c.in_err-write.ensures.does))
 
 pub returns-clause-says : goal.returns-clause-says
 returns-clause-says g c records made =
@@ -48,7 +49,7 @@ returns-clause-says g c records made =
       | then-judged-before+in_ok-write w ↦
           rw w.tx-is (answered_written so (does_look reads) (does_adds (λ clean.
           let before : HasCleanDisk (state g.S.Store c.fill.new.tx.conn.now) = omega
-          (arith, w.in_ok-write.ensures.says.survives.clean, clean) in
+          (arith, w.in_ok-write.ensures.does.says.survives.clean, clean) in
           adds_looked_up c.args.batch records (view c.fill.new.overlay) (view c.judge-judged.result.overlay) _
           made c.in_ok-fill.ensures.same
           (λ rows has. (c.in_ok-fill.ensures.stored before (homes_made c.args.batch records made) rows has).decided)
@@ -56,7 +57,7 @@ returns-clause-says g c records made =
           (new_unkept _ c.args.batch _ records c.args.moment (view c.judge-judged.result.overlay)
           c.judge-judged.result.replies.items made refl c.in_ok-fill.ensures.same (c.in_ok-fill.ensures.shown before)
           j.judged))
-          w.in_ok-write.ensures))
+          w.in_ok-write.ensures.does))
       | else-judged-before w ↦
           rw w.tx-is (answered_idle so (does_look reads) (omega (arith, w.if-judged-before.false)))
     ])
@@ -74,7 +75,7 @@ returns-clause-idle g c clean records made t shows so none =
     elim c.if-judged-before.branch [
       | then-judged-before+in_ok-write w ↦
           let before : HasCleanDisk (state g.S.Store c.fill.new.tx.conn.now) = omega
-          (arith, w.in_ok-write.ensures.says.survives.clean, rw w.tx-is at clean) in
+          (arith, w.in_ok-write.ensures.does.says.survives.clean, rw w.tx-is at clean) in
           let told = reads.says.told before t shows so in
           absurd (w.if-judged-before.true (counts_none it first t so told none))
       | else-judged-before w ↦
@@ -91,7 +92,7 @@ returns-clause-stored g c clean records made =
     let before : HasCleanDisk (state g.S.Store c.fill.new.tx.conn.now) =
     elim c.if-judged-before.branch [
       | then-judged-before+in_ok-write w ↦
-          omega (arith, w.in_ok-write.ensures.says.survives.clean, rw w.tx-is at clean)
+          omega (arith, w.in_ok-write.ensures.does.says.survives.clean, rw w.tx-is at clean)
       | else-judged-before w ↦ rw w.tx-is at clean
     ] in
     rw c.into_replies.ensures (in_turn_looked_up _ _ c.args.batch _ records c.args.moment
@@ -101,3 +102,26 @@ returns-clause-stored g c clean records made =
       | then-judged-before+in_ok-write w ↦ absurd (w.if-judged-before.true none)
       | else-judged-before w ↦ rw w.tx-is ((fill.says.says.leaves before).0.now)
     ]))
+
+pub returns-in_err-write-clause-same_reference : goal.returns-in_err-write-clause-same_reference
+returns-in_err-write-clause-same_reference g c =
+    c.in_err-write.ensures.does.says.same_reference ∙ c.in_ok-fill.ensures.says.says.same_reference
+
+pub returns-clause-same_reference : goal.returns-clause-same_reference
+returns-clause-same_reference g c =
+    elim c.if-judged-before.branch [
+      | then-judged-before+in_ok-write w ↦
+          rw w.tx-is (w.in_ok-write.ensures.does.says.same_reference ∙ c.in_ok-fill.ensures.says.says.same_reference)
+      | else-judged-before w ↦ rw w.tx-is (c.in_ok-fill.ensures.says.says.same_reference)
+    ]
+
+-- ---- what is remembered
+
+pub returns-clause-remembers : goal.returns-clause-remembers
+returns-clause-remembers g c =
+    elim c.if-judged-before.branch [
+      | then-judged-before+in_ok-write w ↦
+          rw (w.tx-is, w.memory-is) (noted_after w.note.new.self c.judge-judged.result.overlay.decided c.in_ok-fill.ensures.says w.note.ensures
+          w.in_ok-write.ensures.does w.in_ok-write.ensures.counts)
+      | else-judged-before w ↦ rw (w.tx-is, w.memory-is) (∥∥₁_map c.in_ok-fill.ensures.remembers (λ it live. it))
+    ]

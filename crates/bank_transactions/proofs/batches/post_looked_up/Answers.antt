@@ -1,11 +1,11 @@
 -- The parts of the transaction are one: the batch is answered.
-use Rattle.std.proofs.Common.{rules}
+use Rattle.std.proofs.Common.{refl, rules}
 use Rattle.posting_batch.specs.View.{IsMadeOf}
 use Rattle.sqlite.specs.Effect.{Database}
 use Rattle.bank_transactions.specs.believed.Additions.{AddsForRecords}
 use Rattle.bank_transactions.specs.Batches.{RepliesLookedUp}
 use Rattle.bank_transactions.proofs.{HeldBatch.stored_after, Transacted.undoes, Idle.ends_items, Idle.idle_after}
-use Rattle.bank_transactions.proofs.Transacted.{of_given, transacts_records}
+use Rattle.bank_transactions.proofs.{Remembered.begins, Remembered.ends_live, Transacted.of_given, Transacted.transacts_records}
 use Rattle.bank_transactions.proofs.batches.post_looked_up.Goals as goal
 
 pub returns-clause-says : goal.returns-clause-says
@@ -44,3 +44,16 @@ returns-clause-undone g c records made =
     c.conn-1.given.0 c.begin-tx.ensures.begun c.begin-tx.ensures.settled
     (c.answer_batch-replies.ensures.says records made)
     (ends_items g.S.Store _ _ c.answer_batch-replies.result c.finish.result c.finish.ensures) (search rules)
+
+-- ---- what is remembered
+
+pub answer_batch-replies-requires : goal.answer_batch-replies-requires
+answer_batch-replies-requires g c =
+    begins g.S.Store c.args.conn.now c.begin-tx.result.conn.now c.args.memory.now c.begin-tx.ensures.begun
+    c.requires.remembers
+
+pub returns-clause-remembers : goal.returns-clause-remembers
+returns-clause-remembers g c =
+    ends_live g.S.Store c.begin-tx.result c.answer_batch-replies.new.tx c.finish.new.tx.0
+    c.conn-1.given.0 c.answer_batch-replies.result c.finish.result c.answer_batch-replies.new.memory c.finish.ensures
+    (search rules) (rw c.begin-tx.ensures.begun refl) c.answer_batch-replies.ensures.remembers

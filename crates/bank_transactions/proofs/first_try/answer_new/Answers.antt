@@ -2,7 +2,7 @@
 use Rattle.std.proofs.Common.{◌≡◌, Err, rules}
 use Rattle.posting_batch.specs.View.{IsMadeOf}
 use Rattle.bank_transactions.proofs.AfterLookUp.{busy_since, quiet_since, says_since, stored_since}
-use Rattle.bank_transactions.proofs.{Chained.acts_read, LookUps.does_fail}
+use Rattle.bank_transactions.proofs.{Chained.acts_read, LookUps.does_fail, Remembered.keeps_read, Remembered.since}
 use Rattle.bank_transactions.proofs.first_try.answer_new.Goals as goal
 
 pub returns-in_err-keeps_first-clause-says : goal.returns-in_err-keeps_first-clause-says
@@ -29,3 +29,11 @@ pub returns-clause-quiet : goal.returns-clause-quiet
 returns-clause-quiet g c =
     quiet_since c.in_ok-keeps_first.ensures (IsMadeOf c.args.batch) c.args.moment c.answer_unkept.result
     c.answer_unkept.ensures.quiet
+
+pub answer_unkept-requires : goal.answer_unkept-requires
+answer_unkept-requires g c = keeps_read c.args.memory.now c.in_ok-keeps_first.ensures c.requires
+
+pub returns-clause-remembers : goal.returns-clause-remembers
+returns-clause-remembers g c =
+    since c.answer_unkept.new.tx c.in_ok-keeps_first.ensures c.answer_unkept.result c.answer_unkept.new.memory
+    c.answer_unkept.ensures.quiet.survives c.answer_unkept.ensures.remembers

@@ -6,7 +6,7 @@ use Rattle.posting_rules.specs.believed.Tables.{Tables}
 use Rattle.posting_batch.specs.{Overlay.Overlay, View.view, declared.slots.RequestSlot.RequestSlot}
 use Rattle.bank_transactions.proofs.{Added.adds_tried, JudgedSlots.judging_all, ShownSlots.shown_filled}
 use Rattle.bank_transactions.proofs.{Chained.acts_read, Chained.does_adds, HeldBatch.homes_made}
-use Rattle.bank_transactions.proofs.{OwnRows.none_other}
+use Rattle.bank_transactions.proofs.{OwnRows.none_other, Remembered.counts_after, Remembered.noted_after}
 use Rattle.bank_transactions.proofs.{HeldBatch.in_turn, LookUps.does_fail, LookUps.does_look, NewBatch.all_held}
 use Rattle.bank_transactions.proofs.{NewBatch.answered_new, NewBatch.decided_all, NewBatch.is_again, NewBatch.refused_new}
 use Rattle.bank_transactions.proofs.{NewBatch.unanswered_new, Together.all_written, Together.requests_first}
@@ -49,7 +49,7 @@ returns-in_err-write_after-in-Ok-clause-says g c =
     let o = view c.judge-judged.result.overlay in
     let fk = c.in_ok-fill_known.ensures in
     let j = c.judge-judged.ensures in
-    let end = c.in_err-write_after-in-Ok.ensures in
+    let end = c.in_err-write_after-in-Ok.ensures.does in
     let so = judging_all c.args.batch _ records c.args.moment o c.judge-judged.result.replies.items made refl
     j.judged j.rising j.idle in
     unanswered_new so fk.says
@@ -79,7 +79,7 @@ returns-in_ok-write_after-in-Ok-clause-says g c records made =
     let o = view c.judge-judged.result.overlay in
     let fk = c.in_ok-fill_known.ensures in
     let j = c.judge-judged.ensures in
-    let end = c.in_ok-write_after-in-Ok.ensures in
+    let end = c.in_ok-write_after-in-Ok.ensures.does in
     let so = judging_all c.args.batch _ records c.args.moment o c.judge-judged.result.replies.items made refl
     j.judged j.rising j.idle in
     rw c.into_replies.ensures (answered_new so fk.says
@@ -112,7 +112,7 @@ returns-in_ok-write_after-in-Ok-clause-busy g c clean live records made t shows 
     let so = judging_all c.args.batch _ records c.args.moment o c.judge-judged.result.replies.items made refl
     j.judged j.rising j.idle in
     let before : HasCleanDisk (state g.S.Store c.put_requests.new.tx.conn.now) =
-    omega (arith, c.in_ok-write_after-in-Ok.ensures.says.survives.clean, clean) in
+    omega (arith, c.in_ok-write_after-in-Ok.ensures.does.says.survives.clean, clean) in
     let first : HasCleanDisk (state g.S.Store c.fill_known.new.tx.conn.now) =
     omega (arith, c.in-Ok.ensures.puts.says.survives.clean, before) in
     let e = shown_filled (state g.S.Store c.args.tx.now.conn.now).now t (length records) p' (view c.args.batch.overlay)
@@ -131,7 +131,7 @@ returns-in_ok-write_after-in-Ok-clause-stored g c clean live as_made records mad
     let fk = c.in_ok-fill_known.ensures in
     let j = c.judge-judged.ensures in
     let before : HasCleanDisk (state g.S.Store c.put_requests.new.tx.conn.now) =
-    omega (arith, c.in_ok-write_after-in-Ok.ensures.says.survives.clean, clean) in
+    omega (arith, c.in_ok-write_after-in-Ok.ensures.does.says.survives.clean, clean) in
     let first : HasCleanDisk (state g.S.Store c.fill_known.new.tx.conn.now) =
     omega (arith, c.in-Ok.ensures.puts.says.survives.clean, before) in
     let all = decided_all _ _ _ _ c.all_decided.ensures (search rules) in
@@ -142,3 +142,13 @@ returns-in_ok-write_after-in-Ok-clause-stored g c clean live as_made records mad
     rw c.into_replies.ensures (in_turn _ _ c.args.batch _ records c.args.moment o c.judge-judged.result.replies.items
     made refl fk.same (fk.own first) held (λ other. absurd (none_other (state g.S.Store c.args.tx.now.conn.now).now as_made other)) j.judged
     (λ none. absurd (all.0 none)))
+
+-- ---- what is remembered
+
+pub returns-in_ok-write_after-in-Ok-clause-remembers : goal.returns-in_ok-write_after-in-Ok-clause-remembers
+returns-in_ok-write_after-in-Ok-clause-remembers g c =
+    let o = view c.judge-judged.result.overlay in
+    let puts = requests_first o c.deref.ensures c.in-Ok.ensures.puts in
+    let end = c.in_ok-write_after-in-Ok.ensures in
+    noted_after c.note.new.self _ c.in_ok-fill_known.ensures.says c.note.ensures (all_written o puts end.does)
+    (counts_after o.decided puts end.does end.counts)

@@ -1,8 +1,9 @@
 -- A try in a transaction of its own, which is dropped where a request may be kept.
-use Rattle.std.proofs.Common.{◌≡◌, Err, None, rules}
+use Rattle.std.proofs.Common.{◌≡◌, Err, None, refl, rules}
 use Rattle.posting_batch.specs.View.{IsMadeOf}
 use Rattle.store_rows.specs.declared.fault.TableFault.TheVariants.{Sqlite}
 use Rattle.bank_transactions.specs.Tries.{batch_of}
+use Rattle.bank_transactions.proofs.Remembered.{begins, tried_ends}
 use Rattle.bank_transactions.proofs.Tries.{not_asked, tried_busy, tried_says, tried_stored, tried_undone}
 use Rattle.bank_transactions.proofs.first_try.try_new.Goals.{in-Ok+in-Answered-1, in-Err-1}
 use Rattle.bank_transactions.proofs.first_try.try_new.Goals as goal
@@ -68,3 +69,25 @@ returns-clause-stored g c =
     c.answer_new-tried.new.tx c.finish.new.tx.0 c.conn-2-1.given.0 c.answer_new-tried.result c.finish.result
     c.begin-tx.ensures.begun c.begin-tx.ensures.settled (rw same at c.finish.ensures)
     (λ records made. search rules) c.requires.made c.answer_new-tried.ensures.stored
+
+-- ---- what is remembered
+
+pub answer_new-tried-requires : goal.answer_new-tried-requires
+answer_new-tried-requires g c =
+    begins g.S.Store c.args.conn.now c.begin-tx.result.conn.now c.args.memory.now c.begin-tx.ensures.begun
+    c.requires.remembers
+
+pub returns-clause-remembers : goal.returns-clause-remembers
+returns-clause-remembers g c =
+    let same : c.match-tried.tried ≡ c.answer_new-tried.result = elim c.match-tried.branch [
+      | in-Ok+in-Answered-1 w ↦ search rules
+      | in-Err-1 w ↦ w.tried-is
+    ] in
+    let none : batch_of c.answer_new-tried.result ≡ None = elim c.match-tried.branch [
+      | in-Ok+in-Answered-1 w ↦ search rules
+      | in-Err-1 w ↦ search rules
+    ] in
+    tried_ends g.S.Store c.begin-tx.result c.answer_new-tried.new.tx c.finish.new.tx.0
+    c.conn-2-1.given.0 c.answer_new-tried.result c.finish.result c.answer_new-tried.new.memory
+    (rw same at c.finish.ensures) (search rules) none (rw c.begin-tx.ensures.begun refl)
+    c.answer_new-tried.ensures.remembers

@@ -2,11 +2,12 @@
 use Rattle.std.proofs.Common.{◌≡◌, ◌≤◌, ◌<◌, ℕ, ℤ, pos, negsuc, nat_abs, [], ◌∷◌, Some, None, Err, false}
 use Rattle.std.proofs.Common.{true, rules, arith, sym, ap, refl, ◌∙◌}
 use Rattle.std.specs.Prelude.{int_lt}
+use Rattle.sqlite.specs.Held.{state}
 use Rattle.std.proofs.lemmas.Int.{ints}
 use Rattle.posting_rules.specs.declared.{fault.Rule.TheVariants.Meta, limits.TheConstants.MAX_DECIDED}
 use Rattle.store_rows.specs.{believed.Columns.meta_in, believed.View.meta_entry}
 use Rattle.store_rows.specs.{declared.metas.TheConstants.VERSION, declared.metas.StoredMeta.StoredMeta}
-use Rattle.store_rows.proofs.MetaRow.{has_one}
+use Rattle.store_rows.proofs.{Counted.count_read, MetaRow.has_one}
 use Rattle.bank_transactions.proofs.{Broken.meta_broken, LookUps.looked_at, LookUps.reads_broken}
 use Rattle.bank_transactions.proofs.ReadsInTurn.{meta_failed}
 use Rattle.bank_transactions.proofs.look_ups.decided.Goals.{then-meta-lt0-via-then-meta-lt0}
@@ -88,3 +89,10 @@ returns-clause-stored g c = λ clean rows has.
       sym told ∙ c.in-Some.is
           ∙ with_decided m _ (sym same ∙ whole (to_z w64 (of_z w64 m.decided)) c.if-meta-lt0.false),
     )
+
+pub returns-clause-lies : goal.returns-clause-lies
+returns-clause-lies g c = λ clean file.
+    let m = c.in-Some.meta in
+    let same : to_z w64 (of_z w64 m.decided) ≡ m.decided = search rules in
+    count_read (state g.S.Store c.args.tx.now.conn.now).now _ m (rw c.in-Some.is at (c.in_ok-meta.ensures.lies clean file))
+    (sym same ∙ whole (to_z w64 (of_z w64 m.decided)) c.if-meta-lt0.false)

@@ -1,0 +1,210 @@
+-- What is remembered from one part of a call to the next.
+use Rattle.std.proofs.Common.{◌≡◌, ◌∷◌, ◌∙◌, ℕ, ℤ, pos, List, [], None, Some, Ok, Err, Result, refl, ap, sym, subst, arith}
+use Rattle.std.proofs.Math.Logic.{∥∥₁_elim, ∥∥₁_map}
+use Rattle.std.specs.Prelude.{IfSome, IsTrue, OnOk, Option, Bool, false, nat_abs, true}
+use Rattle.std.specs.Coded.{coded_ℕ, coded_ℤ}
+use Rattle.std.specs.List.{AllByRecursion}
+use base.Stored.{Coded-set}
+use Rattle.sqlite.specs.{State.Survives, Table.Table}
+use Rattle.sql_meanings.specs.believed.{Contents.HoldsEach, Entries.Entry, Tables.Defines}
+use Rattle.sql_meanings.proofs.Sparing.{spares_itself}
+use Rattle.store_rows.specs.believed.{BankTables.bank_tables, Columns.meta_in, Rules.HoldsBank, Rules.StoredRows, Rules.stored_lists}
+use Rattle.store_rows.specs.believed.{Sparing.bank_names, View.Shows, View.meta_entry}
+use Rattle.store_rows.specs.declared.metas.{StoredMeta.StoredMeta, TheConstants.VERSION}
+use Rattle.store_rows.specs.View.{contents}
+use Rattle.store_rows.proofs.{Counted.count_held, MetaRow.has_one}
+use Rattle.bank_transactions.specs.believed.Stored.{HoldsDecided}
+use Rattle.bank_transactions.proofs.Chained.{still_in}
+use Rattle.std.proofs.lemmas.{Option.IfSome_then, Result.on_ok_weaker}
+use Rattle.store_rows.specs.believed.Failures.{Additions}
+use Rattle.sqlite.specs.{Effect.Database, Held.Held, Held.state, State.HasCleanDisk}
+use Rattle.sqlite.specs.declared.{error.Error.Error, transaction.Transaction.Transaction}
+use Rattle.sqlite_trees.specs.declared.store.Store.{Ghosts}
+use Rattle.posting_rules.specs.{believed.Tables.Tables, declared.fault.Rule.Rule}
+use Rattle.store_rows.specs.Lying.{CountLies, Counts, IsBankFile, SetsCount}
+use Rattle.store_rows.specs.declared.fault.TableFault.{TableFault}
+use Rattle.bank_transactions.specs.{believed.Causes.Damage, Doing.DoesBy, Doing.Ends, Doing.Reads, Doing.ReadsWhere, Doing.expected}
+use Rattle.bank_transactions.specs.Memory.{Fits, IsBlank, Keeps, Remembers}
+use Rattle.bank_transactions.specs.declared.memory.Memory.{Memory}
+use Rattle.bank_transactions.specs.declared.first_try.Tried.{Tried, TheVariants.Answered, TheVariants.Again}
+use Rattle.bank_transactions.specs.Tries.{batch_of, replies_of}
+
+-- where nothing is remembered, it lies in any file
+pub blank : {S : Type 0} (g : Ghosts S) (conn : Held S) (memory : Memory) → IsBlank memory → ∥ Remembers g conn memory ∥₁
+blank g conn memory none =
+    ∣ (λ clean file. subst (λ (o : Option ℕ). IfSome o (CountLies (state g conn).now)) (sym none) tt) ∣₁
+
+-- it lies there still where nothing has changed
+pub keeps : {S : Type 0} (g : Ghosts S) (old new : Held S) (memory : Memory)
+    → (HasCleanDisk (state g new) → HasCleanDisk (state g old))
+    → (HasCleanDisk (state g new) → (state g new).now ≡ (state g old).now)
+    → ∥ Remembers g old memory ∥₁ → ∥ Remembers g new memory ∥₁
+keeps g old new memory before same it = ∥∥₁_map it (λ fits clean file.
+    subst (λ (db : Database). Fits db memory) (sym (same clean))
+    (fits (before clean) (subst IsBankFile (same clean) file)))
+
+-- as after a look-up
+pub keeps_read : {S X : Type 0} {g : Ghosts S} {old new : Transaction S} {So : Tables → Type 0} {w : Tables → X} {x : X}
+    (memory : Memory) → ReadsWhere g old new So w (Ok x) → ∥ Remembers g old.conn.now memory ∥₁
+    → ∥ Remembers g new.conn.now memory ∥₁
+keeps_read {g = g} {old = old} {new = new} memory reads =
+    keeps g old.conn.now new.conn.now memory (λ clean. omega (arith, reads.says.survives.clean, clean))
+    (λ clean. (reads.says.leaves clean).0.now)
+
+-- the count that was found or written
+pub noted : {S : Type 0} (g : Ghosts S) (conn : Held S) (memory : Memory) (n : ℕ) → memory.decided ≡ Some n
+    → (HasCleanDisk (state g conn) → IsBankFile (state g conn).now → CountLies (state g conn).now n)
+    → ∥ Remembers g conn memory ∥₁
+noted g conn memory n is lies =
+    ∣ (λ clean file. subst (λ (o : Option ℕ). IfSome o (CountLies (state g conn).now)) (sym is) (lies clean file)) ∣₁
+
+-- the count is written where the row was there
+pub counts_expected : {S : Type 0} (g : Ghosts S) (old new : Transaction S) (n : ℕ) (answer : Result Bool Error) (rule : Rule)
+    (result : Result (Unit {0}) TableFault) → result ≡ expected answer rule → SetsCount g old new n answer
+    → OnOk result (Counts g old new n)
+counts_expected g old new n answer rule (Err fault) is sets = tt
+counts_expected g old new n (Ok true) rule (Ok done) is sets = sets
+counts_expected g old new n (Ok false) rule (Ok done) is sets = absurd cc
+counts_expected g old new n (Err e) rule (Ok done) is sets = absurd cc
+
+-- so it is where other parts went before
+pub counts_after : {S X : Type 0} {g : Ghosts S} {old mid new : Transaction S} {So So' : Tables → Type 0}
+    {after after' : Tables → Tables} {w : Tables → X} {x : X} {result : Result (Unit {0}) TableFault}
+    {w' : Tables → Unit {0}} {Bad Met Bad' Met' : Damage S} {Adds Adds' : Additions}
+    (n : ℕ) → DoesBy Bad Met Adds g old mid So after w (Ok x) → DoesBy Bad' Met' Adds' g mid new So' after' w' result
+    → OnOk result (Counts g mid new n) → OnOk result (Counts g old new n)
+counts_after {g = g} {old = old} {mid = mid} {result = result} n first second counts =
+    on_ok_weaker result (λ it clean live file.
+    let before : HasCleanDisk (state g mid.conn.now) = omega (arith, second.says.survives.clean, clean) in
+    it clean (still_in (state g old.conn.now) (state g mid.conn.now) (first.says.leaves before live).0 live) file) counts
+
+-- the count that was written after a look-up
+pub noted_after : {S X Y : Type 0} {g : Ghosts S} {old mid new : Transaction S} {So So' : Tables → Type 0}
+    {after : Tables → Tables} {w : Tables → X} {w' : Tables → Y} {x : X} {y : Y} {Bad Met : Damage S} {Adds : Additions}
+    (memory : Memory) (n : ℕ) → ReadsWhere g old mid So w (Ok x) → memory.decided ≡ Some n
+    → DoesBy Bad Met Adds g mid new So' after w' (Ok y) → Counts g mid new n → ∥ Keeps g old new memory ∥₁
+noted_after {g = g} {old = old} {mid = mid} {new = new} memory n reads is does counts = ∣ (λ live clean file.
+    let before : HasCleanDisk (state g mid.conn.now) = omega (arith, does.says.survives.clean, clean) in
+    let on = still_in (state g old.conn.now) (state g mid.conn.now) (reads.says.leaves before).0.goes_on live in
+    subst (λ (o : Option ℕ). IfSome o (CountLies (state g new.conn.now).now)) (sym is) (counts clean on file)) ∣₁
+
+-- as a transaction begins
+pub begins : {S : Type 0} (g : Ghosts S) (old begun : Held S) (memory : Memory)
+    → begun ≡ record old { in_transaction = true } → ∥ Remembers g old memory ∥₁ → ∥ Remembers g begun memory ∥₁
+begins g old begun memory is it =
+    keeps g old begun memory (λ clean. rw is at clean) (λ clean. rw is refl) it
+
+-- as it ends with an answer
+pub ends : {S X : Type 0} (g : Ghosts S) (last end new : Held S) (answer result : Result X TableFault) (memory : Memory)
+    → Ends g last end answer result → end ≡ new → OnOk answer (∥ Remembers g last memory ∥₁)
+    → OnOk result (∥ Remembers g new memory ∥₁)
+ends g last end new answer (Err fault) memory it same said = tt
+ends g last end new (Err fault) (Ok y) memory it same said = absurd (let no = it.given in cc)
+ends {S} g last end new (Ok x) (Ok y) memory it same said =
+    subst (λ (h : Held S). ∥ Remembers g h memory ∥₁) same
+    (keeps g last end memory (λ clean. omega (arith, it.survives.clean, clean)) (λ clean. (it.told clean).0) said)
+
+-- ---- what is told from memory
+
+all_defined : (db : Database) (tables : List Table) (rows : List (List Entry)) → HoldsEach db tables rows
+    → AllByRecursion (Defines db.schema) tables
+all_defined db [] rows each = tt
+all_defined db (t ∷ tables) [] each = absurd each
+all_defined db (t ∷ tables) (es ∷ rows) each = (each.0.defined, all_defined db tables rows each.1)
+
+shown_file : (db : Database) (t : Tables) → Shows db t → IsBankFile db
+shown_file db t shows = record { sound = shows.sound; defines = all_defined db bank_tables (contents t) shows.each }
+
+held_file : (db : Database) (rows : StoredRows) → HoldsBank db rows → IsBankFile db
+held_file db rows has = record { sound = has.sound; defines = all_defined db bank_tables (stored_lists rows) has.each }
+
+no_row : (m : StoredMeta) → ◌≡◌ {A = Option StoredMeta} None (Some m) → ⊥
+no_row m is = cc
+
+count_in : (m : StoredMeta) (version : ℤ) (n : ℕ) → Some m ≡ Some (record { version = version; decided = pos n })
+    → m.decided ≡ pos n
+count_in m version n is = cc
+
+module _ (db : Database) (n : ℕ) (lies : ∥ CountLies db n ∥₁) where
+  -- it is how many the shown tables count
+  count_shown : (t : Tables) → Shows db t → n ≡ t.decided
+  count_shown t shows = ∥∥₁_elim lies (Coded-set coded_ℕ n t.decided) (λ it.
+      let held = count_held db (meta_entry VERSION t.decided ∷ []) n (has_one db t shows) it in
+      sym (ap nat_abs (count_in (record { version = VERSION; decided = pos t.decided }) held.0 n held.1)))
+
+  -- and how many the rows that are held do
+  count_stored : (rows : StoredRows) → HoldsBank db rows → HoldsDecided rows n
+  count_stored rows has = go (meta_in rows.meta) refl
+    where
+      go : (o : Option StoredMeta) → meta_in rows.meta ≡ o → HoldsDecided rows n
+      go None is = absurd (∥∥₁_elim lies (λ x y. absurd x) (λ it.
+          no_row _ (sym is ∙ (count_held db rows.meta n (record { sound = has.sound; holds = has.each.0 }) it).1)))
+      go (Some m) is =
+          let same : m.decided ≡ pos n = ∥∥₁_elim lies (Coded-set coded_ℤ m.decided (pos n)) (λ it.
+          let held = count_held db rows.meta n (record { sound = has.sound; holds = has.each.0 }) it in
+          count_in m held.0 n (sym is ∙ held.1)) in
+          (m.version, is ∙ ap (λ (z : ℤ). Some (record { version = m.version; decided = z })) same)
+
+module _ {S : Type 0} (g : Ghosts S) (conn : Held S) (memory : Memory) (n : ℕ) (is : memory.decided ≡ Some n)
+    (it : ∥ Remembers g conn memory ∥₁) where
+  lies_there : HasCleanDisk (state g conn) → IsBankFile (state g conn).now → ∥ CountLies (state g conn).now n ∥₁
+  lies_there clean file = ∥∥₁_map it (λ fits.
+      subst (λ (o : Option ℕ). IfSome o (CountLies (state g conn).now)) is (fits clean file))
+
+  pub known_shown : HasCleanDisk (state g conn) → (t : Tables) → Shows (state g conn).now t → n ≡ t.decided
+  known_shown clean t shows =
+      count_shown (state g conn).now n (lies_there clean (shown_file (state g conn).now t shows)) t shows
+
+  pub known_stored : HasCleanDisk (state g conn) → (rows : StoredRows) → HoldsBank (state g conn).now rows
+      → HoldsDecided rows n
+  known_stored clean rows has =
+      count_stored (state g conn).now n (lies_there clean (held_file (state g conn).now rows has)) rows has
+
+-- nothing was asked
+pub reads_known : {S : Type 0} {g : Ghosts S} {tx : Transaction S} (memory : Memory) (n : ℕ)
+    → Survives (state g tx.conn.now) (state g tx.conn.now) (λ _. ⊥) → memory.decided ≡ Some n
+    → ∥ Remembers g tx.conn.now memory ∥₁ → Reads g tx tx (λ t. t.decided) (Ok n)
+reads_known {g = g} {tx = tx} memory n same is it = record {
+  says = record {
+    same_reference = refl;
+    told = λ clean t shows so. known_shown g tx.conn.now memory n is it clean t shows;
+    leaves = λ clean. (
+      record {
+        goes_on = record { opened = λ h. h; committed = refl; mode = refl; spares = spares_itself bank_names _ };
+        now = refl;
+      },
+      tt,
+    );
+    survives = same;
+  };
+}
+
+-- where it is so as long as the transaction goes on
+pub ends_live : {S X : Type 0} (g : Ghosts S) (begun last : Transaction S) (end new : Held S) (answer result : Result X TableFault)
+    (memory : Memory) → Ends g last.conn.now end answer result → end ≡ new → IsTrue (state g begun.conn.now).in_transaction
+    → OnOk answer (∥ Keeps g begun last memory ∥₁) → OnOk result (∥ Remembers g new memory ∥₁)
+ends_live g begun last end new answer result memory it same live said =
+    ends g last.conn.now end new answer result memory it same
+    (on_ok_weaker answer (λ so. ∥∥₁_map so (λ keeps. keeps live)) said)
+
+-- as a try ends that has answered
+pub tried_ends : {S : Type 0} (g : Ghosts S) (begun last : Transaction S) (end new : Held S) (answer result : Result Tried TableFault)
+    (memory : Memory) → Ends g last.conn.now end answer result → end ≡ new → batch_of answer ≡ None
+    → IsTrue (state g begun.conn.now).in_transaction → IfSome (replies_of answer) (λ _. ∥ Keeps g begun last memory ∥₁)
+    → OnOk result (∥ Remembers g new memory ∥₁)
+tried_ends g begun last end new (Ok (Answered replies)) result memory it same none live said =
+    ends_live g begun last end new (Ok (Answered replies)) result memory it same live said
+tried_ends g begun last end new (Ok (Again batch)) result memory it same none live said = absurd cc
+tried_ends g begun last end new (Err fault) result memory it same none live said =
+    ends_live g begun last end new (Err fault) result memory it same live tt
+
+-- a try after a look-up
+pub since : {S X : Type 0} {g : Ghosts S} {old mid : Transaction S} {So : Tables → Type 0} {w : Tables → X} {x : X}
+    (new : Transaction S) → ReadsWhere g old mid So w (Ok x) → (answer : Result Tried TableFault) (memory : Memory)
+    → Survives (state g mid.conn.now) (state g new.conn.now) (λ _. ⊥)
+    → IfSome (replies_of answer) (λ _. ∥ Keeps g mid new memory ∥₁)
+    → IfSome (replies_of answer) (λ _. ∥ Keeps g old new memory ∥₁)
+since {g = g} {old = old} {mid = mid} new reads answer memory then said =
+    IfSome_then (replies_of answer) said (λ replies it. ∥∥₁_map it (λ keeps live clean file.
+    let before : HasCleanDisk (state g mid.conn.now) = omega (arith, then.clean, clean) in
+    keeps (still_in (state g old.conn.now) (state g mid.conn.now) (reads.says.leaves before).0.goes_on live) clean file))
