@@ -5,6 +5,7 @@ ghost use Rattle.std.specs.Prelude.{None, false, pos, ◌+◌, ◌++◌, vec_len
 ghost use Rattle.smallvec.specs.SmallVec.{small_vec_len};
 ghost use Rattle.sqlite.specs.State.{Survives};
 ghost use Rattle.sqlite.specs.Held.{state};
+ghost use Rattle.bank_transactions.specs.Memory.{Remembers};
 ghost use Rattle.message_records.specs.believed.Spelling.{reply_spelling};
 ghost use Rattle.posting_rules.specs.Branches.{IsNextBranch, IsLineAbove};
 ghost use Rattle.posting_rules.specs.believed.Commands.{Command, Open, Post, opened_with};
@@ -17,7 +18,7 @@ use crate::laws::{floor_law, range_law};
 use crate::walks::read_outside;
 use arrayvec::ArrayVec;
 use bank_transactions::{
-    note_settled, open_branch, post_all, post_looked_up, read_balance, read_next_branch,
+    Memory, note_settled, open_branch, post_all, post_looked_up, read_balance, read_next_branch,
 };
 use message_records::{
     Account, Branch, Cents, Moment, REPLY_BYTES, REQUEST_BYTES, decode_request, encode_reply,
@@ -61,9 +62,12 @@ fn put_replies(room: &mut Vec<[u8; REPLY_BYTES]>, replies: &Replies)
 pub struct Bank<S: Alter> {
     pub(crate) alloc: Global,
     pub(crate) conn: Connection<S>,
+    // What it read or wrote, as long as nobody else has used the connection since.
+    pub(crate) memory: Memory,
     // What brought it down, none while it is up.
     fault: Option<TableFault>,
     ghost idle: { conn.in_transaction ≡ false },
+    ghost remembers: { ∥ Remembers S.Store conn memory ∥₁ },
 }
 
 impl<S: Alter> Bank<S> {
@@ -83,6 +87,7 @@ impl<S: Alter> Bank<S> {
         Bank {
             alloc,
             conn,
+            memory: Memory::new(),
             fault: None,
         }
     }
@@ -110,6 +115,7 @@ impl<S: Alter> Bank<S> {
         let Bank {
             alloc: _,
             conn,
+            memory: _,
             fault: _,
         } = self;
         conn
@@ -136,6 +142,7 @@ impl<S: Alter> Bank<S> {
         ensures undone { HasCleanDisk (state S.Store self.new.conn)
             → IsUntouchedIfOpen (state S.Store self.old.conn) (state S.Store self.new.conn) }
     {
+        self.memory.forget();
         note_settled(&self.conn);
         let TableFault::Damaged(rule) = fault else {
             self.fault = Some(fault);
@@ -216,6 +223,7 @@ impl<S: Alter> Bank<S> {
         ensures up { self.new.fault ≡ self.old.fault }
         ensures survives { Survives (state S.Store self.old.conn) (state S.Store self.new.conn) (λ _. ⊥) }
     {
+        self.memory.forget();
         read_outside(&mut self.conn, of, from, rows)
     }
 }
@@ -300,8 +308,12 @@ impl<S: Alter + Drop> Counter for Bank<S> {
             return Ok(encode_reply(&malformed_reply()));
         };
         let batch = Batch::of_one(self.alloc, request);
-        match post_looked_up(&mut self.conn, moment, batch) {
-            Ok(replies) => Ok(replies[0]),
+        let mut memory = self.memory.take();
+        match post_looked_up(&mut self.conn, &mut memory, moment, batch) {
+            Ok(replies) => {
+                self.memory = memory;
+                Ok(replies[0])
+            }
             Err(fault) => Err(self.go_down(fault)),
         }
     }
@@ -342,8 +354,10 @@ impl<S: Alter + Drop> Counter for Bank<S> {
         self.up()?;
         let mut replies = Vec::with_capacity(self.alloc, records.len())?;
         let batch = Batch::new(self.alloc, records)?;
-        match post_all(&mut self.conn, moment, batch) {
+        let mut memory = self.memory.take();
+        match post_all(&mut self.conn, &mut memory, moment, batch) {
             Ok(given) => {
+                self.memory = memory;
                 put_replies(&mut replies, &given);
                 Ok(replies)
             }
@@ -379,6 +393,7 @@ impl<S: Alter + Drop> Counter for Bank<S> {
         range_law(branch);
         floor_law(&floor);
         self.up()?;
+        self.memory.forget();
         match open_branch(&mut self.conn, branch, count, floor) {
             Ok(opening) => Ok(opening),
             Err(fault) => Err(self.go_down(fault)),
@@ -399,6 +414,7 @@ impl<S: Alter + Drop> Counter for Bank<S> {
         ensures spares { SparesOtherTables S.Store self.old self.new }
     {
         self.up()?;
+        self.memory.forget();
         match read_balance(&mut self.conn, account) {
             Ok(balance) => Ok(balance),
             Err(fault) => Err(self.go_down(fault)),
@@ -419,6 +435,7 @@ impl<S: Alter + Drop> Counter for Bank<S> {
         ensures spares { SparesOtherTables S.Store self.old self.new }
     {
         self.up()?;
+        self.memory.forget();
         match read_next_branch(&mut self.conn, after) {
             Ok(next) => Ok(next),
             Err(fault) => Err(self.go_down(fault)),

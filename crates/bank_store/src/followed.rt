@@ -49,6 +49,7 @@ impl<S: Alter + Drop> Followed for Bank<S> {
             return Ok(None);
         }
         let mut entries = Vec::with_capacity(self.alloc, ENTRIES_PER_ANSWER * ENTRY_BYTES)?;
+        self.memory.forget();
         match read_log(&mut self.conn, after, &mut entries) {
             Ok(enough) => {
                 if enough {

@@ -5,7 +5,8 @@ use Rattle.std.specs.Prelude.{IsSome}
 use Rattle.message_records.specs.{believed.Reading.request_of, believed.Records.RequestFields, declared.fault.Bad.Bad}
 use Rattle.bank_transactions.specs.{Batches.RepliesLookedUp, believed.Additions.AddsForRecords}
 use Rattle.bank_transactions.specs.believed.Causes.{IsBrokenOrMet}
-use Rattle.bank_transactions.proofs.OneRequest.{one_stored}
+use Rattle.bank_transactions.proofs.{OneRequest.one_stored, Remembered.blank}
+use Rattle.bank_transactions.specs.{Memory.Remembers, declared.memory.Memory.Memory}
 use Rattle.posting_rules.specs.believed.{Changes.tables_past_all, Commands.AreCommands, Runs.posts}
 use Rattle.bank_store.specs.believed.Seen.{database_of}
 use Rattle.posting_rules.proofs.Records.{all_replies, posts_all}
@@ -32,7 +33,18 @@ pub invariant_of-self : goal.invariant_of-self
 invariant_of-self g c =
     let read : request_of c.args.bytes.now ≡ Ok c.in-Ok.request = search rules in
     let says = c.post_looked_up.ensures.says (c.args.bytes.now ∷ []) (c.of_one-batch.ensures c.args.bytes.now read) in
-    record { idle = says.mode }
+    record { idle = says.mode; remembers = c.in-Ok-post_looked_up.ensures.remembers }
+
+pub invariant_of-self-in-Err-post_looked_up : goal.invariant_of-self-in-Err-post_looked_up
+invariant_of-self-in-Err-post_looked_up g c =
+    let read : request_of c.args.bytes.now ≡ Ok c.in-Ok.request = search rules in
+    let says = c.post_looked_up.ensures.says (c.args.bytes.now ∷ []) (c.of_one-batch.ensures c.args.bytes.now read) in
+    record { idle = says.mode; remembers = blank g.S.Store c.post_looked_up.new.conn c.take-memory.new.self c.take-memory.ensures.blank }
+
+pub post_looked_up-requires-clause-remembers : goal.post_looked_up-requires-clause-remembers
+post_looked_up-requires-clause-remembers g c =
+    subst (λ (m : Memory). ∥ Remembers g.S.Store c.args.self.now.conn m ∥₁) (sym c.take-memory.ensures.given)
+    c.args.self.now.remembers
 
 -- what its refusal says
 refused : (g : Over) (c : goal.After-go_down g)

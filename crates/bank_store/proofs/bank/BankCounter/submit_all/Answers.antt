@@ -15,7 +15,13 @@ use Rattle.bank_store.proofs.Refusing.{untried_call}
 use Rattle.bank_store.specs.Seen.{fault_of}
 use Rattle.bank_store.proofs.Refusing.{Refusal}
 use Rattle.bank_transactions.specs.believed.{Additions.AddsForRecords, Causes.IsBrokenOrMet, Stored.RepliesToAllStored}
+use Rattle.bank_transactions.specs.{Memory.Remembers, declared.memory.Memory.Memory}
 use Rattle.bank_store.proofs.bank.BankCounter.submit_all.Goals as goal
+
+pub post_all-requires-clause-remembers : goal.post_all-requires-clause-remembers
+post_all-requires-clause-remembers g c =
+    subst (λ (m : Memory). ∥ Remembers g.S.Store c.args.self.now.conn m ∥₁) (sym c.take-memory.ensures.given)
+    c.args.self.now.remembers
 
 -- what its refusal says
 refused : (g : Over) (c : goal.After-drop-replies-in-Err-1 g)
