@@ -77,6 +77,7 @@ impl<S: Alter + Drop> Followed for Bank<S> {
         ensures broken { IfErr result (λ fault. OfDamage fault (WasBroken S.Store self.old self.new)) }
     {
         self.up()?;
+        self.memory.forget();
         match read_teller(&mut self.conn, teller) {
             Ok(balances) => Ok(own_balance(balances)),
             Err(fault) => Err(self.go_down(fault)),
