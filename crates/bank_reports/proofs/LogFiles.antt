@@ -1,5 +1,5 @@
 -- The file of a bank that shows a log.
-use Rattle.std.proofs.Common.{◌≡◌, ◌<◌, ◌∙◌, ℕ, pos, true, false, List, [], ◌∷◌, map, Less, int_cmp, refl, sym, ap}
+use Rattle.std.proofs.Common.{◌≡◌, ◌<◌, ℕ, pos, true, false, List, [], ◌∷◌, map, Less, int_cmp, refl, sym}
 use Rattle.std.proofs.Common.{subst, inl, inr, arith}
 use Rattle.std.specs.{Prelude.nat_eq, Prelude.IsTrue, List.AllByRecursion, List.IsDistinct}
 use Rattle.std.proofs.lemmas.{Bool.cases_Bool, Bool.eqb-true, Int.ints}

@@ -24,10 +24,10 @@ use Rattle.walked_rows.proofs.{Joining.paired_filter, Shown.has_history, Shown.h
 use Rattle.walked_rows.proofs.RisingRows.{all-append, rising_keys, rising_once}
 use Rattle.report_contents.specs.Lines.{text_of}
 use Rattle.report_contents.specs.StatementText.{heading_line, last_of, line_of, lines_by, names_line, names_of}
-use Rattle.report_contents.specs.StatementText.{posting_line, stated_lines, stated_text, closing_line}
+use Rattle.report_contents.specs.StatementText.{stated_lines, stated_text, closing_line}
 use Rattle.report_contents.specs.declared.form.Form.{Form, TheVariants.Whole}
 use Rattle.report_contents.proofs.Joined.{text_of-append}
-use Rattle.bank_reports.specs.StatedLines.{is_posted_to, lines_to, postings_to, stated_of, statement_after}
+use Rattle.bank_reports.specs.StatedLines.{is_posted_to, postings_to, stated_of, statement_after}
 use Rattle.bank_reports.specs.Postings.{delta_of, form_lines, sum_of, text_so_far}
 use Rattle.bank_reports.proofs.{Read.posting_back, Read.posting_in, Lined.lines_are}
 use Rattle.bank_reports.proofs.LogHistory.{postings_of, postings_rise, postings_under}

@@ -1,18 +1,16 @@
 -- Passes over the tables of a file, one after another.
-use Rattle.std.proofs.Common.{◌≡◌, ◌++◌, ◌⊎◌, Bool, List, [], ◌∷◌, map, find, Result, Ok, Err, refl, sym, ap, subst}
-use Rattle.std.proofs.Common.{inl, inr, arith}
-use Rattle.std.specs.Prelude.{IsSomeAnd, OnOk}
-use Rattle.std.proofs.lemmas.Bool.{cases_Bool}
+use Rattle.std.proofs.Common.{◌≡◌, Result, Ok, Err, refl, sym, subst}
+use Rattle.std.proofs.Common.{arith}
+use Rattle.std.specs.Prelude.{OnOk}
 use Rattle.sqlite.specs.{Effect.Database, State.State, State.HasCleanDisk, Held.Held, Held.state}
 use Rattle.posting_rules.specs.declared.fault.{Fault.Fault, Rule.Rule}
 use Rattle.posting_rules.specs.declared.fault.Fault.TheVariants as told
 use Rattle.sqlite_trees.specs.declared.store.Store.{Ghosts}
-use Rattle.sql_meanings.specs.believed.Entries.{Entry}
 use Rattle.bank_transactions.specs.believed.Causes.{IsBefore}
 use Rattle.bank_transactions.proofs.Blamed.{comes, then_moment}
 use Rattle.store_rows.specs.believed.BankTables.{history as history_table, request as request_table}
 use Rattle.bank_store.specs.Walks.{IsStill}
-use Rattle.walked_rows.specs.Pairs.{BreaksPair, HasPairs, pair_with, paired}
+use Rattle.walked_rows.specs.Pairs.{HasPairs, paired}
 use Rattle.bank_reports.specs.Adding.{IsPassed}
 use Rattle.bank_store.specs.Failures.{HasFailedToRead, SaysOf}
 use Rattle.bank_reports.specs.Files.{FileRows, HasFile}

@@ -1,9 +1,9 @@
 -- What is told of a statement of a bank that shows a log.
 use Rattle.std.proofs.Common.{◌≡◌, ◌<◌, ◌≤◌, ◌+◌, ◌++◌, ℕ, Bool, true, false, cond, List, [], ◌∷◌, length, map}
 use Rattle.std.proofs.Common.{Option, Some, None, Result, Ok, Err, refl, sym, ap, subst, ◌∙◌, append-nil, inl, inr, arith}
-use Rattle.std.specs.Prelude.{ℤ, ◌&&◌, nat_le, pos, ◌+ℤ◌, ◌-◌, ◌^◌, nat_abs, option_map, IfSome, IsSomeAnd}
+use Rattle.std.specs.Prelude.{ℤ, pos, ◌+ℤ◌, ◌-◌, ◌^◌, nat_abs, option_map, IfSome, IsSomeAnd}
 use Rattle.std.specs.{List.AllByRecursion, Io.KnownBytes.Appends}
-use Rattle.std.proofs.lemmas.{Bool.Decides.nat_tests, Int.ints, List.length-append}
+use Rattle.std.proofs.lemmas.{Int.ints, List.length-append}
 use Rattle.message_records.proofs.References.{reference_again}
 use Rattle.message_records.specs.Records.{IsReference}
 use Rattle.message_records.specs.declared.limits.TheConstants.{MAX_BALANCE, MAX_MOMENT}
@@ -14,8 +14,8 @@ use Rattle.posting_rules.specs.believed.Entries.{DecidedRequest, decided, accoun
 use Rattle.posting_rules.proofs.SoundEntries.{AreSound, are_sound, few_enough}
 use Rattle.store_rows.specs.believed.SeveralRows.{given}
 use Rattle.walked_rows.specs.{Pairs.Pair, References.BreaksReference, References.text_entry}
-use Rattle.walked_rows.specs.Stored.{BreaksStated, posting_entry, posting_of, stated_pair}
-use Rattle.walked_rows.specs.declared.{postings.StoredPosting.StoredPosting, stated.StatedPosting.StatedPosting}
+use Rattle.walked_rows.specs.Stored.{BreaksStated, stated_pair}
+use Rattle.walked_rows.specs.declared.{stated.StatedPosting.StatedPosting}
 use Rattle.walked_rows.proofs.{RisingRows.all-append, Unbroken.all_after, Unbroken.reads_posting}
 use Rattle.report_contents.specs.Written.{AppendsPart}
 use Rattle.report_contents.specs.StatementText.{part_of, stated_text}

@@ -1,5 +1,5 @@
 -- The postings that the walk gave were added.
-use Rattle.std.proofs.Common.{◌≡◌, List}
+use Rattle.std.proofs.Common.{◌≡◌}
 use Rattle.sqlite.specs.{State.HasCleanDisk, State.Survives, Held.state}
 use Rattle.bank_store.specs.{Walks.IsStill, Walking.HasToldFault, Walking.postings_to_come}
 use Rattle.bank_reports.proofs.Summed.{AreSummed}
