@@ -18,7 +18,8 @@ use Rattle.bank_transactions.specs.{believed.Causes.Damage, believed.Causes.IsBr
 use Rattle.bank_transactions.proofs.{Blamed.between_also, KeepsRules.unbroken}
 use Rattle.bank_store.specs.believed.Down.{BreaksOpening, BreaksRule, IsBankCall, KeepsCause, OfDamage}
 use Rattle.bank_store.specs.believed.Down.{WasBrokenOrMet, bank_reason}
-use Rattle.bank_store.specs.{Down.GoesDown, Seen.fault_of, declared.bank.Bank.Bank}
+use Rattle.bank_transactions.specs.Undone.{IsUndone}
+use Rattle.bank_store.specs.{Down.GoesDown, Seen.fault_of, Walks.IsUntouchedIfOpen, declared.bank.Bank.Bank}
 use Rattle.bank_store.specs.believed.Seen.{bank_seen, cause_of, connection_of, database_of}
 use Rattle.bank_store.proofs.Broke.{BreaksShown, consulted, transacted}
 use Rattle.bank_store.proofs.Countered.{HoldsOfLogs, failed_between, has_room, keeps_file, cause_error, no_error, refuses}
@@ -135,7 +136,10 @@ module _ {S X : Type 0} {So : Tables → Type 0} {after : Tables → Tables} {wa
     (holds : HoldsOfLogs So) (cs : List Command) (is : IsChange after cs) (are : AreCommands cs)
     (e : TableFault) (told : Fault)
     (down : GoesDown (state g mid) (state g (connection_of new)) e (fault_of new) told)
-    (quiet : Survives (state g mid) (state g (connection_of new)) (λ _. ⊥)) where
+    (quiet : Survives (state g mid) (state g (connection_of new)) (λ _. ⊥))
+    (undone : HasCleanDisk (state g mid) → IsUndone (state g (connection_of old)) (state g mid))
+    (back : HasCleanDisk (state g (connection_of new))
+    → IsUntouchedIfOpen (state g mid) (state g (connection_of new))) where
   refusal : (Met : Damage S) {Adds : Additions}
       → ((rule : Rule) → Met (connection_of old) (connection_of new) rule
       → IsBrokenOrMet g AnyRow (connection_of old) (connection_of new) rule)
@@ -153,6 +157,9 @@ module _ {S X : Type 0} {So : Tables → Type 0} {after : Tables → Tables} {wa
             reason_of g old new told (λ tells. record {
               cause = cause_error _ _ (fault_of new) told e down tells;
               failed = failed_between g a mid c (fault_of new) told quiet e does down;
+              undone = λ clean is_open.
+                  let same = back clean is_open in
+                  same.now_is ∙ (undone (omega (arith, quiet.clean, clean)) same.was_open).1;
             })
             (of_wider told (λ rule. HasCleanDisk (state g c) → Met a c rule) (WasBrokenOrMet g AnyRow old new)
             (λ rule met clean. wide rule (met clean)) broken)

@@ -1,5 +1,5 @@
 -- How a bank goes down, the error that it keeps, and what every call of it promises.
-use Rattle.std.specs.Prelude.{◌≡◌, ℕ, List, length, Some, None, IsSome, Result, ⊤}
+use Rattle.std.specs.Prelude.{◌≡◌, ℕ, List, length, Some, None, IsSome, IsTrue, Result, ⊤}
 use Rattle.sqlite.specs.State.{HasCleanDisk}
 use Rattle.sqlite.specs.declared.error.Error.{Error}
 use Rattle.sqlite_trees.specs.declared.store.Store.{Ghosts}
@@ -21,11 +21,12 @@ use Rattle.bank_store.specs.declared.bank.Bank.{Bank}
 
 -- The bank has an error for its cause. On an honest disk a call of `sqlite` failed with that error in
 -- between: no error is made up, none says that there is no such row, and none says that the key of a new row
--- is taken.
+-- is taken. As long as the store is open, all that the file holds is as it was.
 pub record KeepsCause {S : Type 0} (g : Ghosts S) (old new : Bank S g) : Type 0 where
   pub cause : IsSome (cause_of new)
   pub failed : HasCleanDisk (file_of new) → (e : Error) → cause_of new ≡ Some e
       → HasFailedBetween g (connection_of old) (connection_of new) e
+  pub undone : HasCleanDisk (file_of new) → IsTrue (file_of new).is_open → database_of g new ≡ database_of g old
 
 -- ---- the rule that is reported to be broken
 

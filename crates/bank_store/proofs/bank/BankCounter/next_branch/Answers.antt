@@ -18,7 +18,8 @@ refused : (g : Over) (c : goal.After-go_down g)
 refused g c =
     consult_refused g.S.Store c.args.self.now c.go_down.new.self c.read_next_branch.new.conn sound_tables []
     stays tt c.in-Err.fault
-    c.go_down.result c.go_down.ensures.down c.go_down.ensures.survives c.in-Err.ensures.says
+    c.go_down.result c.go_down.ensures.down c.go_down.ensures.survives c.in-Err.ensures.undone
+    c.go_down.ensures.undone c.in-Err.ensures.says
 
 pub returns-in-Ok : goal.returns-in-Ok
 returns-in-Ok g c =

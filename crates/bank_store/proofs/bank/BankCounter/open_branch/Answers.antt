@@ -28,7 +28,7 @@ refused g c =
     (ready_to_open b terms above c.requires.few)
     (Open b terms ∷ [])
     (opens b terms above c.requires.few) are c.in-Err.fault c.go_down.result c.go_down.ensures.down
-    c.go_down.ensures.survives
+    c.go_down.ensures.survives c.in-Err.ensures.undone c.go_down.ensures.undone
     c.in-Err.ensures.transacts
 
 pub returns-in-Ok : goal.returns-in-Ok

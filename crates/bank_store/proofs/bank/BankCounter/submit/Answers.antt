@@ -59,6 +59,7 @@ refused g c =
     transaction_refused g.S.Store c.args.self.now c.go_down.new.self c.post_looked_up.new.conn (of_logs 1)
     (posts m rs) (posts_all m rs) are c.in-Err.fault c.go_down.result c.go_down.ensures.down
     c.go_down.ensures.survives
+    (c.in-Err.ensures.undone rs (c.of_one-batch.ensures c.args.bytes.now read)) c.go_down.ensures.undone
     (c.in-Err.ensures.says rs (c.of_one-batch.ensures c.args.bytes.now read))
 
 pub returns-in-Ok-post_looked_up : goal.returns-in-Ok-post_looked_up

@@ -36,6 +36,7 @@ refused g c =
     transaction_refused g.S.Store c.args.self.now c.go_down.new.self c.post_all.new.conn (of_logs (length rs))
     (posts m rs) (posts_all m rs) are
     c.in-Err.fault c.go_down.result c.go_down.ensures.down c.go_down.ensures.survives
+    (c.in-Err.ensures.undone rs c.in_ok-batch.ensures.made) c.go_down.ensures.undone
     (c.in-Err.ensures.says rs c.in_ok-batch.ensures.made)
 
 pub returns-in-Ok : goal.returns-in-Ok

@@ -61,7 +61,8 @@ pub returns : goal.returns
 returns g c =
     let no = consult_refused g.S.Store c.args.self.now c.go_down.new.self c.read_log.new.conn sound_tables [] stays
     tt c.in-Err.fault
-    c.go_down.result c.go_down.ensures.down c.go_down.ensures.survives c.in-Err.ensures.says in
+    c.go_down.result c.go_down.ensures.down c.go_down.ensures.survives c.in-Err.ensures.undone
+    c.go_down.ensures.undone c.in-Err.ensures.says in
     record {
       answer = tt;
       call = refused_call g.S.Store c.args.self.now c.go_down.new.self [] c.go_down.result no c.in_ok-up.ensures.up;
