@@ -19,7 +19,8 @@ refused : (g : Over) (c : goal.After-go_down g)
 refused g c =
     consult_refused g.S.Store c.args.self.now c.go_down.new.self c.read_teller.new.conn sound_tables [] stays
     tt c.in-Err.fault
-    c.go_down.result c.go_down.ensures.down c.go_down.ensures.survives c.in-Err.ensures.says
+    c.go_down.result c.go_down.ensures.down c.go_down.ensures.survives c.in-Err.ensures.undone
+    c.go_down.ensures.undone c.in-Err.ensures.says
 
 pub returns-in-Ok-clause-answer : goal.returns-in-Ok-clause-answer
 returns-in-Ok-clause-answer g c clean log s =
