@@ -14,11 +14,7 @@ use posting_core::{BranchLine, Counter, Fault};
 use std::alloc::{AllocError, Global};
 
 // The line of an account.
-fn line_of_account(
-    alloc: Global,
-    account: Account,
-    balance: Cents,
-) -> Result<String, AllocError>
+fn line_of_account(alloc: Global, account: Account, balance: Cents) -> Result<String, AllocError>
     ensures { IfOk result (λ text. string_bytes text ≡ account_line account balance) }
 {
     let number = account.get();
