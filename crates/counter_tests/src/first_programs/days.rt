@@ -4,18 +4,12 @@ use std::test::Fail;
 
 #[test]
 fn first_midnight(rt: HostRuntime) -> Result<(), Fail> {
-    assert_eq!(rt;
-        (read_day("2026-11-28"), read_zone("+01:00")),
-        (Some(20_785), Some(3_600))
-    );
+    assert_eq!(rt; read_day("2026-11-28"), Some(20_785));
+    assert_eq!(rt; read_zone("+01:00"), Some(3_600));
     assert_eq!(rt; first_second(20_785, 3_600), 1_795_820_400);
-    assert_eq!(rt;
-        (read_day("2028-02-29"), read_day("2027-02-29")),
-        (Some(21_243), None)
-    );
-    assert_eq!(rt;
-        (read_zone("-00:30"), read_zone("-00:00")),
-        (Some(-1_800), None)
-    );
+    assert_eq!(rt; read_day("2028-02-29"), Some(21_243));
+    assert_eq!(rt; read_day("2027-02-29"), None);
+    assert_eq!(rt; read_zone("-00:30"), Some(-1_800));
+    assert_eq!(rt; read_zone("-00:00"), None);
     Ok(())
 }
