@@ -144,7 +144,8 @@ impl<R: Source + Drop, W: Sink + Drop> Client<R, W> {
 
     /// It can be gone on with at once, whatever its stream says.
     pub fn has_more(&self) -> bool
-        ensures { result ≡ false → self.now.parting ≡ None → self.now.written ≡ length self.now.output.items
+        ensures more { result ≡ true → (self.now.has_more ≡ true) × (self.now.parting ≡ None) }
+        ensures rests { result ≡ false → self.now.parting ≡ None → self.now.written ≡ length self.now.output.items
             → self.now.has_more ≡ false }
     {
         self.has_more && self.parting.is_none() && self.is_written()
@@ -159,7 +160,8 @@ impl<R: Source + Drop, W: Sink + Drop> Client<R, W> {
 
     /// Nothing more is done for it.
     pub fn is_over(&self) -> bool
-        ensures { result ≡ true → IsOver self.now }
+        ensures over { result ≡ true → IsOver self.now }
+        ensures goes_on { result ≡ false → IsOver self.now → ⊥ }
     {
         self.parting.is_some() && self.is_written()
     }
