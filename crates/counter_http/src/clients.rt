@@ -31,9 +31,9 @@ pub trait Clients {
     ghost told: { Self → Option (List (ClientsTold (Self.Reader × Self.Writer))) } = { λ _. None };
 
     /// Waits until a stream is ready, one more client has come where more are to come, or a limit has passed. It
-    /// doesn't wait where a client has more: of the others each whole message that was read is answered. Where all places are taken, it may give a client up that says
-    /// nothing, for the next one. It says how it is with each of them, in their order; of those
-    /// that it says nothing of nothing is known.
+    /// doesn't wait where a client has more: of the others each whole message that was read is answered. Where all
+    /// places are taken, it may give a client up that says nothing, for the next one. It says how it is with each of
+    /// them, in their order; of those that it says nothing of nothing is known.
     fn wait(
         &mut self,
         clients: &[Client<Self::Reader, Self::Writer>],

@@ -2,7 +2,8 @@
 //! order, by any counter. `POST /post` with the 100 bytes of a record submits it (TPC-B 1.2), and the 200
 //! bytes of its reply come back. `GET /account/1` answers the line `account 1 balance 500`,
 //! `GET /teller/1` so that of a teller, and `GET /branches` a line for each open branch, with its number, its count
-//! of accounts and its balance. Another bank follows by `GET /log/0`, entries of the log after so many, and `GET /plan`, the branches as a plan. The
+//! of accounts and its balance. Another bank follows by `GET /log/0`, entries of the log after so many, and
+//! `GET /plan`, the branches as a plan. The
 //! function `first_message` of `http_tests`, which a test runs, posts a record, and gives what is answered:
 //!
 //! ```rust

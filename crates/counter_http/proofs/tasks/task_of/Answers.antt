@@ -43,4 +43,3 @@ returns-in-Some-Plan c =
     let plan : c.in-Some-Plan.field-0 ≡ Plan = search rules in
     at_route (λ o. IsTaskOn o (asked c.args.message.now) c.plan_task.result) Plan _ _ _ plan c.in-Some-Plan.is
     (c.find.ensures ∙ ap route_of c.path_of-path.ensures) c.plan_task.ensures
-
