@@ -1,7 +1,7 @@
 -- A SELECT by key tells of a row that lies under the key, and an UPDATE by key of one row changes it alone, whatever
 -- rows the tables have.
 use Rattle.sql_meanings.specs.Names.{ℕ, ℤ, List, [], map, filter, length, Ok, Err, Row, Null, Int, Term, eval_all}
-use Rattle.sql_meanings.specs.Names.{Schema, Table, IsDatabase, State, Executes, QueriesRowInside, overlay}
+use Rattle.sql_meanings.specs.Names.{Schema, Table, State, Executes, QueriesRowInside, overlay}
 use Rattle.sql_meanings.specs.Names.{QueryReturnedNoRows, IsSureAnswer, Edit, Given, edit_of, ids_of}
 use Rattle.sql_meanings.specs.Names.{without_rowid, put_row, cast_row, true, are_fresh, is_eq}
 use Rattle.sql_meanings.proofs.Names.{refl, sym, ap, subst, ◌∙◌, inl, inr, nil_from_length, length-map, length_permutation}
@@ -21,7 +21,7 @@ use Rattle.sql_meanings.specs.believed.Tables.{tree_of}
 use Rattle.sql_meanings.proofs.{Defining.defined_stands, Keyed.WritesAs, OnlyShowing.no_rows_error}
 use Rattle.sql_meanings.proofs.PlainReads.{first_answers, none_or_fails}
 use Rattle.sql_meanings.proofs.ReadTables.{ReadsAs, overlay_low}
-use Rattle.sql_meanings.proofs.{RowsUnder.answer_under, TablesBeside.Standing, TablesBeside.standing, TablesBeside.trees_apart}
+use Rattle.sql_meanings.proofs.{RowsUnder.answer_under, TablesBeside.Standing, TablesBeside.trees_apart}
 use Rattle.sql_meanings.proofs.{UnderKeys.cast_under, UnderKeys.others_left, UnderKeys.others_put, UnderKeys.put_under}
 use Rattle.sql_meanings.proofs.{UnderKeys.taken_out, Writing.Wrote, Writing.inserts, Writing.uncounted}
 use Rattle.sql_meanings.proofs.{Writing.updates, PutRows.PutsEachAs, TableWrites.IsPlain}
@@ -45,9 +45,8 @@ none_made f xs same = nil_from_length xs (sym (length-map xs f) ∙ sym (length_
 
 -- ---- a SELECT
 
-module _ (old new : State) (table : Table) (free : table.references ≡ []) (sound : ∥ IsDatabase old.now ∥₁)
-    (defined : Defines old.now.schema table) (text : List ℕ) (project : List Term) (k : ℤ)
-    (reads : ReadsAs table text (Int k ∷ []) (λ t. by_key t project)) where
+module _ (old new : State) (table : Table) (at : Standing old.now.schema table) (text : List ℕ) (project : List Term)
+    (k : ℤ) (reads : ReadsAs table text (Int k ∷ []) (λ t. by_key t project)) where
   abbrev shown : Row → Row
   shown r = eval_all project ((Int k ∷ []) ∷ r ∷ [])
 
@@ -58,7 +57,6 @@ module _ (old new : State) (table : Table) (free : table.references ≡ []) (sou
       → IsSureAnswer (by_key (tree_of old.now.schema table.name) project) (overlay old.now.trees []) (Int k ∷ []) rows
       → IsPermutation (map shown under) rows
   answers rows sure =
-      let at = standing old.now table free sound defined in
       subst (λ l. IsPermutation (map shown (filter (has_rowid k) l)) rows)
       (overlay_low old.now.trees (tree_of old.now.schema table.name) at.has.low)
       (answer_under Null (overlay old.now.trees []) k [] (tree_of old.now.schema table.name) project rows (sure Null))
@@ -67,7 +65,6 @@ module _ (old new : State) (table : Table) (free : table.references ≡ []) (sou
   pub shows_under : (row : Row) → QueriesRowInside text (Int k ∷ []) old new (Ok row)
       → (r : Row) × Has under r × (row ≡ shown r)
   shows_under row h =
-      let at = standing old.now table free sound defined in
       let m = reads.means old.now.schema at.place (tree_of old.now.schema table.name) at.has in
       let accepts = reads.accepts old.now.schema at.place (tree_of old.now.schema table.name) at.has in
       let got = first_answers old.now.schema text (Int k ∷ []) (by_key (tree_of old.now.schema table.name) project)
@@ -78,7 +75,6 @@ module _ (old new : State) (table : Table) (free : table.references ≡ []) (sou
   -- where none is shown, none lies there
   pub none_under : QueriesRowInside text (Int k ∷ []) old new (Err QueryReturnedNoRows) → under ≡ []
   none_under h =
-      let at = standing old.now table free sound defined in
       let m = reads.means old.now.schema at.place (tree_of old.now.schema table.name) at.has in
       let accepts = reads.accepts old.now.schema at.place (tree_of old.now.schema table.name) at.has in
       elim (none_or_fails old.now.schema text (Int k ∷ []) (by_key (tree_of old.now.schema table.name) project)
@@ -105,16 +101,15 @@ wrote_beside old new table free defined edit count at wrote = record {
 }
 
 -- an INSERT of given values leaves them
-pub puts_beside : (old new : State) (t : Table) → IsPlain (uncounted t) → ∥ IsDatabase old.now ∥₁
+pub puts_beside : (old new : State) (t : Table) → IsPlain (uncounted t) → Standing old.now.schema (uncounted t)
     → Defines old.now.schema (uncounted t) → (text : List ℕ) (params : Row) (news : List Entry)
     → PutsEachAs (uncounted t) text params news → (count : ℕ) → Executes text params old new (Ok count)
-    → OthersStay old.now new.now (uncounted t) × IsDatabase new.now
-puts_beside old new t is sound defined text params news puts count h =
-    let at = standing old.now (uncounted t) is.free sound defined in
+    → OthersStay old.now new.now (uncounted t)
+puts_beside old new t is at defined text params news puts count h =
     let tree = tree_of old.now.schema t.name in
     let wrote = inserts old new text params at.place (placed_at t tree) at.has.listed at.stands count puts.terms
     puts.width (puts.means old.now.schema at.place tree at.has) h in
-    (wrote_beside old new (uncounted t) is.free defined _ count refl wrote, wrote.sound)
+    wrote_beside old new (uncounted t) is.free defined _ count refl wrote
 
 -- rows that keep their rowids
 given_are : (rows news : List Row) → numbered Given rows news ≡ news
@@ -129,7 +124,6 @@ pub record SetsUnder (old new : State) (table : Table) (k : ℤ) (set : Row → 
   pub was : Row
   pub only : rows_under old.now table k ≡ was ∷ []
   pub there : Has (rows_under new.now table k) (set was)
-  pub sound : IsDatabase new.now
 
 module _ (old new : State) (table : Table) (free : table.references ≡ []) (at : Standing old.now.schema table)
     (defined : Defines old.now.schema table) (text : List ℕ) (k : ℤ) (more : Row) (project : List Term)
@@ -196,7 +190,6 @@ module _ (old new : State) (table : Table) (free : table.references ≡ []) (at 
         only = one.1;
         there = subst (λ l. Has (filter (has_rowid k) l) (set_as was)) (sym now)
             (put_under k (set_as was) (without_rowid k (old.now.trees tree)) here);
-        sound = wrote.2.sound;
       }
     where
       own : (was : Row) → Has (old.now.trees tree) was → has_rowid k was ≡ true → has_rowid k (set_as was) ≡ true

@@ -8,6 +8,7 @@ use Rattle.sql_meanings.specs.{believed.Making.Stands, believed.Entries.Entry, b
 use Rattle.sql_meanings.proofs.TableStands.{found_apart, high_not}
 use Rattle.sql_meanings.specs.believed.Tables.{Defines, Holds, placed_at, tree_of, width_of}
 use base.Stored.{Coded-set}
+use Rattle.sql_meanings.specs.Under.{IsStored}
 use Rattle.std.specs.Prelude.{◌≡◌, ◌≢◌, ◌^◌}
 
 -- the place of the table in the schema
@@ -37,26 +38,33 @@ low db table free sound d =
     (low_tree db.schema db.trees (placed_at table (tree_of db.schema table.name)) it
     (defined_stands db.schema table free d).listed))
 
--- a table that is defined is found, and stands
-pub standing : (db : Database) (table : Table) → table.references ≡ [] → ∥ IsDatabase db ∥₁
-    → Defines db.schema table
-    → Standing db.schema table
-standing db table free sound d =
-    let at = found db.schema table d in
-    let stands = defined_stands db.schema table free d in
+-- a table that is stored is found, and stands
+pub standing_stored : (schema : Schema) (table : Table) → table.references ≡ [] → IsStored schema table
+    → Standing schema table
+standing_stored schema table free there =
+    let at = found schema table there.defined in
+    let stands = defined_stands schema table free there.defined in
     record {
       place = at.place;
       has = record {
         named = at.named;
         listed = at.listed;
-        found =
-            found_apart db.schema.tables (placed_at table (tree_of db.schema table.name)) stands.listed
-            stands.apart;
-        low =
-            low db table free sound d;
+        found = found_apart schema.tables (placed_at table (tree_of schema table.name)) stands.listed stands.apart;
+        low = there.low;
       };
       stands = stands;
     }
+
+-- a table that a sound database defines is stored
+pub is_stored : (db : Database) (table : Table) → table.references ≡ [] → ∥ IsDatabase db ∥₁ → Defines db.schema table
+    → IsStored db.schema table
+is_stored db table free sound d = record { defined = d; low = low db table free sound d }
+
+pub standing : (db : Database) (table : Table) → table.references ≡ [] → ∥ IsDatabase db ∥₁
+    → Defines db.schema table
+    → Standing db.schema table
+standing db table free sound d =
+    standing_stored db.schema table free (is_stored db table free sound d)
 
 -- two names have two trees
 pub trees_apart : (schema : Schema) (a b : Table) → a.references ≡ [] → b.references ≡ [] → Defines schema a

@@ -1,8 +1,13 @@
 -- The rows of a table as they lie in its tree, whatever values they have and in whatever order.
-use Rattle.sql_meanings.specs.Names.{ℤ, List, [], filter, Row, Table, Database}
+use Rattle.sql_meanings.specs.Names.{ℤ, List, [], filter, false, Row, Schema, Table, Database}
 use Rattle.sqlite.specs.Tree.{has_rowid}
 use Rattle.sql_meanings.specs.believed.Tables.{Defines, tree_of}
-use Rattle.std.specs.Prelude.{◌≡◌, ◌≢◌}
+use Rattle.std.specs.Prelude.{◌≡◌, ◌≢◌, ◌^◌, nat_le}
+
+-- the schema defines the table, in a tree below those that a query makes for itself
+pub record IsStored (schema : Schema) (table : Table) : Type 0 where
+  pub defined : Defines schema table
+  pub low : nat_le (2 ^ 31) (tree_of schema table.name) ≡ false
 
 -- the rows of the table that lie under a key
 abbrev pub rows_under : Database → Table → ℤ → List Row
