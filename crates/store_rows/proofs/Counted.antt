@@ -2,7 +2,7 @@
 use Rattle.std.proofs.Common.{◌≡◌, ◌<◌, ◌∙◌, ℕ, ℤ, pos, Bool, true, false, List, [], ◌∷◌, Some, None, Option, Ok, Err}
 use Rattle.std.proofs.Common.{Result, refl, sym, ap, subst, inl, inr, arith, find, option_map}
 use Rattle.std.specs.Prelude.{map, filter}
-use Rattle.sqlite.specs.{Effect.Database, Held.state, Order.Row, Order.column, Schema.Schema, Tree.has_rowid}
+use Rattle.sqlite.specs.{Effect.Database, Held.state, Order.Row, Order.column, Schema.Schema, Table.Table, Tree.has_rowid}
 use Rattle.sqlite.specs.State.{State, ExecutesInside}
 use Rattle.sqlite.specs.declared.{error.Error.Error, transaction.Transaction.Transaction}
 use Rattle.sqlite.specs.declared.types.Value.{TheVariants.Int}
@@ -10,19 +10,19 @@ use Rattle.sqlite_rules.specs.Lists.{Has}
 use Rattle.sqlite_rules.proofs.ListLemmas.{all_has, has_found}
 use Rattle.sqlite_trees.proofs.ListLemmas.{filter-map}
 use Rattle.sqlite_trees.specs.declared.store.Store.{Ghosts}
-use Rattle.sql_meanings.specs.Under.{rows_under}
+use Rattle.sql_meanings.specs.Under.{IsStored, rows_under}
 use Rattle.sql_meanings.specs.Entries.{listed}
 use Rattle.sql_meanings.specs.believed.Entries.{Entry, HasWidth, has_key, stored}
-use Rattle.sql_meanings.specs.believed.Tables.{Defines}
+use Rattle.sql_meanings.specs.believed.Tables.{Holds}
 use Rattle.sql_meanings.proofs.{EntryLists.cast_int, EntryLists.one_filter, EntryLists.rowid_is, KeyedRows.sets_under}
-use Rattle.sql_meanings.proofs.TablesBeside.{Standing, standing}
+use Rattle.sql_meanings.proofs.TablesBeside.{standing_stored}
 use Rattle.store_rows.specs.believed.BankTables as bank
 use Rattle.store_rows.specs.{believed.Columns.meta_in, believed.Columns.meta_numbers, believed.Columns.number_at, Statements.RunsUnder, View.HoldsRows}
 use Rattle.store_rows.specs.believed.Readings.{number}
 use Rattle.store_rows.specs.declared.metas.{StoredMeta.StoredMeta, TheConstants.META_ID}
 use Rattle.store_rows.specs.declared.texts.TheConstants as text
 use Rattle.store_rows.specs.Lying.{CountLies, IsBankFile, MetaLies, SetsCount}
-use Rattle.store_rows.proofs.{Lying.defined, Lying.met_one, LyingRows.number_ok, Readings.then_ok, ShownValues.number_shown}
+use Rattle.store_rows.proofs.{Lying.kept, Lying.met_one, LyingRows.number_ok, Readings.then_ok, ShownValues.number_shown}
 use Rattle.store_rows.proofs.{Setting.second_set, Setting.writes, SparedTexts.spares}
 
 -- what was read of it is what it counts
@@ -44,15 +44,18 @@ held_under k es = filter-map (has_rowid k) stored es ∙ ap (map stored) (tests 
     tests k [] = refl
     tests k (e ∷ es) = rw (rowid_is k e, tests k es) refl
 
--- where rows are held, it is what the row under the bank's id counts
+-- where rows are held, it is that entry which lies there
+pub under_is : (db : Database) (table : Table) (rows : List Entry) → Holds db table rows → (k : ℤ)
+    → rows_under db table k ≡ map stored (listed (find (has_key k) rows))
+under_is db table rows holds k =
+    ap (filter (has_rowid k)) holds.rows.are ∙ held_under k rows ∙ ap (map stored) (one_filter k rows holds.rows.rise)
+
+-- it is what the row under the bank's id counts
 pub count_held : (db : Database) (rows : List Entry) (n : ℕ) → HoldsRows db bank.meta rows → CountLies db n
     → (version : ℤ) × (meta_in rows ≡ Some (record { version = version; decided = pos n }))
 count_held db rows n has lies =
-    let under : rows_under db bank.meta (pos META_ID) ≡ map stored (listed (find (has_key (pos META_ID)) rows)) =
-    ap (filter (has_rowid (pos META_ID))) has.holds.rows.are ∙ held_under (pos META_ID) rows
-    ∙ ap (map stored) (one_filter (pos META_ID) rows has.holds.rows.rise) in
     go (find (has_key (pos META_ID)) rows) refl
-    (subst (λ l. Has l lies.0) under lies.1)
+    (subst (λ l. Has l lies.0) (under_is db bank.meta rows has.holds (pos META_ID)) lies.1)
   where
     go : (o : Option Entry) → find (has_key (pos META_ID)) rows ≡ o → Has (map stored (listed o)) lies.0
         → (version : ℤ) × (meta_in rows ≡ Some (record { version = version; decided = pos n }))
@@ -88,10 +91,9 @@ module _ {S : Type 0} (g : Ghosts S) (old new : Transaction S) (n : ℕ) where
       one h in
       let same : after.now.schema ≡ before.now.schema =
       (spares.set_meta before after (Int (pos META_ID) ∷ Int (pos n) ∷ []) 1 ran.0).0.schema in
-      let now : Defines after.now.schema bank.meta = defined after.now file 0 bank.meta refl in
-      let defined_before = subst (λ (s : Schema). Defines s bank.meta) same now in
-      let at = subst (λ (s : Schema). Standing s bank.meta) same (standing after.now bank.meta refl file.sound now) in
-      let left = sets_under before after bank.meta refl at defined_before text.SET_META.now (pos META_ID)
+      let there = subst (λ (s : Schema). IsStored s bank.meta) same (kept after.now file 0 bank.meta refl) in
+      let at = standing_stored before.now.schema bank.meta refl there in
+      let left = sets_under before after bank.meta refl at there.defined text.SET_META.now (pos META_ID)
       (Int (pos n) ∷ []) second_set (writes.meta (pos n)) (λ r. (refl, refl)) ran.0 in
       (_, left.there, cast_int (pos n))
 

@@ -1,15 +1,15 @@
 -- The CREATE texts, each of its table under any schema that takes it, and the text of the table that counts
 -- for AUTOINCREMENT.
-use Rattle.std.proofs.Common.{lit≤, refl, ◌≡◌, false}
-use Rattle.sqlite.specs.{Does.sequence_text, Table.Table}
+use Rattle.std.proofs.Common.{lit≤, refl, ap, ◌≡◌, ◌∙◌, ◌∷◌, [], false, List, map, Ok, ℕ}
+use Rattle.sqlite.specs.{Compile.table_defined_by, Does.sequence_text, Table.Table}
 use Rattle.sqlite_tied.specs.Compute.{everything}
 use Rattle.std.specs.List.{AllByRecursion}
 use Rattle.sql_meanings.specs.Making.{CreatesOnly, IsMakeable}
-use Rattle.sql_meanings.proofs.{ListedTexts.listing_tests, Makeable.creates_by, Makeable.makeable}
+use Rattle.sql_meanings.proofs.{ListedTexts.listing_tests, Makeable.creates_by, Makeable.makeable, Places.all_weaker}
 use Rattle.store_rows.specs.Creation.{all_texts}
 use Rattle.store_rows.specs.believed.BankTables as bank
 use Rattle.store_rows.specs.declared.texts.TheConstants.{MAKE_META, MAKE_BRANCH, MAKE_TELLER, MAKE_ACCOUNT}
-use Rattle.store_rows.specs.declared.texts.TheConstants.{MAKE_HISTORY, MAKE_REQUEST, MAKE_FLOOR, MAKE_REFERENCE}
+use Rattle.store_rows.specs.declared.texts.TheConstants.{MAKE_HISTORY, MAKE_REQUEST, MAKE_FLOOR, MAKE_REFERENCE, MAKE_TABLES}
 
 -- the table that counts for AUTOINCREMENT
 pub sequence : (t : Table) × IsMakeable sequence_text t
@@ -79,3 +79,15 @@ each_creates =
         ),
       ),
     )
+
+-- texts that define such tables each define them all, in their order
+each_defined : (its : List (List ℕ × Table)) → AllByRecursion (λ it. table_defined_by it.0 ≡ Ok it.1) its
+    → map (λ it. table_defined_by it.0) its ≡ map (λ it. Ok it.1) its
+each_defined [] all = refl
+each_defined (it ∷ its) all =
+    ap (λ head. head ∷ map (λ it. table_defined_by it.0) its) all.0 ∙ ap (λ rest. Ok it.1 ∷ rest) (each_defined its all.1)
+
+-- the tables of a bank are those that the texts define
+pub texts_define : map (λ text. table_defined_by text.now) MAKE_TABLES.now ≡ map Ok bank.bank_tables
+texts_define = each_defined all_texts (all_weaker (λ it. CreatesOnly it.0 it.1 × (it.1.is_counted ≡ false))
+    (λ it. table_defined_by it.0 ≡ Ok it.1) (λ it creates. creates.0.makeable.defined) all_texts each_creates)

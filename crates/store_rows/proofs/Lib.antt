@@ -14,6 +14,7 @@ pub mod GetRequest
 pub mod Getting
 pub mod Lookups
 pub mod Lying
+pub mod LyingFound
 pub mod LyingRows
 pub mod MadeSoFar
 pub mod MetaRow

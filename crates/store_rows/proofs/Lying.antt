@@ -15,14 +15,15 @@ use Rattle.sqlite_rules.proofs.ListLemmas.{all_has, has_got}
 use Rattle.sqlite_schema.specs.declared.schema.Kind.TheVariants.{Integer}
 use Rattle.sqlite_trees.specs.declared.store.Store.{Ghosts}
 use Rattle.message_records.specs.declared.limits.TheConstants.{MAX_BALANCE}
-use Rattle.sql_meanings.specs.{Queries.by_key, Under.OthersStay, Under.rows_under}
-use Rattle.sql_meanings.specs.believed.{Entries.Entry, StatementAnswers.is_taken_key, Tables.Defines}
+use Rattle.sql_meanings.specs.{Queries.by_key, Under.IsStored, Under.OthersStay, Under.rows_under}
+use Rattle.sql_meanings.specs.believed.{Contents.HoldsEach, Entries.Entry, StatementAnswers.is_taken_key, Tables.Defines}
 use Rattle.sql_meanings.proofs.EntryLists.{cast_int}
 use Rattle.sql_meanings.proofs.Keyed.{WritesAs}
 use Rattle.sql_meanings.specs.believed.Tables.{placed_at, tree_of}
 use Rattle.sqlite_rules.specs.Cast.{cast_row}
 use Rattle.sql_meanings.proofs.KeyedRows.{none_under, puts_beside, sets_under, shows_under}
-use Rattle.sql_meanings.proofs.{PutRows.PutsEachAs, ReadTables.ReadsAs, TablesBeside.standing}
+use Rattle.sql_meanings.proofs.{PutRows.PutsEachAs, ReadTables.ReadsAs, TablesBeside.Standing}
+use Rattle.sql_meanings.proofs.TablesBeside.{is_stored, standing_stored}
 use Rattle.store_rows.specs.believed.BankTables.{bank_tables}
 use Rattle.store_rows.specs.{Faults.added, Failures.ReadsAnswer, Statements.PutsRow, Statements.RunsUnder}
 use Rattle.store_rows.specs.believed.Readings.{Reading}
@@ -37,22 +38,42 @@ use Rattle.store_rows.proofs.TableKinds.{Kind, table_of}
 free : AllByRecursion (λ t. t.references ≡ []) bank_tables
 free = (refl, (refl, (refl, (refl, (refl, (refl, (refl, (refl, tt))))))))
 
--- it defines each table
-pub defined : (db : Database) → IsBankFile db → (place : ℕ) (table : Table) → slice_get bank_tables place ≡ Some table
-    → Defines db.schema table
-defined db file place table listed =
-    all_has (Defines db.schema) bank_tables table file.defines (has_got bank_tables place table listed)
+-- it keeps the rows of each table
+pub kept : (db : Database) → IsBankFile db → (place : ℕ) (table : Table) → slice_get bank_tables place ≡ Some table
+    → IsStored db.schema table
+kept db file place table listed =
+    all_has (IsStored db.schema) bank_tables table file (has_got bank_tables place table listed)
+
+-- so each has its place in the schema
+pub placed : (db : Database) → IsBankFile db → (place : ℕ) (table : Table) → slice_get bank_tables place ≡ Some table
+    → Standing db.schema table
+placed db file place table listed = standing_stored db.schema table
+    (all_has (λ (t : Table). t.references ≡ []) bank_tables table free (has_got bank_tables place table listed))
+    (kept db file place table listed)
+
+-- a sound database that defines the tables is one
+pub defined_file : (db : Database) → ∥ IsDatabase db ∥₁ → AllByRecursion (Defines db.schema) bank_tables → IsBankFile db
+defined_file db sound defines = go bank_tables free defines
+  where
+    go : (tables : List Table) → AllByRecursion (λ t. t.references ≡ []) tables → AllByRecursion (Defines db.schema) tables
+        → AllByRecursion (IsStored db.schema) tables
+    go [] own each = tt
+    go (t ∷ tables) own each = (is_stored db t own.0 sound each.0, go tables own.1 each.1)
+
+-- as where it holds rows of each
+pub all_defined : (db : Database) (tables : List Table) (rows : List (List Entry)) → HoldsEach db tables rows
+    → AllByRecursion (Defines db.schema) tables
+all_defined db [] rows each = tt
+all_defined db (t ∷ tables) [] each = absurd each
+all_defined db (t ∷ tables) (es ∷ rows) each = (each.0.defined, all_defined db tables rows each.1)
 
 -- after a write of one table it is one still
 pub left_beside : (old new : State) (table : Table) → IsBankFile old.now → OthersStay old.now new.now table
-    → ∥ IsDatabase new.now ∥₁ → LeavesBeside table old.now new.now
-left_beside old new table file stay sound = record {
-  file = record {
-    sound = sound;
-    defines = subst (λ (s : Schema). AllByRecursion (Defines s) bank_tables) (sym stay.schema) file.defines;
-  };
+    → LeavesBeside table old.now new.now
+left_beside old new table file stay = record {
+  file = subst (λ (s : Schema). AllByRecursion (IsStored s) bank_tables) (sym stay.schema) file;
   beside = λ other among apart k. stay.rows other (all_has (λ (t : Table). t.references ≡ []) bank_tables other free among) apart
-      (all_has (Defines old.now.schema) bank_tables other file.defines among) k;
+      (all_has (IsStored old.now.schema) bank_tables other file among).defined k;
 }
 
 -- ---- a look-up
@@ -66,13 +87,11 @@ module _ {X : Type 0} (place : ℕ) (table : Table) (listed : slice_get bank_tab
       → LiesAs table shown read k old.now found
   found_lies old new file (Ok row) None reads' asked = absurd reads'
   found_lies old new file (Ok row) (Some x) reads' asked =
-      let own = all_has (λ (t : Table). t.references ≡ []) bank_tables table free (has_got bank_tables place table listed) in
-      let found = shows_under old new table own file.sound (defined old.now file place table listed) text project
-      (pos k) reads row asked in
+      let found = shows_under old new table (placed old.now file place table listed) text project (pos k) reads row
+      asked in
       (found.0, found.1, ap read (sym (found.2 ∙ same found.0)) ∙ reads')
   found_lies old new file (Err e) None reads' asked =
-      let own = all_has (λ (t : Table). t.references ≡ []) bank_tables table free (has_got bank_tables place table listed) in
-      none_under old new table own file.sound (defined old.now file place table listed) text project (pos k) reads
+      none_under old new table (placed old.now file place table listed) text project (pos k) reads
       (subst (λ e. QueriesRowInside text (Int (pos k) ∷ []) old new (Err e)) reads' asked)
   found_lies old new file (Err e) (Some x) reads' asked = absurd reads'
 
@@ -107,9 +126,9 @@ module _ {R : Type 0} (kind : Kind R) (text : List ℕ) (params : Row) (news : L
           → LeavesBeside (table_of kind) before.now after.now
       go before after file (Err e) ran is = absurd (not_added done (is_taken_key e) e is)
       go before after file (Ok count) ran is =
-          let left = puts_beside before after kind.table kind.is_plain file.sound
-          (defined before.now file kind.place (table_of kind) kind.listed) text params news puts count ran.0 in
-          left_beside before after (table_of kind) file left.0 ∣ left.1 ∣₁
+          left_beside before after (table_of kind) file (puts_beside before after kind.table kind.is_plain
+          (placed before.now file kind.place (table_of kind) kind.listed)
+          (kept before.now file kind.place (table_of kind) kind.listed).defined text params news puts count ran.0)
 
 -- ---- a number that is set
 
@@ -145,10 +164,10 @@ module _ (place : ℕ) (table : Table) (listed : slice_get bank_tables place ≡
       let ran = subst (λ n. ExecutesInside 0 text (Int (pos k) ∷ Int z ∷ []) before after (Ok n))
       (met_one it.0 it.2) it.1 in
       let own = all_has (λ (t : Table). t.references ≡ []) bank_tables table free (has_got bank_tables place table listed) in
-      let it_is = defined before.now file place table listed in
-      let left = sets_under before after table own (standing before.now table own file.sound it_is) it_is text (pos k) (Int z ∷ []) project writes keyed ran.0 in (
+      let left = sets_under before after table own (placed before.now file place table listed)
+      (kept before.now file place table listed).defined text (pos k) (Int z ∷ []) project writes keyed ran.0 in (
         record {
-          beside = left_beside before after table file left.beside ∣ left.sound ∣₁;
+          beside = left_beside before after table file left.beside;
           others = left.others;
         },
         sets before.now after.now left.was left.only

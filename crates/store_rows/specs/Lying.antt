@@ -3,7 +3,7 @@
 use Rattle.std.specs.Prelude.{◌≡◌, ◌≢◌, ℕ, ℤ, pos, [], ◌∷◌, true, false, Bool, Option, Some, None, Result, Ok, Err}
 use Rattle.std.specs.Prelude.{IfOk, IsTrue, OnOk, ⊤}
 use Rattle.std.specs.List.{AllByRecursion}
-use Rattle.sqlite.specs.Effect.{Database, IsDatabase}
+use Rattle.sqlite.specs.Effect.{Database}
 use Rattle.sqlite.specs.Held.{state}
 use Rattle.sqlite.specs.Order.{Row, column}
 use Rattle.sqlite.specs.State.{HasCleanDisk}
@@ -14,8 +14,7 @@ use Rattle.sqlite_rules.specs.Lists.{Has}
 use Rattle.sqlite_trees.specs.declared.store.Store.{Ghosts}
 use Rattle.posting_rules.specs.declared.rows.BranchRow.{BranchRow}
 use Rattle.posting_rules.specs.declared.rows.FloorRow.{FloorRow}
-use Rattle.sql_meanings.specs.Under.{rows_under}
-use Rattle.sql_meanings.specs.believed.Tables.{Defines}
+use Rattle.sql_meanings.specs.Under.{IsStored, rows_under}
 use Rattle.store_rows.specs.believed.BankTables as bank
 use Rattle.store_rows.specs.believed.BankTables.{bank_tables}
 use Rattle.store_rows.specs.believed.Readings.{Reading, balance_of, branch_of, floor_of}
@@ -27,10 +26,9 @@ use Rattle.store_rows.specs.declared.holders.Member.TheVariants.{Account, Teller
 use Rattle.store_rows.specs.declared.metas.StoredMeta.{StoredMeta}
 use Rattle.store_rows.specs.declared.metas.TheConstants.{META_ID}
 
--- a sound database that defines each table of a bank
-pub record IsBankFile (db : Database) : Type 0 where
-  pub sound : ∥ IsDatabase db ∥₁
-  pub defines : AllByRecursion (Defines db.schema) bank_tables
+-- its schema defines each table of a bank, and keeps its rows
+abbrev pub IsBankFile : Database → Type 0
+IsBankFile db = AllByRecursion (IsStored db.schema) bank_tables
 
 -- ---- what lies under a key
 

@@ -35,8 +35,8 @@ pub(crate) const MAKE_FLOOR: &str =
 pub(crate) const MAKE_REFERENCE: &str =
     "CREATE TABLE request_reference (ordinal INTEGER PRIMARY KEY, reference TEXT NOT NULL) STRICT";
 
-/// The texts that make the tables, in the order in which they are made.
-pub(crate) const MAKE_TABLES: &[&str] = &[
+/// The statements that make the tables of a bank, in this order.
+pub const MAKE_TABLES: &[&str] = &[
     MAKE_META,
     MAKE_BRANCH,
     MAKE_TELLER,
