@@ -1,0 +1,3 @@
+-- Values that are known under keys.
+pub mod Known
+pub mod Stamps
