@@ -1,3 +1,4 @@
 -- Dates and zones as ISO 8601 writes them.
 pub mod Calendar
 pub mod Reading
+pub mod Zoned

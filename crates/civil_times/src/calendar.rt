@@ -10,12 +10,12 @@ pub const LAST_DAY: u64 = 3_000_000;
 pub const MAX_AHEAD: u64 = 86_400;
 
 // The first year.
-const FIRST_YEAR: u64 = 1970;
+pub(crate) const FIRST_YEAR: u64 = 1970;
 
 // How many years from it on the calendar has.
 const YEARS: u64 = 8030;
 
-const SECONDS_PER_DAY: u64 = 86_400;
+pub(crate) const SECONDS_PER_DAY: u64 = 86_400;
 
 fn is_leap_year(year: u64) -> bool
     ensures { result ≡ is_leap_year year }
@@ -23,14 +23,15 @@ fn is_leap_year(year: u64) -> bool
     year % 4 == 0 && (year % 100 != 0 || year % 400 == 0)
 }
 
-fn days_of_year(year: u64) -> u64
+pub(crate) fn days_of_year(year: u64) -> u64
     ensures value { result ≡ days_of_year year }
+    ensures least { 365 ≤ result }
     ensures most { result ≤ 366 }
 {
     if is_leap_year(year) { 366 } else { 365 }
 }
 
-fn days_of_month(year: u64, month: u64) -> u64
+pub(crate) fn days_of_month(year: u64, month: u64) -> u64
     ensures value { result ≡ days_of_month year month }
     ensures most { result ≤ 31 }
 {

@@ -1,0 +1,2 @@
+-- What the proofs of dates share.
+pub mod Dated
