@@ -1,14 +1,14 @@
 -- A stream of entries, step by step, and what it leaves.
 use Rattle.std.proofs.Common.{◌≡◌, ◌⊎◌, inl, inr, ℕ, ◌+◌, ◌-◌, ◌*◌, ◌/◌, ◌^◌, ◌<◌, ◌≤◌, List, [], ◌∷◌, ◌++◌, length, take}
-use Rattle.std.proofs.Common.{Option, Err, refl, sym, ap, subst, drop, ◌∙◌, append_assoc, arith}
+use Rattle.std.proofs.Common.{Option, Err, refl, sym, ap, subst, drop, ◌∙◌, append_assoc, append-nil, arith}
 use Rattle.std.specs.{Prelude.◌%◌, List.AllByRecursion, Simd.first_chunks}
 use Rattle.std.specs.Io.KnownBytes.{Consumes, Keeps}
 use Rattle.std.proofs.KnownBytes.{Consumes-trans}
 use Rattle.std.proofs.lemmas.List.{drop-take, length-append, length-map, length-take-le, map-append, take_at}
 use Rattle.posting_rules.specs.believed.{Commands.Command, Runs.followed_by}
-use Rattle.posting_rules.specs.believed.Counter.{Seen, ShowsLog}
+use Rattle.posting_rules.specs.believed.Counter.{LeavesOnly, Seen, ShowsLog, ShowsPrefix}
 use Rattle.posting_rules.specs.declared.fault.Fault.{Fault}
-use Rattle.posting_core.specs.Entries.{ArePostsOf, IsEntry, IsNoEntry, new_after, requests_of}
+use Rattle.posting_core.specs.Entries.{IsEntry, IsNoEntry, new_after, requests_of}
 use Rattle.posting_core.specs.believed.LogEntries.{AnsweredRequest, entries_of, entry_of, log_entries}
 use Rattle.posting_core.specs.{believed.Batches.joined, declared.entries.TheConstants.ENTRY_BYTES}
 use Rattle.posting_core.specs.believed.Told.{ReadTold}
@@ -17,7 +17,7 @@ use Rattle.posting_core.proofs.Streaming.{nothing_read}
 use Rattle.posting_core.proofs.Stops.{refused_stop, stop_all, stop_part}
 use Rattle.posting_core.proofs.LogGrowth.{log_grows}
 use Rattle.branch_loader.specs.Following.{HasFollowed, HasTaken, IsRefusedFollowing, Stops, TakesAll, planned}
-use Rattle.branch_loader.specs.Followed.{Did, EndsFollowing, FollowsLog, LeavesFollowed, ShowsEntries}
+use Rattle.branch_loader.specs.Followed.{Did, EndsFollowing, FollowsLog, LeavesFollowed, LeavesTaken, ShowsEntries}
 use Rattle.branch_loader.specs.believed.Plans.{Rows}
 use Rattle.branch_loader.specs.declared.follow_fault.FollowFault.{FollowFault}
 use Rattle.branch_loader.specs.declared.follow_fault.FollowFault.TheVariants.{Bank, Differs, Memory, NoEntry, Read}
@@ -116,38 +116,21 @@ entries-append (x ∷ xs) ys one two = (one.0, entries-append xs ys one.1 two)
 module _ {C : Type 0} (seen : C → Seen) (spares : C → C → Type 0) (reason : Fault → C → C → Type 0) (rows : Rows)
     (old new : C) (entries : List AnsweredRequest) where
   taken_leaves : (commands : List Command) → HasTaken seen spares rows old new entries commands
-      → LeavesFollowed (seen old) (seen new) rows entries
-  taken_leaves commands taken = record {
-    commands = commands;
-    are = taken.are;
-    taken = length commands;
-    left = λ h log stood. stop_all (seen new) log commands commands refl (taken.takes.stands h log stood);
-  }
+      → LeavesTaken (seen old) (seen new) commands []
+  taken_leaves commands taken h log stood =
+      subst (λ (l : List Command). LeavesOnly (seen new) (ShowsPrefix log l (length commands))) (sym (append-nil commands))
+      (stop_all (seen new) log commands commands refl (taken.takes.stands h log stood))
 
-  pub followed_leaves : HasFollowed seen spares rows old new entries → LeavesFollowed (seen old) (seen new) rows entries
+  pub followed_leaves : (it : HasFollowed seen spares rows old new entries)
+      → LeavesTaken (seen old) (seen new) it.commands []
   followed_leaves it = taken_leaves it.commands it.taken
 
-  refused_leaves : (fault : Fault) → IsRefusedFollowing seen spares reason rows old new entries fault
-      → LeavesFollowed (seen old) (seen new) rows entries
-  refused_leaves fault it = record {
-    commands = it.followed.commands ++ it.refused;
-    are = subst (λ (l : List AnsweredRequest). ArePostsOf (planned rows) l (it.followed.commands ++ it.refused)) it.all
-        (posts-append (planned rows) it.done it.tried it.followed.commands it.refused it.followed.taken.are it.are);
-    taken = length it.followed.commands;
-    left = λ h log stood.
-        stop_part (seen new) log it.followed.commands it.refused (it.followed.commands ++ it.refused) refl
-        (refused_stop fault (seen it.stood) (seen new) (followed_by log it.followed.commands) it.refused it.refuses h
-        (it.followed.taken.takes.stands (it.honest h) log stood));
-  }
-
-  pub stops_leaves : length entries < 2 ^ 128 → (fault : FollowFault)
-      → Stops seen spares reason rows old new entries fault → LeavesFollowed (seen old) (seen new) rows entries
-  stops_leaves few (Bank fault) it = refused_leaves fault it
-  stops_leaves few (Differs other) it = taken_leaves (it few).commands (it few).taken
-  stops_leaves few (Truncated n) it = absurd it
-  stops_leaves few Read it = absurd it
-  stops_leaves few (NoEntry n) it = absurd it
-  stops_leaves few Memory it = absurd it
+  refused_leaves : (fault : Fault) (it : IsRefusedFollowing seen spares reason rows old new entries fault)
+      → LeavesTaken (seen old) (seen new) it.followed.commands it.refused
+  refused_leaves fault it h log stood =
+      stop_part (seen new) log it.followed.commands it.refused (it.followed.commands ++ it.refused) refl
+      (refused_stop fault (seen it.stood) (seen new) (followed_by log it.followed.commands) it.refused it.refuses h
+      (it.followed.taken.takes.stands (it.honest h) log stood))
 
   pub stops_did : length entries < 2 ^ 128 → (fault : FollowFault)
       → Stops seen spares reason rows old new entries fault
@@ -158,6 +141,17 @@ module _ {C : Type 0} (seen : C → Seen) (spares : C → C → Type 0) (reason 
   stops_did few Read it = absurd it
   stops_did few (NoEntry n) it = absurd it
   stops_did few Memory it = absurd it
+
+  pub stops_leaves : (few : length entries < 2 ^ 128) (fault : FollowFault)
+      (it : Stops seen spares reason rows old new entries fault)
+      → LeavesFollowed seen spares reason rows old new entries (Err fault) (stops_did few fault it)
+  unfolding stops_did
+  stops_leaves few (Bank fault) it = refused_leaves fault it
+  stops_leaves few (Differs other) it = taken_leaves (it few).commands (it few).taken
+  stops_leaves few (Truncated n) it = absurd it
+  stops_leaves few Read it = absurd it
+  stops_leaves few (NoEntry n) it = absurd it
+  stops_leaves few Memory it = absurd it
 
   -- to the end, the log has the entries that were new
   pub followed_grows : AllByRecursion IsEntry entries → HasFollowed seen spares rows old new entries

@@ -6,13 +6,13 @@ use Rattle.std.specs.Io.KnownBytes.{Consumes, IsAtEnd}
 use Rattle.posting_rules.specs.believed.Commands.{Command}
 use Rattle.posting_rules.specs.believed.Counter.{LeavesOnly, Seen, ShowsLog, ShowsPrefix, StandsAt}
 use Rattle.posting_rules.specs.declared.fault.Fault.{Fault}
-use Rattle.posting_core.specs.Entries.{ArePostsOf, IsEntry, IsNoEntry, new_after, requests_of}
+use Rattle.posting_core.specs.Entries.{IsEntry, IsNoEntry, new_after, requests_of}
 use Rattle.posting_core.specs.believed.LogEntries.{AnsweredRequest, entries_of, log_entries}
 use Rattle.posting_core.specs.Told.{HasReadFailed}
 use Rattle.posting_core.specs.believed.Batches.{joined}
 use Rattle.posting_core.specs.believed.Told.{EndsWith, IsEndOfInput, ReadTold}
 use Rattle.posting_core.specs.declared.entries.TheConstants.{ENTRY_BYTES}
-use Rattle.branch_loader.specs.Following.{HasDiffered, HasFollowed, IsRefusedFollowing, planned}
+use Rattle.branch_loader.specs.Following.{HasDiffered, HasFollowed, IsRefusedFollowing}
 use Rattle.branch_loader.specs.believed.Plans.{Rows}
 use Rattle.branch_loader.specs.declared.follow_fault.FollowFault.{FollowFault}
 use Rattle.branch_loader.specs.declared.follow_fault.FollowFault.TheVariants.{Bank, Differs, Memory, NoEntry, Read}
@@ -46,12 +46,20 @@ pub record ShowsEntries (seen : Seen) (texts : List (List ℕ)) : Type 0 where
   pub shows : ShowsLog seen log
   pub are : log_entries log ≡ texts
 
--- a crash leaves the log and a prefix of the commands that the entries are, which holds all that were taken
-pub record LeavesFollowed (old new : Seen) (rows : Rows) (entries : List AnsweredRequest) : Type 0 where
-  pub commands : List Command
-  pub are : ArePostsOf (planned rows) entries commands
-  pub taken : ℕ
-  pub left : new.honest → (log : List Command) → StandsAt old log → LeavesOnly new (ShowsPrefix log commands taken)
+-- a crash leaves the log, the commands that were taken, and of those that were refused a prefix
+abbrev pub LeavesTaken : (old new : Seen) → (taken refused : List Command) → Type 0
+LeavesTaken old new taken refused = new.honest → (log : List Command) → StandsAt old log
+    → LeavesOnly new (ShowsPrefix log (taken ++ refused) (length taken))
+
+-- it does so of what was done
+abbrev pub LeavesFollowed : {C : Type 0} (seen : C → Seen) (spares : C → C → Type 0) (reason : Fault → C → C → Type 0)
+    (rows : Rows) (old new : C) (entries : List AnsweredRequest) (result : Result ℕ FollowFault)
+    → Did seen spares reason rows old new entries result → Type 0
+LeavesFollowed seen spares reason rows old new entries (Err (Bank fault)) did =
+    LeavesTaken (seen old) (seen new) did.followed.commands did.refused
+LeavesFollowed seen spares reason rows old new entries (Err (Differs other)) did =
+    LeavesTaken (seen old) (seen new) did.commands []
+LeavesFollowed seen spares reason rows old new entries result did = LeavesTaken (seen old) (seen new) did.commands []
 
 pub record FollowsLog {C : Type 0} (seen : C → Seen) (spares : C → C → Type 0) (reason : Fault → C → C → Type 0)
     (rows : Rows) (r r' : Option (List ℕ)) (q q' : Option (List ReadTold)) (old new : C) (result : Result ℕ FollowFault)
@@ -64,7 +72,7 @@ pub record FollowsLog {C : Type 0} (seen : C → Seen) (spares : C → C → Typ
   pub ends : EndsFollowing result r' q q' (length entries) rest
   -- the bank was taken through their commands alone
   pub did : Did seen spares reason rows old new entries result
-  pub survives : LeavesFollowed (seen old) (seen new) rows entries
+  pub survives : LeavesFollowed seen spares reason rows old new entries result did
   -- to the end, whatever log it showed has the entries that were new after its own, byte for byte
   pub grows : IfOk result (λ count. (seen new).honest → (log : List Command) → ShowsLog (seen old) log
       → ShowsEntries (seen new) (log_entries log ++ entries_of (new_after (requests_of log) entries)))

@@ -1,4 +1,4 @@
-pub mod Faults
+pub mod SheetFaults
 pub mod Sheets
 pub mod Encoding
 pub mod Replies

@@ -26,7 +26,7 @@ pub enum BadRow {
 /// The column's name, or `columns`.
 impl fmt::Display for BadRow {
     ghost use Rattle.std.specs.Prelude.{Some};
-    ghost use Rattle.posting_sheets.specs.Faults.{row_text};
+    ghost use Rattle.posting_sheets.specs.SheetFaults.{row_text};
 
     ghost output = { λ bad. Some (row_text bad) };
 
@@ -64,7 +64,7 @@ pub enum SheetFault {
 /// A text of a line: the row, and the column or `columns`.
 impl fmt::Display for SheetFault {
     ghost use Rattle.std.specs.Prelude.{Some};
-    ghost use Rattle.posting_sheets.specs.Faults.{sheet_text};
+    ghost use Rattle.posting_sheets.specs.SheetFaults.{sheet_text};
 
     ghost output = { λ fault. Some (sheet_text fault) };
 
@@ -100,7 +100,7 @@ pub enum RepliesFault {
 /// A text of a line, as `reply 2 faulty tag`.
 impl fmt::Display for RepliesFault {
     ghost use Rattle.std.specs.Prelude.{Some};
-    ghost use Rattle.posting_sheets.specs.Faults.{replies_text};
+    ghost use Rattle.posting_sheets.specs.SheetFaults.{replies_text};
 
     ghost output = { λ fault. Some (replies_text fault) };
 

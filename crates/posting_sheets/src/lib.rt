@@ -40,3 +40,4 @@ pub use decode::decode_replies;
 pub use encode::encode_sheet;
 pub use fault::{BadRow, RepliesFault, SheetFault};
 pub use money::Money;
+pub use row::reference_of;

@@ -93,8 +93,10 @@ fn filled(text: &[u8]) -> [u8; REFERENCE_BYTES]
     bytes
 }
 
-// The reference that a field is, filled with spaces, and none where it is empty.
-fn reference_of(text: &[u8]) -> Option<Option<Reference>>
+/// The reference that a text is, filled with spaces, and `Some(None)` where it is empty; none where it is too long or
+/// has a byte that isn't printable.
+#[must_use]
+pub fn reference_of(text: &[u8]) -> Option<Option<Reference>>
     ensures { result ≡ reference_of text.now }
 {
     if text.is_empty() {

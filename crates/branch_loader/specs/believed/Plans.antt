@@ -1,5 +1,5 @@
--- What a text of CSV states as a plan: branches, how many accounts each is to have and the floor of these, or
--- the first fault with its row.
+-- What a text of CSV states as a plan: branches, each with its count of accounts and their floor, or the first
+-- fault with its row.
 use Rattle.std.specs.Prelude.{ℕ, ℤ}
 use Rattle.std.specs.Prelude.{List, Option}
 
