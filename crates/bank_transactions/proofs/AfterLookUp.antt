@@ -15,7 +15,7 @@ use Rattle.store_rows.specs.believed.View.{Shows}
 use Rattle.store_rows.specs.declared.fault.TableFault.{TableFault}
 use Rattle.bank_transactions.specs.{Additions.AddsTried, believed.Batches.DecidesNone}
 use Rattle.bank_transactions.specs.{Doing.Acts, Doing.ReadsWhere, Tries.answer_of, Tries.replies_of}
-use Rattle.bank_transactions.specs.{believed.Stored.RepliesToAllStored, declared.first_try.Tried.Tried}
+use Rattle.bank_transactions.specs.{believed.Answered.AnswersAll, declared.first_try.Tried.Tried}
 use Rattle.bank_transactions.proofs.{Blamed.blames_since, Blamed.comes, Chained.keeps_then, Chained.of_bad, Chained.still_in}
 use Rattle.bank_transactions.specs.Causes.{IsFirstBroken}
 
@@ -77,12 +77,12 @@ module _ {S X : Type 0} {g : Ghosts S} {old mid new : Transaction S} {So : Table
     AreStored begun replies = HasCleanDisk (state g new.conn.now) → IsTrue (state g begun.conn.now).in_transaction
         → IsOtherTable (state g begun.conn.now).now.schema None
         → (records : List (List ℕ)) → Made records
-        → RepliesToAllStored (state g begun.conn.now).now (state g new.conn.now).now moment records replies
+        → AnswersAll (state g begun.conn.now).now (state g new.conn.now).now moment records replies
 
     pub stored_since : IfSome (replies_of tried) (AreStored mid) → IfSome (replies_of tried) (AreStored old)
     stored_since are = IfSome_then (replies_of tried) {P = AreStored mid} {Q = AreStored old} are
         (λ replies stored clean live as_made records made.
         let stays = (look.says.leaves (clean_between g old mid new look.says quiet clean)).0 in
-        subst (λ (db : Database). RepliesToAllStored db (state g new.conn.now).now moment records replies) stays.now
+        subst (λ (db : Database). AnswersAll db (state g new.conn.now).now moment records replies) stays.now
         (stored clean (still_in (state g old.conn.now) (state g mid.conn.now) stays.goes_on live)
         (subst (λ (db : Database). IsOtherTable db.schema None) (sym stays.now) as_made) records made))

@@ -2,15 +2,18 @@
 -- a file holds.
 use Rattle.std.proofs.Common.{◌≡◌, ℕ, Bool, eqb, List, [], ◌∷◌, map, Option, Some, None, Result, Ok, Err, refl}
 use Rattle.std.proofs.Common.{true, sym, ap, subst, ◌∙◌, inl, inr, arith}
-use Rattle.std.specs.Prelude.{length, IfOk, IfSome, IsSome, IsTrue, option_map}
+use Rattle.std.specs.Prelude.{◌⊎◌, ℤ, length, IfOk, IfSome, IsSome, IsTrue, option_map}
 use Rattle.std.specs.List.{AllByRecursion, find}
-use Rattle.std.proofs.lemmas.{Bool.and_parts, Bool.eqb-true}
+use Rattle.std.proofs.lemmas.{Bool.and_parts, Bool.eqb-true, Result.IfOk-weaker}
+use Rattle.message_records.specs.{believed.Ranges.whole_within, declared.limits.TheConstants.MAX_BRANCH}
 use Rattle.message_records.specs.{believed.Reading.request_of, believed.Records.RequestFields, declared.fault.Bad.Bad}
 use Rattle.posting_rules.specs.believed.LookUps.{account_balance_in, balance_of_teller}
 use Rattle.posting_rules.specs.believed.LookUps.{floor_in, kept_in}
 use Rattle.posting_rules.specs.believed.Kept.{KeptFields}
 use Rattle.posting_rules.specs.believed.Numbering.{branch_of_account, branch_of_teller}
+use Rattle.posting_rules.specs.believed.Changes.{tables_past_all}
 use Rattle.posting_rules.specs.believed.Tables.{Tables, branch_key, row_at, teller_key}
+use Rattle.posting_rules.specs.declared.rows.BranchRow.{BranchRow}
 use Rattle.posting_rules.proofs.Keyed.{by_test}
 use Rattle.posting_batch.specs.{declared.batch.Batch.Batch, declared.slots.RequestSlot.RequestSlot}
 use Rattle.posting_batch.specs.{Overlay.Overlay, Placed.IsRising, Placed.number_below}
@@ -22,21 +25,25 @@ use Rattle.posting_batch.specs.Batch.{floor_filled, no_slots, request_filled, te
 use Rattle.posting_batch.specs.Slots.{account_slot_key, branch_slot_key, floor_slot_key, is_for, teller_slot_key}
 use Rattle.posting_batch.proofs.Covered.{Stands, homes_all, stands}
 use Rattle.posting_batch.proofs.{Orders.rising_mapped, SlotsInOrder.made_all}
-use Rattle.posting_batch.proofs.ToldTables.{tables_told, told_filled, told_free}
+use Rattle.posting_batch.specs.declared.slots.BranchSlot.{BranchSlot}
+use Rattle.posting_batch.proofs.ToldTables.{IsOwn, rows_told, tables_told, told_filled, told_free, with_told}
 use Rattle.sqlite.specs.{Effect.Database, Held.Held, Held.state, State.HasCleanDisk}
 use Rattle.sqlite_trees.specs.declared.store.Store.{Ghosts}
-use Rattle.sqlite_trees.proofs.ListLemmas.{map-map}
+use Rattle.sqlite_trees.proofs.ListLemmas.{all_weaker, map-map}
 use Rattle.store_rows.specs.believed.Rules.{OfRows, StoredRows}
 use Rattle.store_rows.specs.declared.fault.TableFault.{TableFault}
 use Rattle.bank_transactions.specs.{Doing.Ends, Stored.HoldsTellerRow}
-use Rattle.bank_transactions.specs.Filling.{AreHeld, AreShown, HasOwnRow, HoldsBranch, RequestShown}
+use Rattle.bank_transactions.specs.Filling.{AreHeld, AreShown, HasOwnRow, HoldsBranch, IsRowOf, RequestShown}
 use Rattle.bank_transactions.specs.Filling.{emptied, emptied_account, emptied_branch, emptied_floor, emptied_request}
 use Rattle.bank_transactions.specs.Filling.{emptied_teller}
 use Rattle.bank_transactions.specs.believed.Stored.{HasOther, HasRead, HasShown, HasStored, HoldsAccount, HoldsFloor}
 use Rattle.bank_transactions.specs.believed.Stored.{HoldsKept, RepliesToAllStored}
 use Rattle.bank_transactions.specs.believed.Stored.{ShowsKept}
 use Rattle.bank_transactions.specs.Batches.{RepliesLookedUp}
+use Rattle.bank_transactions.specs.{Running.Leads, Writing.AreBranchNumbers, Writing.MayWrite}
+use Rattle.bank_transactions.specs.believed.{Additions.AddsForRecords, Answered.AnswersAll, Ran.LeadTo, Ran.Runs}
 use Rattle.bank_transactions.proofs.{HeldRows.both_held, HeldSlots.at_key, Unkept.were_unkept}
+use Rattle.bank_transactions.proofs.{Leading.lead_none, Running.runs_for, Running.runs_same}
 use Rattle.sqlite_rules.specs.Lists.{Has}
 use Rattle.sqlite_rules.proofs.ListLemmas.{all_has}
 use Rattle.posting_batch.specs.Overlay.{tables_over}
@@ -181,6 +188,10 @@ module _ (db : Database) (o : Overlay) (t : Tables) (reads : List (Result Reques
 
 -- ---- slots that are made for records, and filled
 
+is_own : (n : ℕ) (o : Option BranchRow) → IfSome o (IsRowOf n) → IfSome o (λ b. b.branch ≡ n)
+is_own n None own = tt
+is_own n (Some b) own = own.0
+
 module _ (free : ℕ) (reads : List (Result RequestFields Bad)) (slots : Overlay)
     (same : emptied slots ≡ emptied (covering_all no_slots reads)) (own : AllByRecursion HasOwnRow slots.branches) where
   -- tables that have what the slots tell, with so many ordinals free
@@ -192,10 +203,49 @@ module _ (free : ℕ) (reads : List (Result RequestFields Bad)) (slots : Overlay
       (rising_emptied (covering_all no_slots reads) (made_all reads).rising))
 
   filled_so : slots ≡ filled its_tables (covering_all no_slots reads)
-  filled_so = sym (told_filled free slots rises own) ∙ filled_over its_tables slots (covering_all no_slots reads) same
+  filled_so = sym (told_filled free slots rises (all_weaker HasOwnRow IsOwn (λ s. is_own s.branch s.stored) slots.branches own)) ∙ filled_over its_tables slots (covering_all no_slots reads) same
 
   they_stand : Stands slots its_tables reads
   they_stand = subst (λ (o : Overlay). Stands o its_tables reads) (sym filled_so) (stands its_tables reads)
+
+-- ---- the branches among them
+
+abbrev IsBranch : ℕ → Type 0
+IsBranch n = whole_within 1 MAX_BRANCH n ≡ Some n
+
+-- what is so of the key of each row that slots tell is so of a key that has a row
+told_key : {S R : Type 0} (row : S → Option R) (key : R → ℕ) (P : ℕ → Type 0) (slots : List S)
+    → AllByRecursion (λ s. IfSome (row s) (λ r. P (key r))) slots → (n : ℕ)
+    → IsSome (row_at key (rows_told row slots) n) → P n
+told_key row key P [] all n there = absurd cc
+told_key {S} {R} row key P (s ∷ slots) all n there =
+    one (row s) (rows_told row slots) all.0 (told_key row key P slots all.1 n) there
+  where
+    one : (o : Option R) (rows : List R) → IfSome o (λ r. P (key r)) → (IsSome (row_at key rows n) → P n)
+        → IsSome (row_at key (with_told o rows) n) → P n
+    one None rows own rest there = rest there
+    one (Some r) rows own rest there = elim (by_test (eqb (key r) n)) [
+      | inl t ↦ subst P (eqb-true (key r) n t) own
+      | inr f ↦ rest (rw f at there)
+    ]
+
+is_within : (n : ℕ) (o : Option BranchRow) → IfSome o (IsRowOf n)
+    → IfSome (option_map (λ (b : BranchRow). record b { branch = n }) o) (λ r. IsBranch (branch_key r))
+is_within n None own = tt
+is_within n (Some b) own = own.1
+
+numbers_of : (rows : List BranchRow) → ((n : ℕ) → IsSome (row_at branch_key rows n) → IsBranch n)
+    → (slots : List BranchSlot)
+    → AllByRecursion (λ s. IfSome s.changed (λ z. IsSome (row_at branch_key rows s.branch))) slots
+    → AreBranchNumbers slots
+numbers_of rows within slots changes =
+    all_weaker (λ s. IfSome s.changed (λ z. IsSome (row_at branch_key rows s.branch)))
+    (λ s. IfSome s.changed (λ z. IsBranch s.branch)) (λ s. one s s.changed) slots changes
+  where
+    one : (s : BranchSlot) (c : Option ℤ) → IfSome c (λ z. IsSome (row_at branch_key rows s.branch))
+        → IfSome c (λ z. IsBranch s.branch)
+    one s None it = tt
+    one s (Some z) it = within s.branch it
 
 -- a batch that is judged answers in turn, and where nothing is decided it leaves all as it was
 pub in_turn : (old new : Database) (b b' : Batch) (records : List (List ℕ)) (m : ℕ) (o : Overlay)
@@ -224,8 +274,47 @@ in_turn old new b b' records m o items made reads same own held shown judged idl
       stored = λ rows has.
           (has_records rows slots t its stand (held rows has) records stand.covers, (held rows has).decided);
       shown = λ other. shown_records old slots t its stand (shown other) records stand.covers;
+      free = told_free free slots;
       are = is.answers;
       stays = λ none. idle (ap (λ (u : Tables). u.decided) is.tables ∙ none);
+    }
+
+-- what was run leads to what the records leave of those tables: nothing was where nothing is changed
+pub answers_all : (old new : Database) (b b' : Batch) (records : List (List ℕ)) (m : ℕ) (o : Overlay)
+    (items : List (List ℕ)) → IsMadeOf b records → reads_of b' ≡ reads_of b
+    → emptied (view b'.overlay) ≡ emptied (view b.overlay)
+    → AllByRecursion HasOwnRow (view b'.overlay).branches
+    → OfRows (λ rows. AreHeld rows (view b'.overlay)) old
+    → (HasOther old → AllByRecursion (RequestShown old) (view b'.overlay).kept)
+    → ((t : Tables) (rs : List (List ℕ)) → IsFilledFrom b' t rs → HasFreeOrdinals t (length rs)
+    → IsJudged o items t m rs)
+    → (o.decided ≡ (view b'.overlay).decided → new ≡ old)
+    → (HasRisingSlots (view b'.overlay) → HasRisingSlots o)
+    → ((o ≡ view b'.overlay) × (new ≡ old)) ⊎ Runs (AddsForRecords old records) (Leads (MayWrite o) (tables_over o)) old new
+    → AnswersAll old new m records items
+unfolding in_turn
+answers_all old new b b' records m o items made reads same own held shown judged idle rising wrote =
+    let its : List (Result RequestFields Bad) = map request_of records in
+    let slots = view b'.overlay in
+    let so = same ∙ ap emptied made.overlay in
+    let free = length records in
+    let t : Tables = its_tables free its slots so own in
+    let filled_from = filled_so free its slots so own in
+    let is = judged t records (record { reads = reads ∙ made.reads; overlay = filled_from }) (told_free free slots) in
+    record {
+      told = in_turn old new b b' records m o items made reads same own held shown judged idle;
+      wrote = elim wrote [
+        | inl none ↦
+            let back : tables_past_all t m records ≡ t = sym is.tables
+            ∙ ap (λ (p : Overlay). tables_over p t) (none.0 ∙ filled_from) ∙ (stands t its).same in
+            runs_same _ _ old new none.1 (subst (λ (u : Tables). LeadTo t u []) (sym back) (lead_none t))
+        | inr ran ↦
+            let within = numbers_of t.branches (told_key _ branch_key IsBranch slots.branches
+            (all_weaker HasOwnRow _ (λ s. is_within s.branch s.stored) slots.branches own)) o.branches is.changes.branches in
+            let may : MayWrite o t = (within, rising (rises free its slots so own), is.changes, is.adds) in
+            runs_for (λ text values adds. adds)
+            (λ statements lead. subst (λ (u : Tables). LeadTo t u statements) is.tables (lead t may)) ran
+      ];
     }
 
 -- so does one whose requests are all looked up, whatever tables the file has
@@ -311,3 +400,16 @@ stored_after {S} {X} g Made Q old begun last end new (Ok x) (Ok y) is ends same 
     (subst (λ (db : Database). Q (state g old).now db records x) (sym (ends.told ended).0)
     (subst (λ (db : Database). Q db (state g last).now records x) (ap (λ (h : Held S). (state g h).now) is)
     (stored before records made))))
+
+-- and so is what it says of a transaction that went on
+pub answered_after : {S X : Type 0} (g : Ghosts S) (Made : List (List ℕ) → Type 0)
+    (Q : Database → Database → List (List ℕ) → X → Type 0) (old begun last end new : Held S)
+    (answer result : Result X TableFault) → begun ≡ record old { in_transaction = true }
+    → Ends g last end answer result → ((records : List (List ℕ)) → Made records → end ≡ new)
+    → IfOk answer (λ x. HasCleanDisk (state g last) → IsTrue (state g begun).in_transaction
+    → (records : List (List ℕ)) → Made records → Q (state g begun).now (state g last).now records x)
+    → IfOk result (λ x. HasCleanDisk (state g new) → (records : List (List ℕ)) → Made records
+    → Q (state g old).now (state g new).now records x)
+answered_after g Made Q old begun last end new answer result is ends same answered =
+    stored_after g Made Q old begun last end new answer result is ends same
+    (IfOk-weaker answer _ _ (λ x it clean. it clean (rw is refl)) answered)

@@ -14,14 +14,15 @@ use Rattle.store_rows.specs.{believed.Failures.Additions, believed.Rules.OfRows,
 use Rattle.bank_transactions.specs.{believed.Batches.HasRoomFor, Filling.AreHeld, Filling.emptied}
 use Rattle.bank_transactions.specs.Doing.{Acts, Does, Looks, ReadsWhere}
 use Rattle.bank_transactions.proofs.Chained.{acts_read, acts_wrote, does_both, does_but, does_for, does_tell}
-use Rattle.bank_transactions.proofs.{LookUps.finds_so, ShownSlots.shown_filled, Together.Written, Together.numbers}
+use Rattle.bank_transactions.proofs.{LookUps.finds_so, ShownSlots.shown_filled, Together.numbers}
+use Rattle.bank_transactions.specs.Writing.{MayWrite}
 
 -- what judging records comes to, whose slots were these and are filled now
 pub record Judging {X : Type 0} (So : Tables → Type 0) (after : Tables → Tables) (wanted : Tables → X)
     (slots filled_slots judged : Overlay) (x : X) : Type 0 where
   pub tables : (t : Tables) → So t → filled_slots ≡ filled t slots → tables_over judged t ≡ after t
   pub answers : (t : Tables) → So t → filled_slots ≡ filled t slots → x ≡ wanted t
-  pub writes : (t : Tables) → So t → filled_slots ≡ filled t slots → Written judged t
+  pub writes : (t : Tables) → So t → filled_slots ≡ filled t slots → MayWrite judged t
   -- where nothing is decided, the tables are as they were
   pub back : judged.decided ≡ filled_slots.decided → (t : Tables) → So t → filled_slots ≡ filled t slots
       → after t ≡ t
@@ -33,7 +34,7 @@ module _ {X : Type 0} {So : Tables → Type 0} {after : Tables → Tables} {want
 
   pub written_so : {S : Type 0} {g : Ghosts S} {Adds : Additions} {mid new : Transaction S}
       {r : Result (Unit {0}) TableFault}
-      → Does {X = Unit {0}} g Adds mid new (Written o) (λ t. tables_over o t) (λ _. tt {0}) r
+      → Does {X = Unit {0}} g Adds mid new (MayWrite o) (λ t. tables_over o t) (λ _. tt {0}) r
       → Does {X = Unit {0}} g Adds mid new Knows after (λ _. tt {0}) r
   written_so second = does_for second (λ t it. (so.writes t it.0 it.1, so.tables t it.0 it.1, refl))
 
@@ -51,13 +52,13 @@ module _ {X : Type 0} {So : Tables → Type 0} {after : Tables → Tables} {want
         acts_read (does_tell first (λ t it. (it, λ e. (sym (so.back none t it e), so.answers t it e))))
 
     pub answered_written : {new : Transaction S}
-        → Does {X = Unit {0}} g Adds mid new (Written o) (λ t. tables_over o t) (λ _. tt {0}) (Ok (tt {0}))
+        → Does {X = Unit {0}} g Adds mid new (MayWrite o) (λ t. tables_over o t) (λ _. tt {0}) (Ok (tt {0}))
         → Acts g Adds old new So after wanted (Ok x)
     answered_written second =
         acts_wrote (does_both first (written_so second) (λ t it e. ((it, e), refl, so.answers t it e)))
 
     pub answered_not : {new : Transaction S} {e : TableFault}
-        → Does {X = Unit {0}} g Adds mid new (Written o) (λ t. tables_over o t) (λ _. tt {0}) (Err e)
+        → Does {X = Unit {0}} g Adds mid new (MayWrite o) (λ t. tables_over o t) (λ _. tt {0}) (Err e)
         → Acts {X = X} g Adds old new So after wanted (Err e)
     answered_not second = acts_wrote (does_but first (written_so second) (λ t it e. (it, e)))
 

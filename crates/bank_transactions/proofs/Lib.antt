@@ -15,7 +15,11 @@ pub mod ShownSlots
 pub mod Statements
 pub mod Transacted
 pub mod LookUps
+pub mod KnownRows
+pub mod Fitting
 pub mod Remembered
+pub mod Leading
+pub mod Running
 pub mod Loops
 pub mod OwnRows
 pub mod Partly

@@ -67,18 +67,29 @@ reads_none same is = record {
   };
 }
 
--- a statement that changed nothing, and was to tell nothing of the tables
-pub looked_at : {S : Type 0} {g : Ghosts S} {old new : Transaction S} {So : Tables → Type 0}
+-- what changed nothing, and was to tell nothing of the tables
+pub recalled_at : {S : Type 0} {g : Ghosts S} {old new : Transaction S} {So : Tables → Type 0}
     {Told : State → State → Type 0}
-    → Says g old new Told IsUnchanged → ReadsWhere {X = Unit {0}} g old new So (λ t. tt {0}) (Ok (tt {0}))
-looked_at {g = g} {old = old} {new = new} says = record {
+    → Says g old new Told Stays → ReadsWhere {X = Unit {0}} g old new So (λ t. tt {0}) (Ok (tt {0}))
+recalled_at says = record {
   says = record {
     same_reference = says.same_reference;
     told = λ clean t shows so. refl;
-    leaves = λ clean. (stays (state g old.conn.now) (state g new.conn.now) (says.leaves clean), tt);
+    leaves = λ clean. (says.leaves clean, tt);
     survives = says.survives;
   };
 }
+
+-- as a statement did
+pub looked_at : {S : Type 0} {g : Ghosts S} {old new : Transaction S} {So : Tables → Type 0}
+    {Told : State → State → Type 0}
+    → Says g old new Told IsUnchanged → ReadsWhere {X = Unit {0}} g old new So (λ t. tt {0}) (Ok (tt {0}))
+looked_at {g = g} {old = old} {new = new} {Told = Told} says = recalled_at {Told = Told} (record {
+  same_reference = says.same_reference;
+  told = says.told;
+  leaves = λ clean. stays (state g old.conn.now) (state g new.conn.now) (says.leaves clean);
+  survives = says.survives;
+})
 
 -- the same, said in other words
 pub reads_so : {S X Y : Type 0} {g : Ghosts S} {old new : Transaction S} {So So' : Tables → Type 0}

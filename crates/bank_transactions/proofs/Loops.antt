@@ -11,8 +11,9 @@ use Rattle.sqlite_rules.specs.Lists.{Has}
 use Rattle.sqlite_rules.proofs.ListLemmas.{has_at, has_left, has_right}
 use Rattle.posting_rules.specs.believed.Tables.{Tables}
 use Rattle.store_rows.specs.{believed.Failures.Additions, declared.fault.TableFault.TableFault}
-use Rattle.bank_transactions.specs.{Additions.AddsAlike, Doing.Does, Doing.ReadsWhere, InTurn.InParts, InTurn.InTurn}
-use Rattle.bank_transactions.proofs.{Chained.does_adds, Chained.does_then, Chained.does_for, LookUps.reads_both}
+use Rattle.bank_transactions.specs.{Additions.AddsAlike, Doing.ReadsWhere, InTurn.InParts, InTurn.InTurn}
+use Rattle.bank_transactions.specs.Running.{Writes}
+use Rattle.bank_transactions.proofs.{LookUps.reads_both, Running.writes_adds, Running.writes_for, Running.writes_then}
 
 -- ---- places of a list
 
@@ -79,20 +80,20 @@ pub make_more : {S A : Type 0} {g : Ghosts S} {Adds : List A → Additions} {old
     (made : List A → Tables → Tables)
     (May : List A → Tables → Type 0)
     → InTurn made May → AddsAlike Adds → (xs : List A) (i : ℕ) (x : A) → i < length xs → x ≡ get_or xs i x
-    → Does {X = Unit {0}} g (Adds xs) old mid (May xs) (made (take i xs)) (λ _. tt {0}) (Ok (tt {0}))
-    → Does {X = Unit {0}} g (Adds (x ∷ [])) mid new (May (x ∷ [])) (made (x ∷ [])) (λ _. tt {0}) r
-    → Does {X = Unit {0}} g (Adds xs) old new (May xs) (made (take (i + 1) xs)) (λ _. tt {0}) r
+    → Writes g (Adds xs) old mid (May xs) (made (take i xs)) (Ok (tt {0}))
+    → Writes g (Adds (x ∷ [])) mid new (May (x ∷ [])) (made (x ∷ [])) r
+    → Writes g (Adds xs) old new (May xs) (made (take (i + 1) xs)) r
 make_more {S} {A} {g} {Adds} {old} {mid} {new} {r} made May law alike xs i x lt is before one =
     let it = get_or xs i x in
-    let next : Does {X = Unit {0}} g (Adds xs) mid new (May (it ∷ [])) (made (it ∷ [])) (λ _. tt {0}) r =
-    subst (λ (s : A). Does {X = Unit {0}} g (Adds xs) mid new (May (s ∷ [])) (made (s ∷ [])) (λ _. tt {0}) r) is
-    (does_adds (λ clean. alike.more (x ∷ []) xs (has_one xs i x lt is)) one) in
+    let next : Writes g (Adds xs) mid new (May (it ∷ [])) (made (it ∷ [])) r =
+    subst (λ (s : A). Writes g (Adds xs) mid new (May (s ∷ [])) (made (s ∷ [])) r) is
+    (writes_adds (λ clean. alike.more (x ∷ []) xs (has_one xs i x lt is)) one) in
     let so : (t : Tables) → May xs t → May (it ∷ []) (made (take i xs) t)
     × (made (it ∷ []) (made (take i xs) t) ≡ made (take i xs ++ it ∷ []) t) =
     λ t may. law.next (take i xs) it (drop (suc i) xs) t
     (subst (λ (ys : List A). May ys t) (split_at xs i x lt) may) in
-    does_for (does_then before next (λ t may. (so t may).0))
-    (λ t may. (may, (so t may).1 ∙ ap (λ (ys : List A). made ys t) (sym (take_more xs i x lt)), refl))
+    writes_for (writes_then before next (λ t may. (so t may).0))
+    (λ t may. (may, (so t may).1 ∙ ap (λ (ys : List A). made ys t) (sym (take_more xs i x lt))))
 
 -- ---- rows are put in, several at a time
 
@@ -101,15 +102,15 @@ pub record Stands {S A : Type 0} (g : Ghosts S) (Adds : Additions) (old now : Tr
     (May : List A → Tables → Type 0) (rows left : List A) : Type 0 where
   pub front : List A
   pub are : rows ≡ front ++ left
-  pub so_far : Does {X = Unit {0}} g Adds old now (May rows) (made front) (λ _. tt {0}) (Ok (tt {0}))
+  pub so_far : Writes g Adds old now (May rows) (made front) (Ok (tt {0}))
 
 -- some more of them
 pub some_more : {S A : Type 0} {g : Ghosts S} {Adds : List A → Additions} {old mid new : Transaction S} {r : Result (Unit {0}) TableFault}
     {made : List A → Tables → Tables} {May : List A → Tables → Type 0} {rows left : List A}
     (law : InParts made May) (alike : AddsAlike Adds) (stands : Stands g (Adds rows) old mid made May rows left)
     (some rest : List A)
-    → left ≡ some ++ rest → Does {X = Unit {0}} g (Adds some) mid new (May some) (made some) (λ _. tt {0}) r
-    → Does {X = Unit {0}} g (Adds rows) old new (May rows) (made (stands.front ++ some)) (λ _. tt {0}) r
+    → left ≡ some ++ rest → Writes g (Adds some) mid new (May some) (made some) r
+    → Writes g (Adds rows) old new (May rows) (made (stands.front ++ some)) r
 some_more {S} {A} {g} {Adds} {old} {mid} {new} {r} {made} {May} {rows} {left} law alike stands some rest parts
     next =
     let all : rows ≡ stands.front ++ (some ++ rest) = stands.are ∙ ap (λ (l : List A). stands.front ++ l) parts in
@@ -119,15 +120,15 @@ some_more {S} {A} {g} {Adds} {old} {mid} {new} {r} {made} {May} {rows} {left} la
     let among : (y : A) → Has some y → Has rows y =
     λ y has. subst (λ (l : List A). Has l y) (sym all)
     (has_right stands.front (some ++ rest) y (has_left some rest y has)) in
-    does_for (does_then stands.so_far (does_adds (λ clean. alike.more some rows among) next)
-    (λ t may. (so t may).0)) (λ t may. (may, (so t may).1, refl))
+    writes_for (writes_then stands.so_far (writes_adds (λ clean. alike.more some rows among) next)
+    (λ t may. (so t may).0)) (λ t may. (may, (so t may).1))
 
 -- they stand so too
 unfoldable pub stands_more : {S A : Type 0} {g : Ghosts S} {Adds : List A → Additions} {old mid new : Transaction S}
     {made : List A → Tables → Tables} {May : List A → Tables → Type 0} {rows left : List A}
     (law : InParts made May) (alike : AddsAlike Adds) (stands : Stands g (Adds rows) old mid made May rows left)
     (some rest : List A) → left ≡ some ++ rest
-    → Does {X = Unit {0}} g (Adds some) mid new (May some) (made some) (λ _. tt {0}) (Ok (tt {0}))
+    → Writes g (Adds some) mid new (May some) (made some) (Ok (tt {0}))
     → Stands g (Adds rows) old new made May rows rest
 stands_more {S} {A} law alike stands some rest parts next = record {
   front = stands.front ++ some;
@@ -139,8 +140,7 @@ stands_more {S} {A} law alike stands some rest parts next = record {
 pub all_more : {S A : Type 0} {g : Ghosts S} {Adds : List A → Additions} {old mid new : Transaction S} {r : Result (Unit {0}) TableFault}
     {made : List A → Tables → Tables} {May : List A → Tables → Type 0} {rows left : List A}
     (law : InParts made May) → AddsAlike Adds → Stands g (Adds rows) old mid made May rows left
-    → Does {X = Unit {0}} g (Adds left) mid new (May left) (made left) (λ _. tt {0}) r
-    → Does {X = Unit {0}} g (Adds rows) old new (May rows) (made rows) (λ _. tt {0}) r
+    → Writes g (Adds left) mid new (May left) (made left) r → Writes g (Adds rows) old new (May rows) (made rows) r
 all_more {S} {A} {made = made} {rows = rows} {left = left} law alike stands last =
-    does_for (some_more law alike stands left [] (sym (append-nil left)) last)
-    (λ t may. (may, ap (λ (l : List A). made l t) (sym stands.are), refl))
+    writes_for (some_more law alike stands left [] (sym (append-nil left)) last)
+    (λ t may. (may, ap (λ (l : List A). made l t) (sym stands.are)))

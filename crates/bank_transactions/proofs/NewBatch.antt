@@ -31,7 +31,7 @@ use Rattle.bank_transactions.specs.Filling.{AreHeld, AreKnown, RequestHeld, empt
 use Rattle.bank_transactions.specs.Tries.{IsMadeAgain, may_be_kept}
 use Rattle.bank_transactions.proofs.JudgedSlots.{Judging, Knows, written_so}
 use Rattle.bank_transactions.proofs.LookUps.{does_look, finds_so}
-use Rattle.bank_transactions.proofs.Together.{Written}
+use Rattle.bank_transactions.specs.Writing.{MayWrite}
 use Rattle.bank_transactions.proofs.Chained.{acts_wrote, does_err, does_for, does_known, does_tell, does_then, still_in}
 
 -- ---- slots
@@ -206,21 +206,21 @@ module _ {S X : Type 0} {g : Ghosts S} {old mid new : Transaction S} {So : Table
     → Shows (state g old.conn.now).now t → So t → p' ≡ filled t p) where
   -- the slots are filled as they were found, since none is of a request that was kept
   done_so : {Adds : Additions} {r : Result (Unit {0}) TableFault}
-      → Does {X = Unit {0}} g Adds mid new (Written o) (λ t. tables_over o t) (λ _. tt {0}) r
+      → Does {X = Unit {0}} g Adds mid new (MayWrite o) (λ t. tables_over o t) (λ _. tt {0}) r
       → Does {X = Unit {0}} g Adds old new (Knows so) after (λ _. tt {0}) r
   done_so second = does_then (does_look (finds_so {So' = Knows so} {w' = λ t. p'} first (λ clean t shows it. refl)))
       (written_so so second) (λ t it. it)
 
   -- the records are answered
   pub answered_new : {Adds : Additions}
-      → Does {X = Unit {0}} g Adds mid new (Written o) (λ t. tables_over o t) (λ _. tt {0}) (Ok (tt {0}))
+      → Does {X = Unit {0}} g Adds mid new (MayWrite o) (λ t. tables_over o t) (λ _. tt {0}) (Ok (tt {0}))
       → Acts g Adds old new So after wanted (Ok x)
   answered_new second = acts_wrote (does_known all
       (does_tell (done_so second) (λ t it. (it, λ e. (refl, so.answers t it.0 it.1)))))
 
   -- an error of the last part is that of all
   pub unanswered_new : {Adds : Additions} {e : TableFault}
-      → Does {X = Unit {0}} g Adds mid new (Written o) (λ t. tables_over o t) (λ _. tt {0}) (Err e)
+      → Does {X = Unit {0}} g Adds mid new (MayWrite o) (λ t. tables_over o t) (λ _. tt {0}) (Err e)
       → Acts {X = X} g Adds old new So after wanted (Err e)
   unanswered_new second = acts_wrote (does_known all (does_err (done_so second) (λ t it. it)))
 

@@ -14,7 +14,7 @@ use Rattle.posting_rules.specs.declared.fault.Rule.TheVariants as broken
 use Rattle.sql_meanings.specs.{Calls.Says, StatementAnswers.WriteFails, believed.Entries.Entry}
 use Rattle.sql_meanings.proofs.Saying.{clean_between}
 use Rattle.store_rows.specs.{Calls.LooksUp, Calls.OfMeta, TableAnswers.FindsMeta, believed.Columns.meta_in}
-use Rattle.store_rows.specs.{Failures.HasReason, Holders.balance_in, Holders.entry_under, Rules.stored_rows}
+use Rattle.store_rows.specs.{Failures.HasReason, Failures.Looks, Holders.balance_in, Holders.entry_under, Rules.stored_rows}
 use Rattle.store_rows.specs.{TableAnswers.Finds, declared.fault.TableFault.TableFault, declared.holders.Member.Member}
 use Rattle.store_rows.specs.declared.holders.Member.TheVariants.{Teller}
 use Rattle.store_rows.specs.declared.fault.TableFault.TheVariants.{Sqlite, Damaged}
@@ -23,6 +23,7 @@ use Rattle.store_rows.specs.believed.Rules.{HoldsBank, OfRows, StoredRows, branc
 use Rattle.store_rows.proofs.StoredRows.{holds_shown}
 use Rattle.bank_transactions.specs.{Causes.IsFault, Causes.IsFirstBroken, Doing.Reads, Doing.ReadsWhere}
 use Rattle.bank_transactions.proofs.{Blamed.failed_here, Broken.IsOf, Broken.member_broken, Broken.never_broken}
+use Rattle.bank_transactions.specs.Memory.{Recalls, StaysOrFails}
 use Rattle.bank_transactions.proofs.LookUps.{reads_broken, reads_pair, reads_so, stays}
 use Rattle.bank_transactions.proofs.SoundRows.{member_found}
 
@@ -48,6 +49,22 @@ read_so old new stored read (Ok found) it = it.0
 read_so old new stored read (Err (Sqlite e)) it = tt
 read_so old new stored read (Err (Damaged rule)) it = it.0
 
+-- what was looked up was recalled
+stays_or_fails : {X : Type 0} (old new : State) (r : Result X TableFault) → Looks old new r → StaysOrFails old new r
+stays_or_fails old new (Ok found) it = stays old new it
+stays_or_fails old new (Err fault) it = it
+
+pub recalls : {S X : Type 0} (g : Ghosts S) (old new : Transaction S) (stored : StoredRows → Option Entry)
+    (read : Entry → Result X Rule) (r : Result (Option X) TableFault) → LooksUp g old new stored read r
+    → Recalls g old new stored read r
+recalls g old new stored read r looks = record {
+  same_reference = looks.same_reference;
+  told = λ clean rows has. read_so (state g old.conn.now) (state g new.conn.now) (stored rows) read r
+      (looks.told clean rows has);
+  leaves = λ clean. stays_or_fails (state g old.conn.now) (state g new.conn.now) r (looks.leaves clean);
+  survives = looks.survives;
+}
+
 -- whatever was looked for
 module _ {S Y : Type 0} {g : Ghosts S} {old new : Transaction S} {So : Tables → Type 0} {w : Tables → Y}
     {fault : TableFault} where
@@ -69,12 +86,17 @@ module _ {S Y : Type 0} {g : Ghosts S} {old new : Transaction S} {So : Tables �
   }
 
   -- a row couldn't be read: the rows that were there break the rule
+  pub recall_failed : {X : Type 0} (stored : StoredRows → Option Entry) (read : Entry → Result X Rule)
+      → (OfRows (λ rows. FindsStored (stored rows) read (Err fault)) (state g old.conn.now).now
+      → IsOf (state g old.conn.now).now fault)
+      → Recalls g old new stored read (Err fault) → ReadsWhere g old new So w (Err fault)
+  recall_failed stored read of says = failed says (λ clean. of (says.told clean))
+
   pub find_failed : {X : Type 0} (stored : StoredRows → Option Entry) (read : Entry → Result X Rule)
       → (OfRows (λ rows. FindsStored (stored rows) read (Err fault)) (state g old.conn.now).now
       → IsOf (state g old.conn.now).now fault)
       → LooksUp g old new stored read (Err fault) → ReadsWhere g old new So w (Err fault)
-  find_failed stored read of says = failed says (λ clean. of (λ rows has.
-      read_so (state g old.conn.now) (state g new.conn.now) (stored rows) read (Err fault) (says.told clean rows has)))
+  find_failed stored read of says = recall_failed stored read of (recalls g old new stored read (Err fault) says)
 
   pub balance_failed : (m : Member) → LooksUp g old new (entry_under m) read_balance (Err fault)
       → ReadsWhere g old new So w (Err fault)
@@ -92,19 +114,25 @@ module _ {S Y : Type 0} {g : Ghosts S} {old new : Transaction S} {So : Tables �
 module _ {S X : Type 0} {g : Ghosts S} {old new : Transaction S} (stored : StoredRows → Option Entry)
     (read : Entry → Result X Rule) where
   -- what is looked for, and was read
+  pub recall_tells : {Y : Type 0} {So : Tables → Type 0} {w : Tables → Y} (found : Option X) {answer : Y}
+      → Recalls g old new stored read (Ok found)
+      → ((t : Tables) → So t → FindsStored (stored (stored_rows t)) read (Ok found) → answer ≡ w t)
+      → ReadsWhere g old new So w (Ok answer)
+  recall_tells found says tells = record {
+    says = record {
+      same_reference = says.same_reference;
+      told = λ clean t shows so. tells t so
+          (says.told clean (stored_rows t) (holds_shown (state g old.conn.now).now t shows));
+      leaves = λ clean. (says.leaves clean, tt);
+      survives = says.survives;
+    };
+  }
+
   pub find_tells : {Y : Type 0} {So : Tables → Type 0} {w : Tables → Y} (found : Option X) {answer : Y}
       → LooksUp g old new stored read (Ok found)
       → ((t : Tables) → So t → FindsStored (stored (stored_rows t)) read (Ok found) → answer ≡ w t)
       → ReadsWhere g old new So w (Ok answer)
-  find_tells found says tells = record {
-    says = record {
-      same_reference = says.same_reference;
-      told = λ clean t shows so. tells t so
-          (says.told clean (stored_rows t) (holds_shown (state g old.conn.now).now t shows)).0;
-      leaves = λ clean. (stays (state g old.conn.now) (state g new.conn.now) (says.leaves clean), tt);
-      survives = says.survives;
-    };
-  }
+  find_tells found says = recall_tells found (recalls g old new stored read (Ok found) says)
 
   -- either
   pub reads_found : {w : Tables → Option X}

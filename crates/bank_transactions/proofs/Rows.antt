@@ -1,5 +1,5 @@
 -- What one slot writes.
-use Rattle.std.proofs.Common.{◌≡◌, ℕ, List, [], ◌∷◌, Option, Result, Some, None, false, refl, sym, ap, subst, ◌∙◌}
+use Rattle.std.proofs.Common.{◌≡◌, ◌++◌, ℕ, List, [], ◌∷◌, Option, Result, Some, None, false, refl, sym, ap, subst, ◌∙◌}
 use Rattle.std.proofs.Common.{inl, inr}
 use Rattle.std.proofs.lemmas.List.{append-nil}
 use Rattle.std.specs.{List.AllByRecursion, Prelude.ℤ, Prelude.is_some}
@@ -24,10 +24,11 @@ use Rattle.store_rows.specs.believed.Inserts.{eight_postings_insert, eight_reque
 use Rattle.store_rows.specs.believed.Inserts.{reference_insert, request_insert}
 use Rattle.store_rows.specs.declared.holders.Holder.TheVariants.{Account, Teller, Branch}
 use Rattle.bank_transactions.specs.believed.Additions.{AddsEach, AddsPostings, AddsReferences, AddsRequests}
-use Rattle.bank_transactions.specs.{Additions.ChangesEach, Doing.Does, InTurn.ArePlaced}
+use Rattle.bank_transactions.specs.{Additions.ChangesEach, InTurn.ArePlaced, Running.Writes, believed.Ran.LeadTo}
 use Rattle.bank_transactions.specs.believed.Additions.{WritesUnder}
 use Rattle.sqlite.specs.Order.{Row}
-use Rattle.bank_transactions.proofs.{Chained.does_for, Statements.does_add}
+use Rattle.bank_transactions.proofs.Leading.{lead_postings, lead_references, lead_requests}
+use Rattle.bank_transactions.proofs.Running.{writes_add, writes_for}
 use Rattle.posting_rules.specs.ChangesByKey as steps
 use Rattle.posting_rules.specs.believed.Tables.{Tables, row_at, branch_key, teller_key, account_key, history_key}
 use Rattle.posting_rules.specs.believed.Tables.{reference_key, request_key}
@@ -42,51 +43,55 @@ use Rattle.bank_transactions.specs.Writing.{MayAddPostings, MayAddReferences, Ma
 all_in : {R : Type 0} (rows : List R) → AllByRecursion (Has rows) rows
 all_in rows = all_from (Has rows) rows (λ r has. has)
 
+-- the values of one row are those of it alone
+alone : (values : Row) → values ≡ values ++ []
+alone values = sym (append-nil values)
+
 -- a row is put in under a key that is free
 row_added : {S R : Type 0} {g : Ghosts S} {old new : Transaction S} {r : Result (Unit {0}) TableFault}
     {texts : List (List ℕ)} (text : List ℕ) (table : Table) (entry : R → Entry) (key : R → ℕ) (rows : Tables → List R)
     (put : R → Tables → Tables) (made : List R → Tables → Tables) (row : R)
     → ((t : Tables) → put row t ≡ made (row ∷ []) t) → Has texts text
+    → ((t : Tables) → LeadTo t (made (row ∷ []) t) ((text, given (entry row)) ∷ []))
     → AddsRow g old new text (given (entry row)) table (λ t. is_some (row_at key (rows t) (key row))) (put row) r
-    → Does g (AddsEach texts entry (Has (row ∷ []))) old new (λ t. PutsFree key (row ∷ []) (rows t)) (made (row ∷ []))
-    (λ _. tt) r
-row_added {S} {R} {g} {old} {new} {r} {texts} text table entry key rows put made row is among says =
-    does_for (does_add {So = λ t. PutsFree key (row ∷ []) (rows t)} g old new text (given (entry row)) table
-    (λ t. is_some (row_at key (rows t) (key row))) (put row) r says
-    (record { among = among; rows = row ∷ []; are = sym (append-nil (given (entry row))); each = all_in (row ∷ []) })
-    (λ t free. ap is_some free.0))
-    (λ t free. (free, is t, refl))
+    → Writes g (AddsEach texts entry (Has (row ∷ []))) old new (λ t. PutsFree key (row ∷ []) (rows t)) (made (row ∷ [])) r
+row_added {S} {R} {g} {old} {new} {r} {texts} text table entry key rows put made row is among lead says =
+    writes_for (writes_add {So = λ t. PutsFree key (row ∷ []) (rows t)} (AddsEach texts entry (Has (row ∷ []))) g old new text (given (entry row)) (put row)
+    (record { among = among; rows = row ∷ []; are = alone (given (entry row)); each = all_in (row ∷ []) })
+    (λ t free. subst (λ (u : Tables). LeadTo t u ((text, given (entry row)) ∷ [])) (sym (is t)) (lead t)) table
+    (λ t. is_some (row_at key (rows t) (key row))) r says (λ t free. ap is_some free.0))
+    (λ t free. (free, is t))
 
 pub posting_added : {S : Type 0} {g : Ghosts S} {old new : Transaction S} {r : Result (Unit {0}) TableFault}
     (row : HistoryRow)
     → AddsRow g old new posting_insert (given (history_entry row)) bank.history
     (λ t. is_some (row_at history_key t.history row.ordinal)) (with_history row) r
-    → Does g (AddsPostings (Has (row ∷ []))) old new (MayAddPostings (row ∷ [])) (history_put (row ∷ [])) (λ _. tt) r
+    → Writes g (AddsPostings (Has (row ∷ []))) old new (MayAddPostings (row ∷ [])) (history_put (row ∷ [])) r
 unfolding with_history
 posting_added row says =
     row_added posting_insert bank.history history_entry history_key (λ t. t.history) with_history history_put row
-    (λ t. refl) (inl refl) says
+    (λ t. refl) (inl refl) (lead_postings posting_insert _ (inl refl) (row ∷ []) (alone (given (history_entry row)))) says
 
 pub request_added : {S : Type 0} {g : Ghosts S} {old new : Transaction S} {r : Result (Unit {0}) TableFault}
     (row : RequestRow)
     → AddsRow g old new request_insert (given (request_entry row)) bank.request
     (λ t. is_some (row_at request_key t.requests row.ordinal)) (with_request row) r
-    → Does g (AddsRequests (Has (row ∷ []))) old new (MayAddRequests (row ∷ [])) (requests_put (row ∷ [])) (λ _. tt) r
+    → Writes g (AddsRequests (Has (row ∷ []))) old new (MayAddRequests (row ∷ [])) (requests_put (row ∷ [])) r
 unfolding with_request
 request_added row says =
     row_added request_insert bank.request request_entry request_key (λ t. t.requests) with_request requests_put row
-    (λ t. refl) (inl refl) says
+    (λ t. refl) (inl refl) (lead_requests request_insert _ (inl refl) (row ∷ []) (alone (given (request_entry row)))) says
 
 pub reference_added : {S : Type 0} {g : Ghosts S} {old new : Transaction S} {r : Result (Unit {0}) TableFault}
     (row : ReferenceRow)
     → AddsRow g old new reference_insert (given (reference_entry row)) bank.reference
     (λ t. is_some (row_at reference_key t.references row.ordinal)) (with_reference row.ordinal (Some row.reference)) r
-    → Does g (AddsReferences (Has (row ∷ []))) old new (MayAddReferences (row ∷ [])) (references_put (row ∷ []))
-    (λ _. tt) r
+    → Writes g (AddsReferences (Has (row ∷ []))) old new (MayAddReferences (row ∷ [])) (references_put (row ∷ [])) r
 unfolding with_reference
 reference_added row says =
     row_added reference_insert bank.reference reference_entry reference_key (λ t. t.references)
-    (λ x. with_reference x.ordinal (Some x.reference)) references_put row (λ t. refl) (inl refl) says
+    (λ x. with_reference x.ordinal (Some x.reference)) references_put row (λ t. refl) (inl refl)
+    (lead_references reference_insert _ (inl refl) (row ∷ []) (alone (given (reference_entry row)))) says
 
 -- ---- several new rows
 
@@ -114,35 +119,39 @@ module _ {R : Type 0} (key : R → ℕ) (rows : Tables → List R) (with_rows : 
   pub rows_added : {S : Type 0} {g : Ghosts S} {old new : Transaction S} {r : Result (Unit {0}) TableFault}
       {Adds : Additions} (text : List ℕ) (entry : R → Entry) (table : Table) (news : List R)
       → Adds text (given_each entry news)
+      → ((t : Tables) → LeadTo t (with_rows t (each_put key news (rows t))) ((text, given_each entry news) ∷ []))
       → AddsRows g old new text entry table (λ r t. is_some (row_at key (rows t) (key r))) with_row news r
-      → Does g Adds old new (λ t. PutsFree key news (rows t)) (λ t. with_rows t (each_put key news (rows t))) (λ _. tt) r
-  rows_added {S} {g} {old} {new} {r} text entry table news own says =
-      does_for (does_add {So = λ t. PutsFree key news (rows t)} g old new text (given_each entry news) table
-      (meets_key with_row (λ r t. is_some (row_at key (rows t) (key r))) news) (with_each with_row news) r says
-      own (none_met news))
-      (λ t free. (free, each_is news t, refl))
+      → Writes g Adds old new (λ t. PutsFree key news (rows t)) (λ t. with_rows t (each_put key news (rows t))) r
+  rows_added {S} {g} {old} {new} {r} {Adds} text entry table news own lead says =
+      writes_for (writes_add {So = λ t. PutsFree key news (rows t)} Adds g old new text (given_each entry news)
+      (with_each with_row news) own
+      (λ t free. subst (λ (u : Tables). LeadTo t u ((text, given_each entry news) ∷ [])) (sym (each_is news t)) (lead t))
+      table (meets_key with_row (λ r t. is_some (row_at key (rows t) (key r))) news) r says (none_met news))
+      (λ t free. (free, each_is news t))
 
 pub postings_added : {S : Type 0} {g : Ghosts S} {old new : Transaction S} {r : Result (Unit {0}) TableFault}
     (news : List HistoryRow)
     → AddsRows g old new eight_postings_insert history_entry bank.history (λ r t. is_some (row_at history_key t.history r.ordinal))
     with_history news r
-    → Does g (AddsPostings (Has news)) old new (MayAddPostings news) (history_put news) (λ _. tt) r
+    → Writes g (AddsPostings (Has news)) old new (MayAddPostings news) (history_put news) r
 unfolding with_history
 postings_added news says =
     rows_added history_key (λ t. t.history) (λ t rows. record t { history = rows })
     (record { own = λ t. refl; held = λ t rs. refl; again = λ t rs others. refl }) eight_postings_insert history_entry
-    bank.history news (record { among = inr (inl refl); rows = news; are = refl; each = all_in news }) says
+    bank.history news (record { among = inr (inl refl); rows = news; are = refl; each = all_in news })
+    (lead_postings eight_postings_insert _ (inr (inl refl)) news refl) says
 
 pub requests_added : {S : Type 0} {g : Ghosts S} {old new : Transaction S} {r : Result (Unit {0}) TableFault}
     (news : List RequestRow)
     → AddsRows g old new eight_requests_insert request_entry bank.request (λ r t. is_some (row_at request_key t.requests r.ordinal))
     with_request news r
-    → Does g (AddsRequests (Has news)) old new (MayAddRequests news) (requests_put news) (λ _. tt) r
+    → Writes g (AddsRequests (Has news)) old new (MayAddRequests news) (requests_put news) r
 unfolding with_request
 requests_added news says =
     rows_added request_key (λ t. t.requests) (λ t rows. record t { requests = rows })
     (record { own = λ t. refl; held = λ t rs. refl; again = λ t rs others. refl }) eight_requests_insert request_entry
-    bank.request news (record { among = inr (inl refl); rows = news; are = refl; each = all_in news }) says
+    bank.request news (record { among = inr (inl refl); rows = news; are = refl; each = all_in news })
+    (lead_requests eight_requests_insert _ (inr (inl refl)) news refl) says
 
 -- ---- slots
 

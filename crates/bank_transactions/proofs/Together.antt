@@ -9,7 +9,7 @@ use Rattle.sqlite_trees.specs.declared.store.Store.{Ghosts}
 use Rattle.posting_rules.specs.declared.rows.{BranchRow.BranchRow, RequestRow.RequestRow}
 use Rattle.posting_rules.specs.believed.Tables.{Tables, row_at, branch_key}
 use Rattle.posting_batch.specs.declared.slots.BranchSlot.{BranchSlot}
-use Rattle.posting_batch.specs.Batch.{HasRisingSlots, ChangesRows, AddsFreeRows}
+use Rattle.posting_batch.specs.Batch.{ChangesRows}
 use Rattle.posting_batch.specs.Overlay.{Overlay, accounts_over, tellers_over, branches_over, history_put}
 use Rattle.posting_batch.specs.Overlay.{requests_put, references_put, tables_over}
 use Rattle.posting_batch.specs.Slots.{account_slot_key, teller_slot_key, branch_slot_key}
@@ -23,7 +23,8 @@ use Rattle.bank_transactions.proofs.SoundRows.{within_or_none}
 use Rattle.bank_transactions.specs.believed.Batches.{HasRoomFor}
 use Rattle.bank_transactions.specs.Writing.{AreBranchNumbers, MayChangeAccounts, MayChangeTellers, MayAddPostings}
 use Rattle.bank_transactions.specs.Writing.{MayAddReferences, MayAddRequests, MayChangeBranches, MayWriteAfter}
-use Rattle.bank_transactions.specs.Writing.{after_requests}
+use Rattle.bank_transactions.specs.{Running.Writes, Writing.MayWrite, Writing.after_requests}
+use Rattle.bank_transactions.proofs.Running.{writes_adds, writes_for, writes_then}
 
 -- ---- the numbers of branches that have a row
 
@@ -109,22 +110,18 @@ pub step : {S A : Type 0} {g : Ghosts S} {a b c : Transaction S} {r : Result (Un
     {o : Overlay} {before : Tables → Tables} {made : List A → Tables → Tables}
     {May : List A → Tables → Type 0} {Adds : List A → Additions} {changes : List A} {xs : List A}
     → GoesAfter o before made May Adds changes → xs ≡ changes
-    → Does {X = Unit {0}} g (AddsNew o) a b (So o) before (λ _. tt {0}) (Ok (tt {0}))
-    → Does {X = Unit {0}} g (Adds xs) b c (May xs) (made xs) (λ _. tt {0}) r
-    → Does {X = Unit {0}} g (AddsNew o) a c (So o) (λ t. made changes (before t)) (λ _. tt {0}) r
+    → Writes g (AddsNew o) a b (So o) before (Ok (tt {0})) → Writes g (Adds xs) b c (May xs) (made xs) r
+    → Writes g (AddsNew o) a c (So o) (λ t. made changes (before t)) r
 step {S} {A} {g} {a} {b} {c} {r} {o} {before} {made} {May} {Adds} after same first second =
-    does_then first
-    (does_adds (λ clean. after.adds)
-    (subst (λ (ys : List A). Does {X = Unit {0}} g (Adds ys) b c (May ys) (made ys) (λ _. tt {0}) r) same second))
+    writes_then first
+    (writes_adds (λ clean. after.adds)
+    (subst (λ (ys : List A). Writes g (Adds ys) b c (May ys) (made ys) r) same second))
     after.may
 
 -- ---- the requests first
 
-abbrev pub Written : Overlay → Tables → Type 0
-Written o t = AreBranchNumbers o.branches × HasRisingSlots o × ChangesRows o t × AddsFreeRows o t
-
 -- the rest may be written after the requests
-after : (o : Overlay) (t : Tables) → Written o t → MayWriteAfter o (requests_put o.requests t)
+after : (o : Overlay) (t : Tables) → MayWrite o t → MayWriteAfter o (requests_put o.requests t)
 after o t so = (
   so.1,
   record { branches = so.2.branches; tellers = so.2.tellers; accounts = so.2.accounts },
@@ -138,17 +135,35 @@ pub requests_first : {S : Type 0} {g : Ghosts S} {old new : Transaction S} {r : 
     {rows : List RequestRow} (o : Overlay) → rows ≡ o.requests
     → Does {X = Unit {0}} g (AddsRequests (Has rows)) old new (MayAddRequests rows) (requests_put rows)
     (λ _. tt {0}) r
-    → Does {X = Unit {0}} g (AddsNew o) old new (Written o) (requests_put o.requests) (λ _. tt {0}) r
+    → Does {X = Unit {0}} g (AddsNew o) old new (MayWrite o) (requests_put o.requests) (λ _. tt {0}) r
 requests_first {S} {g} {old} {new} {r} o same puts =
     does_for (does_adds (λ clean text values it. inr (inl it))
     (subst (λ (rows : List RequestRow). Does {X = Unit {0}} g (AddsRequests (Has rows)) old new (MayAddRequests rows)
     (requests_put rows) (λ _. tt {0}) r) same puts))
     (λ t so. (so.3.requests, refl, refl))
 
+-- what they ran
+pub requests_ran : {S : Type 0} {g : Ghosts S} {old new : Transaction S} {rows : List RequestRow} (o : Overlay)
+    → rows ≡ o.requests
+    → Writes g (AddsRequests (Has rows)) old new (MayAddRequests rows) (requests_put rows) (Ok (tt {0}))
+    → Writes g (AddsNew o) old new (MayWrite o) (requests_put o.requests) (Ok (tt {0}))
+requests_ran {g = g} {old = old} {new = new} o same puts =
+    writes_for (writes_adds (λ clean text values it. inr (inl it))
+    (subst (λ (rows : List RequestRow). Writes g (AddsRequests (Has rows)) old new (MayAddRequests rows)
+    (requests_put rows) (Ok (tt {0}))) same puts))
+    (λ t so. (so.3.requests, refl))
+
+-- and what all did
+pub all_ran : {S : Type 0} {g : Ghosts S} {old mid new : Transaction S} {r : Result (Unit {0}) TableFault} (o : Overlay)
+    → Writes g (AddsNew o) old mid (MayWrite o) (requests_put o.requests) (Ok (tt {0}))
+    → Writes g (AddsNew o) mid new (MayWriteAfter o) (after_requests o) r
+    → Writes g (AddsNew o) old new (MayWrite o) (tables_over o) r
+all_ran o first second = writes_for (writes_then first second (after o)) (λ t so. (so, refl))
+
 -- and then the rest
 pub all_written : {S : Type 0} {g : Ghosts S} {old mid new : Transaction S} {r : Result (Unit {0}) TableFault}
     (o : Overlay)
-    → Does {X = Unit {0}} g (AddsNew o) old mid (Written o) (requests_put o.requests) (λ _. tt {0}) (Ok (tt {0}))
+    → Does {X = Unit {0}} g (AddsNew o) old mid (MayWrite o) (requests_put o.requests) (λ _. tt {0}) (Ok (tt {0}))
     → Does {X = Unit {0}} g (AddsNew o) mid new (MayWriteAfter o) (after_requests o) (λ _. tt {0}) r
-    → Does {X = Unit {0}} g (AddsNew o) old new (Written o) (λ t. tables_over o t) (λ _. tt {0}) r
+    → Does {X = Unit {0}} g (AddsNew o) old new (MayWrite o) (λ t. tables_over o t) (λ _. tt {0}) r
 all_written o first second = does_for (does_then first second (after o)) (λ t so. (so, refl, refl))

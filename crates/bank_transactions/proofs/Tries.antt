@@ -21,7 +21,7 @@ use Rattle.bank_transactions.specs.believed.{Additions.AddsForRecords, Additions
 use Rattle.bank_transactions.specs.Additions.{AddsTried, adds_so}
 use Rattle.bank_transactions.specs.{Batches.KeepsOnly, believed.Doing.LeavesOthers}
 use Rattle.store_rows.specs.Definitions.{IsOtherTable}
-use Rattle.bank_transactions.specs.{believed.Stored.RepliesToAllStored, declared.first_try.Tried.Tried}
+use Rattle.bank_transactions.specs.{believed.Answered.AnswersAll, declared.first_try.Tried.Tried}
 use Rattle.bank_transactions.specs.believed.Stored.{HasOther, ShowsKept}
 use Rattle.bank_transactions.proofs.OwnRows.{none_other}
 use Rattle.bank_transactions.specs.believed.Causes.{IsBefore}
@@ -188,7 +188,7 @@ module _ {S : Type 0} (g : Ghosts S) (old : Held S) (begun last : Transaction S)
 -- ---- a try that has answered
 
 -- what it puts in is what records may, since the tables are a bank's
-tried_own : (db : Database) (records : List (List ℕ)) → IsOtherTable db.schema None → (text : List ℕ) (values : Row)
+pub tried_own : (db : Database) (records : List (List ℕ)) → IsOtherTable db.schema None → (text : List ℕ) (values : Row)
     → AddsTried db records text values → AddsForRecords db records text values
 tried_own db records as_made text values (inl it) = inl it
 tried_own db records as_made text values (inr (inl it)) = inr (inl (adds_so _ _
@@ -296,16 +296,16 @@ module _ {S : Type 0} (g : Ghosts S) (Made : List (List ℕ) → Type 0) (moment
       → IfSome (replies_of tried) (λ replies. HasCleanDisk (state g last.conn.now)
       → IsTrue (state g begun.conn.now).in_transaction → IsOtherTable (state g begun.conn.now).now.schema None
       → (records : List (List ℕ)) → Made records
-      → RepliesToAllStored (state g begun.conn.now).now (state g last.conn.now).now moment records replies)
+      → AnswersAll (state g begun.conn.now).now (state g last.conn.now).now moment records replies)
       → IfSome (replies_of result) (λ replies. HasCleanDisk (state g new) → (records : List (List ℕ)) → Made records
-      → RepliesToAllStored (state g old).now (state g new).now moment records replies)
+      → AnswersAll (state g old).now (state g new).now moment records replies)
   tried_stored as_made = of_answered tried result ends (λ replies stored shown clean records made.
       let ended : HasCleanDisk (state g end) =
       subst (λ (h : Held S). HasCleanDisk (state g h)) (sym (same records made)) clean in
-      subst (λ (h : Held S). RepliesToAllStored (state g old).now (state g h).now moment records replies)
+      subst (λ (h : Held S). AnswersAll (state g old).now (state g h).now moment records replies)
       (same records made)
-      (subst (λ (db : Database). RepliesToAllStored (state g old).now db moment records replies) (sym (shown ended))
-      (subst (λ (db : Database). RepliesToAllStored db (state g last.conn.now).now moment records replies)
+      (subst (λ (db : Database). AnswersAll (state g old).now db moment records replies) (sym (shown ended))
+      (subst (λ (db : Database). AnswersAll db (state g last.conn.now).now moment records replies)
       (ap (λ (h : Held S). (state g h).now) is)
       (stored (was_clean_at records made clean) (rw is refl)
       (subst (λ (h : Held S). IsOtherTable (state g h).now.schema None) (sym is) as_made) records made))))

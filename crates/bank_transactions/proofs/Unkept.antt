@@ -25,7 +25,7 @@ eqb-same n = elim (eqb_tells n n) [ inl same ↦ same.0 | inr other ↦ absurd (
 
 module _ {R : Type 0} (key : R → ℕ) where
   -- one that is there was put in, or was there
-  of_put : (new : R) (rows : List R) (r : R) → Has (row_put key new rows) r → (r ≡ new) ⊎ Has rows r
+  pub of_put : (new : R) (rows : List R) (r : R) → Has (row_put key new rows) r → (r ≡ new) ⊎ Has rows r
   of_put new [] r (inl is) = inl is
   of_put new [] r (inr none) = absurd none
   of_put new (x ∷ rows) r has = elim (cases_Bool (nat_lt (key x) (key new))) [

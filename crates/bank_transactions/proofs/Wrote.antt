@@ -11,23 +11,23 @@ pub writes_none : (Adds : Additions) (db : Database) → WritesOnly Adds db db
 writes_none Adds db = record { statements = []; each = tt; make = refl }
 
 -- nothing was written
-pub writes_same : (Adds : Additions) (old new : Database) → new ≡ old → WritesOnly Adds old new
+unfoldable pub writes_same : (Adds : Additions) (old new : Database) → new ≡ old → WritesOnly Adds old new
 writes_same Adds old new same = record { statements = []; each = tt; make = same }
 
 -- one was
-pub writes_one : (Adds : Additions) (text : List ℕ) (values : Row) → Adds text values → (old new : Database)
+unfoldable pub writes_one : (Adds : Additions) (text : List ℕ) (values : Row) → Adds text values → (old new : Database)
     → Makes text values old new → WritesOnly Adds old new
 writes_one Adds text values own old new makes =
     record { statements = (text, values) ∷ []; each = (own, tt); make = (new, makes, refl) }
 
-make_then : (some more : List (List ℕ × Row)) (old mid new : Database) → MakeAll some old mid → MakeAll more mid new
+pub make_then : (some more : List (List ℕ × Row)) (old mid new : Database) → MakeAll some old mid → MakeAll more mid new
     → MakeAll (some ++ more) old new
 make_then [] more old mid new one two = subst (λ (db : Database). MakeAll more db new) one two
 make_then (s ∷ some) more old mid new one two =
     (one.0, one.1, make_then some more one.0 mid new one.2 two)
 
 -- some were, and then more
-pub writes_then : (Adds : Additions) (old mid new : Database) → WritesOnly Adds old mid → WritesOnly Adds mid new
+unfoldable pub writes_then : (Adds : Additions) (old mid new : Database) → WritesOnly Adds old mid → WritesOnly Adds mid new
     → WritesOnly Adds old new
 writes_then Adds old mid new one two = record {
   statements = one.statements ++ two.statements;
@@ -36,7 +36,7 @@ writes_then Adds old mid new one two = record {
 }
 
 -- they put in no other rows than these
-pub writes_also : {Adds Adds' : Additions} {old new : Database}
+unfoldable pub writes_also : {Adds Adds' : Additions} {old new : Database}
     → ((text : List ℕ) (values : Row) → Adds text values → Adds' text values) → WritesOnly Adds old new
     → WritesOnly Adds' old new
 writes_also {Adds} {Adds'} also it = record {

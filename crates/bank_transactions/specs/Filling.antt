@@ -1,7 +1,9 @@
 -- What the parts of filling a batch say.
-use Rattle.std.specs.Prelude.{◌≡◌, ℕ, List, map, Option, None, IfSome, Result, Ok, Err}
+use Rattle.std.specs.Prelude.{◌≡◌, ℕ, List, map, Option, Some, None, IfSome, Result, Ok, Err}
 use Rattle.std.specs.List.{AllByRecursion}
 use Rattle.sqlite.specs.Effect.{Database}
+use Rattle.message_records.specs.believed.Ranges.{whole_within}
+use Rattle.message_records.specs.declared.limits.TheConstants.{MAX_BRANCH}
 use Rattle.posting_rules.specs.believed.Damage.{IsUndamaged}
 use Rattle.posting_rules.specs.believed.Tables.{Tables, row_at, branch_key}
 use Rattle.posting_rules.specs.declared.rows.BranchRow.{BranchRow}
@@ -105,9 +107,13 @@ pub record AreHeld (rows : StoredRows) (o : Overlay) : Type 0 where
 
 -- ---- whatever tables a file has
 
+-- the row is that of a branch, whose number this is
+abbrev pub IsRowOf : ℕ → BranchRow → Type 0
+IsRowOf n row = (row.branch ≡ n) × (whole_within 1 MAX_BRANCH n ≡ Some n)
+
 -- the row that the slot has is that of its branch
 abbrev pub HasOwnRow : BranchSlot → Type 0
-HasOwnRow s = IfSome s.stored (λ row. row.branch ≡ s.branch)
+HasOwnRow s = IfSome s.stored (IsRowOf s.branch)
 
 -- the slot has what is shown to be kept of its request
 abbrev pub RequestShown : Database → RequestSlot → Type 0

@@ -10,7 +10,9 @@ pub mod Filling
 pub mod Floors
 pub mod Writing
 pub mod Additions
+pub mod Running
 pub mod InTurn
 pub mod Batches
+pub mod KnownRows
 pub mod Memory
 pub mod Tries

@@ -1,20 +1,37 @@
 -- What is remembered of the rows of a bank's file.
-use Rattle.std.specs.Prelude.{◌≡◌, None, IfSome, IsTrue}
+use Rattle.std.specs.Prelude.{Option, IfSome, IsTrue, OnOk, Result, Ok, Err}
 use Rattle.sqlite.specs.Effect.{Database}
 use Rattle.sqlite.specs.Held.{Held, state}
-use Rattle.sqlite.specs.State.{HasCleanDisk}
+use Rattle.sqlite.specs.State.{State, HasCleanDisk}
 use Rattle.sqlite.specs.declared.transaction.Transaction.{Transaction}
 use Rattle.sqlite_trees.specs.declared.store.Store.{Ghosts}
-use Rattle.store_rows.specs.Lying.{CountLies, IsBankFile}
+use Rattle.posting_rules.specs.declared.fault.Rule.{Rule}
+use Rattle.sql_meanings.specs.Calls.{Says}
+use Rattle.sql_meanings.specs.StatementAnswers.{WriteFails}
+use Rattle.sql_meanings.specs.believed.Entries.{Entry}
+use Rattle.store_rows.specs.Calls.{OfStored}
+use Rattle.store_rows.specs.Failures.{HasReason}
+use Rattle.store_rows.specs.believed.Rules.{StoredRows}
+use Rattle.store_rows.specs.believed.Stored.{FindsStored}
+use Rattle.store_rows.specs.declared.fault.TableFault.{TableFault}
+use Rattle.store_rows.specs.Lying.{AfterWrite, BalanceLies, BranchLies, CountLies, FloorLies, IsBankFile}
+use Rattle.store_rows.specs.declared.holders.Member.TheVariants.{Account, Teller}
+use Rattle.bank_transactions.specs.KnownRows.{AllKnown}
+use Rattle.bank_transactions.specs.Doing.{Stays}
 use Rattle.bank_transactions.specs.declared.memory.Memory.{Memory}
 
--- nothing is
-abbrev pub IsBlank : Memory → Type 0
-IsBlank memory = memory.decided ≡ None
+-- It lies in the database, whatever other rows that has: so many decided requests the row of the bank counts, and the
+-- rows that are known, and where it is known that there is none.
+pub record Fits (db : Database) (memory : Memory) : Type 0 where
+  pub decided : IfSome memory.decided (CountLies db)
+  pub branches : AllKnown memory.branches (λ branch row. BranchLies branch db row)
+  pub floors : AllKnown memory.floors (λ branch row. FloorLies branch db row)
+  pub tellers : AllKnown memory.tellers (λ teller balance. BalanceLies (Teller teller) db balance)
+  pub accounts : AllKnown memory.accounts (λ account balance. BalanceLies (Account account) db balance)
 
--- it lies in the database, whatever other rows that has: so many decided requests the row of the bank counts
-abbrev pub Fits : Database → Memory → Type 0
-Fits db memory = IfSome memory.decided (CountLies db)
+-- nothing is remembered that a database would have to hold
+abbrev pub IsBlank : Memory → Type 0
+IsBlank memory = (db : Database) → Fits db memory
 
 -- it lies in the file behind a connection, if that is a bank's
 abbrev pub Remembers : {S : Type 0} → Ghosts S → Held S → Memory → Type 0
@@ -23,3 +40,24 @@ Remembers g conn memory = HasCleanDisk (state g conn) → IsBankFile (state g co
 -- it does after a part of a transaction, as long as that goes on
 abbrev pub Keeps : {S : Type 0} → Ghosts S → Transaction S → Transaction S → Memory → Type 0
 Keeps g old new memory = IsTrue (state g old.conn.now).in_transaction → Remembers g new.conn.now memory
+
+-- as a part that writes is done, what lay in the file before it lies there again, as it was changed with it
+abbrev pub IsFollowed : {S : Type 0} → Ghosts S → Transaction S → Transaction S → Memory → Memory → Type 0
+IsFollowed g old new before after = AfterWrite g old new (λ was now. IsBankFile now × (Fits was before → Fits now after))
+
+abbrev pub Follows : {S X E : Type 0} → Ghosts S → Transaction S → Transaction S → Memory → Memory → Result X E → Type 0
+Follows g old new before after result = OnOk result (IsFollowed g old new before after)
+
+-- ---- a look-up of a row, whether the tables are asked or not
+
+-- nothing has changed, or the statement failed
+abbrev pub StaysOrFails : {X : Type 0} → State → State → Result X TableFault → Type 0
+StaysOrFails old new (Ok x) = Stays old new
+StaysOrFails old new (Err fault) = WriteFails old new × HasReason old new fault
+
+-- what the row reads as is reported, whatever rows are held
+abbrev pub Recalls : {S X : Type 0} → Ghosts S → Transaction S → Transaction S → (StoredRows → Option Entry)
+    → (Entry → Result X Rule) → Result (Option X) TableFault → Type 0
+Recalls g old new stored read result =
+    Says g old new (OfStored (λ old new rows. FindsStored (stored rows) read result))
+    (λ old new. StaysOrFails old new result)

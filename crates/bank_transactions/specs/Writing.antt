@@ -11,7 +11,7 @@ use Rattle.posting_rules.specs.believed.Tables.{history_key, request_key, refere
 use Rattle.posting_batch.specs.declared.slots.AccountSlot.{AccountSlot}
 use Rattle.posting_batch.specs.declared.slots.TellerSlot.{TellerSlot}
 use Rattle.posting_batch.specs.declared.slots.BranchSlot.{BranchSlot}
-use Rattle.posting_batch.specs.Batch.{ChangesRows, HasRisingSlots, PutsFree}
+use Rattle.posting_batch.specs.Batch.{AddsFreeRows, ChangesRows, HasRisingSlots, PutsFree}
 use Rattle.posting_batch.specs.Overlay.{Overlay, accounts_over, branches_over, decided_put, history_put}
 use Rattle.posting_batch.specs.Overlay.{references_put, tellers_over}
 use Rattle.posting_batch.specs.Slots.{account_slot_key, teller_slot_key, branch_slot_key}
@@ -60,7 +60,11 @@ after_requests o t =
     decided_put o.decided (references_put o.references (history_put o.history
     (branches_over o.branches (tellers_over o.tellers (accounts_over o.accounts t)))))
 
--- it may be written
+-- all that it changes may be written
+abbrev pub MayWrite : Overlay → Tables → Type 0
+MayWrite o t = AreBranchNumbers o.branches × HasRisingSlots o × ChangesRows o t × AddsFreeRows o t
+
+-- that may be written
 abbrev pub MayWriteAfter : Overlay → Tables → Type 0
 MayWriteAfter o t = HasRisingSlots o × ChangesRows o t × AreBranchNumbers o.branches
     × MayAddPostings o.history t × MayAddReferences o.references t

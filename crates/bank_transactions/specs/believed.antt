@@ -3,5 +3,6 @@ pub mod Doing
 pub mod Openings
 pub mod Stored
 pub mod Additions
+pub mod Ran
 pub mod Answered
 pub mod Batches

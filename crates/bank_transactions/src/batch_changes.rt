@@ -4,7 +4,6 @@ ghost use Rattle.std.specs.Prelude.{◌*◌, ◌^◌, ◌<◌, [], ◌∷◌, Li
 ghost use Rattle.sqlite.specs.Held.{state};
 ghost use Rattle.sqlite.specs.State.{HasCleanDisk};
 ghost use Rattle.posting_rules.specs.believed.Tables.{Tables};
-ghost use Rattle.posting_batch.specs.Batch.{HasRisingSlots, ChangesRows, AddsFreeRows};
 ghost use Rattle.posting_batch.specs.Overlay.{tables_over, accounts_over, tellers_over, branches_over};
 ghost use Rattle.posting_batch.specs.Overlay.{history_put, requests_put, references_put};
 ghost use Rattle.posting_batch.specs.View.{view};
@@ -20,14 +19,17 @@ ghost use Rattle.bank_transactions.specs.Additions.{AddsAlike, AddsNew, ChangesE
 ghost use Rattle.bank_transactions.specs.believed.Additions.{AddsRequests, WritesUnder};
 ghost use Rattle.bank_transactions.specs.Additions.{adds_each, changes_each};
 ghost use Rattle.bank_transactions.specs.Doing.{Does};
+ghost use Rattle.bank_transactions.specs.Running.{RunsIfOk, Writes};
+ghost use Rattle.bank_transactions.specs.Memory.{Follows};
+ghost use Rattle.bank_transactions.specs.declared.memory.Memory.{Memory};
 ghost use Rattle.bank_transactions.specs.InTurn.{InParts, InTurn, accounts_in_turn, branches_in_turn};
 ghost use Rattle.bank_transactions.specs.InTurn.{postings_in_parts, postings_in_turn, references_in_turn};
 ghost use Rattle.bank_transactions.specs.InTurn.{tellers_in_turn};
 ghost use Rattle.bank_transactions.specs.Writing.{MayChangeAccounts, MayChangeTellers, MayChangeBranches};
 ghost use Rattle.bank_transactions.specs.Writing.{MayAddPostings, MayAddRequests, MayAddReferences};
-ghost use Rattle.bank_transactions.specs.Writing.{AreBranchNumbers, MayWriteAfter, after_requests, by_change};
+ghost use Rattle.bank_transactions.specs.Writing.{MayWrite, MayWriteAfter, after_requests, by_change};
 
-use crate::{write_balance, write_decided};
+use crate::{Memory, write_balance, write_decided};
 use message_records::{Branch, Cents};
 use posting_batch::{AccountSlot, BranchSlot, Overlay, TellerSlot};
 use posting_rules::{HistoryRow, ReferenceRow, RequestRow};
@@ -48,10 +50,15 @@ trait Change {
     /// The rows that these changes put in.
     ghost Adds: { List Self → Additions };
 
-    /// Makes it.
-    fn make<S: Alter>(&self, tx: &mut Transaction<'_, S>) -> Result<(), TableFault>
-        ensures { Does S.Store (Adds (self.now ∷ [])) tx.old tx.new (May (self.now ∷ [])) (made (self.now ∷ []))
-            (λ _. tt) result };
+    /// Makes it, in what is remembered too.
+    fn make<S: Alter>(
+        &self,
+        tx: &mut Transaction<'_, S>,
+        memory: &mut Memory,
+    ) -> Result<(), TableFault>
+        ensures writes { Writes S.Store (Adds (self.now ∷ [])) tx.old tx.new (May (self.now ∷ []))
+            (made (self.now ∷ [])) result }
+        ensures follows { Follows S.Store tx.old tx.new memory.old memory.new result };
 
     /// They may be made one after another, and come to the same.
     ghost in_turn: { InTurn made May };
@@ -64,28 +71,32 @@ trait Change {
 trait NewRow: Change {
     /// Puts eight in.
     fn make_eight<S: Alter>(tx: &mut Transaction<'_, S>, rows: &[Self; 8]) -> Result<(), TableFault>
-        ensures { Does S.Store (Self.Adds rows.now) tx.old tx.new (Self.May rows.now) (Self.made rows.now)
-            (λ _. tt) result };
+        ensures writes { Writes S.Store (Self.Adds rows.now) tx.old tx.new (Self.May rows.now) (Self.made rows.now)
+            result }
+        ensures follows { (memory : Memory) → Follows S.Store tx.old tx.new memory memory result };
 
     /// They may be put in several at a time, and come to the same.
     ghost in_parts: { InParts Self.made Self.May };
 }
 
-// Writes the balance that a holder's row is to have, where a posting changes it.
+// Writes the balance that a holder's row is to have, where a posting changes it, and remembers it.
 fn write_change<S: Alter>(
     tx: &mut Transaction<'_, S>,
-    holder: Holder,
+    memory: &mut Memory,
+    holder: &Holder,
     changed: Option<Cents>,
 ) -> Result<(), TableFault>
-    ensures { Does S.Store (WritesUnder (holder_update holder) (holder_key holder)) tx.old tx.new
-        (λ tables. IfSome changed (λ _. HasRow holder tables))
-        (λ tables. by_change changed (λ balance. with_balance holder balance tables) tables)
-        (λ _. tt) result }
+    ensures writes { Writes S.Store (WritesUnder (holder_update holder.now) (holder_key holder.now)) tx.old tx.new
+        (λ tables. IfSome changed (λ _. HasRow holder.now tables))
+        (λ tables. by_change changed (λ balance. with_balance holder.now balance tables) tables) result }
+    ensures follows { Follows S.Store tx.old tx.new memory.old memory.new result }
 {
-    match changed {
-        Some(balance) => write_balance(tx, holder, balance),
-        None => Ok(()),
-    }
+    let Some(balance) = changed else {
+        return Ok(());
+    };
+    write_balance(tx, *holder, balance)?;
+    memory.change_balance(holder, balance);
+    Ok(())
 }
 
 impl Change for AccountSlot {
@@ -95,8 +106,12 @@ impl Change for AccountSlot {
 
     ghost Adds = { ChangesEach account_update account_slot_key };
 
-    fn make<S: Alter>(&self, tx: &mut Transaction<'_, S>) -> Result<(), TableFault> {
-        write_change(tx, Holder::Account(self.account), self.changed)
+    fn make<S: Alter>(
+        &self,
+        tx: &mut Transaction<'_, S>,
+        memory: &mut Memory,
+    ) -> Result<(), TableFault> {
+        write_change(tx, memory, &Holder::Account(self.account), self.changed)
     }
 
     ghost in_turn = { accounts_in_turn };
@@ -111,8 +126,12 @@ impl Change for TellerSlot {
 
     ghost Adds = { ChangesEach teller_update teller_slot_key };
 
-    fn make<S: Alter>(&self, tx: &mut Transaction<'_, S>) -> Result<(), TableFault> {
-        write_change(tx, Holder::Teller(self.teller), self.changed)
+    fn make<S: Alter>(
+        &self,
+        tx: &mut Transaction<'_, S>,
+        memory: &mut Memory,
+    ) -> Result<(), TableFault> {
+        write_change(tx, memory, &Holder::Teller(self.teller), self.changed)
     }
 
     ghost in_turn = { tellers_in_turn };
@@ -127,11 +146,15 @@ impl Change for BranchSlot {
 
     ghost Adds = { ChangesEach branch_update branch_slot_key };
 
-    fn make<S: Alter>(&self, tx: &mut Transaction<'_, S>) -> Result<(), TableFault> {
+    fn make<S: Alter>(
+        &self,
+        tx: &mut Transaction<'_, S>,
+        memory: &mut Memory,
+    ) -> Result<(), TableFault> {
         // A number that is none of branches has no row to change: `May` refuses such a slot by its
         // `AreBranchNumbers`, where it is changed.
         match Branch::new(self.branch) {
-            Some(branch) => write_change(tx, Holder::Branch(branch), self.changed),
+            Some(branch) => write_change(tx, memory, &Holder::Branch(branch), self.changed),
             None => Ok(()),
         }
     }
@@ -148,7 +171,11 @@ impl Change for HistoryRow {
 
     ghost Adds = { λ rows. AddsPostings (Has rows) };
 
-    fn make<S: Alter>(&self, tx: &mut Transaction<'_, S>) -> Result<(), TableFault> {
+    fn make<S: Alter>(
+        &self,
+        tx: &mut Transaction<'_, S>,
+        _memory: &mut Memory,
+    ) -> Result<(), TableFault> {
         add_history(tx, *self)
     }
 
@@ -175,7 +202,11 @@ impl Change for ReferenceRow {
 
     ghost Adds = { λ rows. AddsReferences (Has rows) };
 
-    fn make<S: Alter>(&self, tx: &mut Transaction<'_, S>) -> Result<(), TableFault> {
+    fn make<S: Alter>(
+        &self,
+        tx: &mut Transaction<'_, S>,
+        _memory: &mut Memory,
+    ) -> Result<(), TableFault> {
         add_reference(tx, *self)
     }
 
@@ -187,37 +218,45 @@ impl Change for ReferenceRow {
 // Makes changes, one after another.
 fn make_all<S: Alter, C: Change>(
     tx: &mut Transaction<'_, S>,
+    memory: &mut Memory,
     changes: &[C],
 ) -> Result<(), TableFault>
-    ensures { Does S.Store (C.Adds changes.now) tx.old tx.new (C.May changes.now) (C.made changes.now)
-        (λ _. tt) result }
+    ensures writes { Writes S.Store (C.Adds changes.now) tx.old tx.new (C.May changes.now) (C.made changes.now)
+        result }
+    ensures follows { Follows S.Store tx.old tx.new memory.old memory.new result }
 {
     for change in changes {
-        change.make(tx)?;
+        change.make(tx, memory)?;
     }
     Ok(())
 }
 
 // Puts rows in, eight by one statement, and the rest one by one.
-fn make_rows<S: Alter, R: NewRow>(tx: &mut Transaction<'_, S>, rows: &[R]) -> Result<(), TableFault>
+fn make_rows<S: Alter, R: NewRow>(
+    tx: &mut Transaction<'_, S>,
+    memory: &mut Memory,
+    rows: &[R],
+) -> Result<(), TableFault>
     requires { 8 * type_size R.row < 2 ^ 63 }
-    ensures { Does S.Store (R.Adds rows.now) tx.old tx.new (R.May rows.now) (R.made rows.now) (λ _. tt) result }
+    ensures writes { Writes S.Store (R.Adds rows.now) tx.old tx.new (R.May rows.now) (R.made rows.now) result }
+    ensures follows { Follows S.Store tx.old tx.new memory.old memory.new result }
 {
     let mut left = rows;
     while let Some((eight, rest)) = left.split_first_chunk::<8>() {
         R::make_eight(tx, eight)?;
         left = rest;
     }
-    make_all(tx, left)
+    make_all(tx, memory, left)
 }
 
 // Puts requests in, one by one.
 fn put_singly<S: Alter>(tx: &mut Transaction<'_, S>, rows: &[RequestRow]) -> Result<(), TableFault>
-    ensures puts { Does S.Store (AddsRequests (Has rows.now)) tx.old tx.new (MayAddRequests rows.now)
-        (requests_put rows.now) (λ _. tt) result }
+    ensures puts { Writes S.Store (AddsRequests (Has rows.now)) tx.old tx.new (MayAddRequests rows.now)
+        (requests_put rows.now) result }
     ensures unknown { OnOk result (HasCleanDisk (state S.Store tx.new.conn.now)
         → IsTrue (state S.Store tx.old.conn.now).in_transaction
         → PutsNew (state S.Store tx.old.conn.now).now (state S.Store tx.new.conn.now).now rows.now) }
+    ensures follows { (memory : Memory) → Follows S.Store tx.old tx.new memory memory result }
 {
     for row in rows {
         add_request(tx, *row)?;
@@ -233,9 +272,12 @@ pub(crate) fn put_requests<S: Alter>(
     ensures puts { Does S.Store (AddsRequests (Has rows.now)) tx.old tx.new (MayAddRequests rows.now)
         (requests_put rows.now) (λ _. tt) result }
     // Whatever rows the file holds.
+    ensures ran { RunsIfOk S.Store (AddsRequests (Has rows.now)) tx.old tx.new (MayAddRequests rows.now)
+        (requests_put rows.now) result }
     ensures unknown { OnOk result (HasCleanDisk (state S.Store tx.new.conn.now)
         → IsTrue (state S.Store tx.old.conn.now).in_transaction
         → PutsNew (state S.Store tx.old.conn.now).now (state S.Store tx.new.conn.now).now rows.now) }
+    ensures follows { (memory : Memory) → Follows S.Store tx.old tx.new memory memory result }
 {
     let mut left = rows;
     while let Some((eight, rest)) = left.split_first_chunk::<8>() {
@@ -245,33 +287,44 @@ pub(crate) fn put_requests<S: Alter>(
     put_singly(tx, left)
 }
 
-/// Writes the rest of what a batch has changed, each row once, and how many requests are decided.
+/// Writes the rest of what a batch has changed, each row once, and how many requests are decided. It is remembered.
 pub(crate) fn write_after<S: Alter>(
     tx: &mut Transaction<'_, S>,
+    memory: &mut Memory,
     overlay: &Overlay,
 ) -> Result<(), TableFault>
     ensures does { Does S.Store (AddsNew (view overlay.now)) tx.old tx.new (MayWriteAfter (view overlay.now))
         (after_requests (view overlay.now)) (λ _. tt) result }
     // Whatever rows the file holds.
+    ensures ran { RunsIfOk S.Store (AddsNew (view overlay.now)) tx.old tx.new (MayWriteAfter (view overlay.now))
+        (after_requests (view overlay.now)) result }
     ensures counts { OnOk result (Counts S.Store tx.old tx.new overlay.now.decided) }
+    ensures follows { Follows S.Store tx.old tx.new memory.old memory.new result }
 {
-    make_all(tx, &overlay.accounts)?;
-    make_all(tx, &overlay.tellers)?;
-    make_all(tx, &overlay.branches)?;
-    make_rows(tx, &overlay.history)?;
-    make_all(tx, &overlay.references)?;
-    write_decided(tx, overlay.decided)
+    make_all(tx, memory, &overlay.accounts)?;
+    make_all(tx, memory, &overlay.tellers)?;
+    make_all(tx, memory, &overlay.branches)?;
+    make_rows(tx, memory, &overlay.history)?;
+    make_all(tx, memory, &overlay.references)?;
+    write_decided(tx, overlay.decided)?;
+    memory.note(overlay.decided);
+    Ok(())
 }
 
-/// Writes what a batch has changed, each row once, and how many requests are decided.
-pub fn write<S: Alter>(tx: &mut Transaction<'_, S>, overlay: &Overlay) -> Result<(), TableFault>
-    ensures does { Does S.Store (AddsNew (view overlay.now)) tx.old tx.new
-        (λ tables. AreBranchNumbers (view overlay.now).branches × HasRisingSlots (view overlay.now)
-        × ChangesRows (view overlay.now) tables × AddsFreeRows (view overlay.now) tables)
-        (λ tables. tables_over (view overlay.now) tables) (λ _. tt) result }
+/// Writes what a batch has changed, each row once, and how many requests are decided. It is remembered.
+pub fn write<S: Alter>(
+    tx: &mut Transaction<'_, S>,
+    memory: &mut Memory,
+    overlay: &Overlay,
+) -> Result<(), TableFault>
+    ensures does { Does S.Store (AddsNew (view overlay.now)) tx.old tx.new (MayWrite (view overlay.now))
+        (tables_over (view overlay.now)) (λ _. tt) result }
     // Whatever rows the file holds.
+    ensures ran { RunsIfOk S.Store (AddsNew (view overlay.now)) tx.old tx.new (MayWrite (view overlay.now))
+        (tables_over (view overlay.now)) result }
     ensures counts { OnOk result (Counts S.Store tx.old tx.new overlay.now.decided) }
+    ensures follows { Follows S.Store tx.old tx.new memory.old memory.new result }
 {
     put_requests(tx, &overlay.requests)?;
-    write_after(tx, overlay)
+    write_after(tx, memory, overlay)
 }

@@ -46,7 +46,7 @@ ghost use Rattle.bank_transactions.specs.Doing.{Acts, Transacts};
 ghost use Rattle.bank_transactions.specs.believed.Batches.{DecidesNone, HasRoomFor};
 ghost use Rattle.bank_transactions.specs.Batches.{items_of, WritesNothing, KeepsOnly, RepliesLookedUp};
 ghost use Rattle.bank_transactions.specs.Memory.{Keeps, Remembers};
-ghost use Rattle.bank_transactions.specs.believed.Stored.{RepliesToAllStored};
+ghost use Rattle.bank_transactions.specs.believed.Answered.{AnswersAll};
 ghost use Rattle.bank_transactions.specs.Undone.{UndoesFaults};
 
 use crate::batch_changes::write;
@@ -82,14 +82,18 @@ pub fn answer_batch<S: Alter>(
         → (records : List (List ℕ)) → IsMadeOf batch records
         → RepliesLookedUp (state S.Store tx.old.conn.now).now (state S.Store tx.new.conn.now).now moment records
         replies.items) }
+    ensures wrote { IfOk result (λ replies. HasCleanDisk (state S.Store tx.new.conn.now)
+        → IsTrue (state S.Store tx.old.conn.now).in_transaction
+        → (records : List (List ℕ)) → IsMadeOf batch records
+        → AnswersAll (state S.Store tx.old.conn.now).now (state S.Store tx.new.conn.now).now moment records
+        replies.items) }
     ensures remembers { OnOk result (∥ Keeps S.Store tx.old tx.new memory.new ∥₁) }
 {
     fill(tx, memory, &mut batch.overlay)?;
     let before = batch.overlay.decided;
     let judged = batch.judge(moment);
     if judged.overlay.decided != before {
-        write(tx, &judged.overlay)?;
-        memory.note(judged.overlay.decided);
+        write(tx, memory, &judged.overlay)?;
     }
     Ok(judged.into_replies())
 }
@@ -123,6 +127,9 @@ pub fn post_looked_up<S: Alter>(
         → (records : List (List ℕ)) → IsMadeOf batch records
         → RepliesLookedUp (state S.Store conn.old).now (state S.Store conn.new).now moment records
         replies.items) }
+    ensures wrote { IfOk result (λ replies. HasCleanDisk (state S.Store conn.new)
+        → (records : List (List ℕ)) → IsMadeOf batch records
+        → AnswersAll (state S.Store conn.old).now (state S.Store conn.new).now moment records replies.items) }
     ensures undone { (records : List (List ℕ)) → IsMadeOf batch records
         → UndoesFaults S.Store conn.old conn.new (items_of result) }
     // After an error all has to be forgotten.
@@ -170,8 +177,7 @@ pub fn post_all<S: Alter>(
     // Whatever rows the file holds.
     ensures stored { IfOk result (λ replies. HasCleanDisk (state S.Store conn.new)
         → (records : List (List ℕ)) → IsMadeOf batch records
-        → RepliesToAllStored (state S.Store conn.old).now (state S.Store conn.new).now moment records
-        replies.items) }
+        → AnswersAll (state S.Store conn.old).now (state S.Store conn.new).now moment records replies.items) }
     ensures undone { (records : List (List ℕ)) → IsMadeOf batch records
         → UndoesFaults S.Store conn.old conn.new (items_of result) }
     // After an error all has to be forgotten.

@@ -16,7 +16,7 @@ ghost use Rattle.bank_transactions.specs.believed.Additions.{AddsForRecords};
 ghost use Rattle.bank_transactions.specs.believed.Batches.{DecidesNone, HasRoomFor};
 ghost use Rattle.bank_transactions.specs.Doing.{Acts, Reads, Transacts};
 ghost use Rattle.bank_transactions.specs.Memory.{Keeps, Remembers};
-ghost use Rattle.bank_transactions.specs.believed.Stored.{RepliesToAllStored};
+ghost use Rattle.bank_transactions.specs.believed.Answered.{AnswersAll};
 ghost use Rattle.bank_transactions.specs.Tries.{IsAsBefore, IsMadeAgain, answer_of, batch_of, replies_of};
 ghost use Rattle.bank_transactions.specs.Tries.{first_kept, may_be_kept};
 ghost use Rattle.bank_transactions.specs.Undone.{UndoesFaults};
@@ -99,7 +99,7 @@ fn answer_unkept<S: Alter>(
         → IsTrue (state S.Store tx.old.conn.now).in_transaction
         → IsOtherTable (state S.Store tx.old.conn.now).now.schema None
         → (records : List (List ℕ)) → IsMadeOf batch records
-        → RepliesToAllStored (state S.Store tx.old.conn.now).now (state S.Store tx.new.conn.now).now moment records
+        → AnswersAll (state S.Store tx.old.conn.now).now (state S.Store tx.new.conn.now).now moment records
         replies) }
     ensures again { IfSome (batch_of result) (IsMadeAgain batch) }
     ensures quiet { Says S.Store tx.old tx.new (λ _ _. ⊤) (Inside KeepsCommit) }
@@ -113,8 +113,7 @@ fn answer_unkept<S: Alter>(
     }
     match put_requests(tx, &judged.overlay.requests) {
         Ok(()) => {
-            write_after(tx, &judged.overlay)?;
-            memory.note(judged.overlay.decided);
+            write_after(tx, memory, &judged.overlay)?;
             Ok(Tried::Answered(judged.into_replies()))
         }
         Err(fault) if may_be_kept(&fault) => Ok(Tried::Again(judged.again())),
@@ -143,7 +142,7 @@ fn answer_new<S: Alter>(
         → IsTrue (state S.Store tx.old.conn.now).in_transaction
         → IsOtherTable (state S.Store tx.old.conn.now).now.schema None
         → (records : List (List ℕ)) → IsMadeOf batch records
-        → RepliesToAllStored (state S.Store tx.old.conn.now).now (state S.Store tx.new.conn.now).now moment records
+        → AnswersAll (state S.Store tx.old.conn.now).now (state S.Store tx.new.conn.now).now moment records
         replies) }
     ensures again { IfSome (batch_of result) (IsMadeAgain batch) }
     ensures quiet { Says S.Store tx.old tx.new (λ _ _. ⊤) (Inside KeepsCommit) }
@@ -177,7 +176,7 @@ pub(crate) fn try_new<S: Alter>(
         → DecidesNone tables moment records → ⊥) }
     ensures stored { IfSome (replies_of result) (λ replies. HasCleanDisk (state S.Store conn.new)
         → (records : List (List ℕ)) → IsMadeOf batch records
-        → RepliesToAllStored (state S.Store conn.old).now (state S.Store conn.new).now moment records replies) }
+        → AnswersAll (state S.Store conn.old).now (state S.Store conn.new).now moment records replies) }
     ensures undone { IfSome (answer_of result) (λ answer. (records : List (List ℕ)) → IsMadeOf batch records
         → UndoesFaults S.Store conn.old conn.new answer) }
     ensures again { IfSome (batch_of result) (λ again. IsMadeAgain batch again

@@ -1,16 +1,19 @@
 //! What is looked up where it isn't remembered.
-ghost use Rattle.std.specs.Prelude.{◌≤◌, IfOk, OnOk};
+ghost use Rattle.std.specs.Prelude.{◌≤◌, ◌≤ℤ◌, pos, IfOk, IfSome, OnOk};
 ghost use Rattle.sqlite.specs.Held.{state};
 ghost use Rattle.sqlite.specs.State.{HasCleanDisk};
-ghost use Rattle.store_rows.specs.believed.Rules.{OfRows};
+ghost use Rattle.store_rows.specs.Holders.{entry_under};
+ghost use Rattle.store_rows.specs.believed.Readings.{read_balance, read_branch, read_floor};
+ghost use Rattle.store_rows.specs.believed.Rules.{OfRows, row_under};
 ghost use Rattle.bank_transactions.specs.Doing.{Reads};
-ghost use Rattle.bank_transactions.specs.Memory.{Remembers};
+ghost use Rattle.bank_transactions.specs.Memory.{Recalls, Remembers};
 ghost use Rattle.bank_transactions.specs.believed.Stored.{HoldsDecided};
 
 use crate::{Memory, decided};
-use posting_rules::MAX_DECIDED;
+use message_records::{Branch, Cents};
+use posting_rules::{BranchRow, FloorRow, MAX_DECIDED};
 use sqlite::{Alter, Transaction};
-use store_rows::TableFault;
+use store_rows::{Member, TableFault, balance_of, find_branch, find_floor};
 
 /// How many requests are decided, which is asked of the tables where it isn't remembered.
 pub(crate) fn known_decided<S: Alter>(
@@ -30,4 +33,59 @@ pub(crate) fn known_decided<S: Alter>(
     let decided = decided(tx)?;
     memory.note(decided);
     Ok(decided)
+}
+
+/// The row of a branch, which is asked of the tables where it isn't remembered.
+pub(crate) fn known_branch_row<S: Alter>(
+    tx: &mut Transaction<'_, S>,
+    memory: &mut Memory,
+    branch: Branch,
+) -> Result<Option<BranchRow>, TableFault>
+    requires { ∥ Remembers S.Store tx.old.conn.now memory.old ∥₁ }
+    ensures recalls { Recalls S.Store tx.old tx.new (λ rows. row_under rows.branches branch) read_branch result }
+    ensures remembers { OnOk result (∥ Remembers S.Store tx.new.conn.now memory.new ∥₁) }
+{
+    if let Some(row) = memory.branch_row(branch) {
+        return Ok(row);
+    }
+    let row = find_branch(tx, branch)?;
+    memory.note_branch(branch, &row);
+    Ok(row)
+}
+
+/// The row of a branch's floor, which is asked of the tables where it isn't remembered.
+pub(crate) fn known_floor_row<S: Alter>(
+    tx: &mut Transaction<'_, S>,
+    memory: &mut Memory,
+    branch: Branch,
+) -> Result<Option<FloorRow>, TableFault>
+    requires { ∥ Remembers S.Store tx.old.conn.now memory.old ∥₁ }
+    ensures recalls { Recalls S.Store tx.old tx.new (λ rows. row_under rows.floors branch) read_floor result }
+    ensures within { IfOk result (λ found. IfSome found (λ row. row.lowest ≤ℤ pos 0)) }
+    ensures remembers { OnOk result (∥ Remembers S.Store tx.new.conn.now memory.new ∥₁) }
+{
+    if let Some(row) = memory.floor_row(branch) {
+        return Ok(row);
+    }
+    let row = find_floor(tx, branch)?;
+    memory.note_floor(branch, &row);
+    Ok(row)
+}
+
+/// The balance of an account or a teller, which is asked of the tables where it isn't remembered.
+pub(crate) fn known_balance<S: Alter>(
+    tx: &mut Transaction<'_, S>,
+    memory: &mut Memory,
+    member: &Member,
+) -> Result<Option<Cents>, TableFault>
+    requires { ∥ Remembers S.Store tx.old.conn.now memory.old ∥₁ }
+    ensures recalls { Recalls S.Store tx.old tx.new (entry_under member.now) read_balance result }
+    ensures remembers { OnOk result (∥ Remembers S.Store tx.new.conn.now memory.new ∥₁) }
+{
+    if let Some(balance) = memory.balance(member) {
+        return Ok(balance);
+    }
+    let balance = balance_of(tx, *member)?;
+    memory.note_balance(member, &balance);
+    Ok(balance)
 }

@@ -1,7 +1,7 @@
 //! What is looked up in the tables. Rows that belong together are read together, and reported as damage where
 //! they differ.
 ghost use Rattle.std.specs.Bool.{Decides};
-ghost use Rattle.std.specs.Prelude.{◌≡◌, ◌≤◌, IfOk, IfSome};
+ghost use Rattle.std.specs.Prelude.{◌≡◌, ◌≤◌, IfOk, IfSome, OnOk};
 ghost use Rattle.posting_rules.specs.believed.Numbering.{branch_of_account, place_of_account};
 ghost use Rattle.posting_rules.specs.believed.LookUps.{teller_balances_in, account_balance_in, kept_in, reference_in};
 ghost use Rattle.posting_rules.specs.believed.Tables.{row_at, branch_key};
@@ -12,18 +12,20 @@ ghost use Rattle.store_rows.specs.believed.Readings.{read_branch};
 ghost use Rattle.store_rows.specs.believed.Rules.{branch_under, row_under, OfRows};
 ghost use Rattle.store_rows.specs.believed.Stored.{FindsStored};
 ghost use Rattle.bank_transactions.specs.Doing.{Reads};
+ghost use Rattle.bank_transactions.specs.Filling.{IsRowOf};
+ghost use Rattle.bank_transactions.specs.Memory.{Remembers};
 ghost use Rattle.bank_transactions.specs.believed.Stored.{HoldsDecided, HoldsKept, HoldsReference, IsStoredBalance};
 ghost use Rattle.bank_transactions.specs.believed.Stored.{IsStoredTeller, ShowsKept, ShowsText};
 
+use crate::Memory;
+use crate::known::known_branch_row;
 use message_records::{Account, Branch, Cents, Number, Reference, Teller};
 use posting_rules::{
     BranchRow, Kept, MAX_DECIDED, Ordinal, Rule, branch_of_account, branch_of_teller,
     place_of_account,
 };
 use sqlite::{Alter, Transaction};
-use store_rows::{
-    Member, TableFault, balance_of, find_branch, find_reference, find_request, read_meta,
-};
+use store_rows::{Member, TableFault, balance_of, find_reference, find_request, read_meta};
 
 // Whether the row is that of the branch, if there is one.
 fn is_its(row: &Option<BranchRow>, branch: Branch) -> bool
@@ -38,19 +40,42 @@ fn is_its(row: &Option<BranchRow>, branch: Branch) -> bool
 // The row of a branch, if it has one. A table that no bank made may show another branch's.
 fn branch_row<S: Alter>(
     tx: &mut Transaction<'_, S>,
+    memory: &mut Memory,
     branch: Branch,
 ) -> Result<Option<BranchRow>, TableFault>
+    requires { ∥ Remembers S.Store tx.old.conn.now memory.old ∥₁ }
     ensures says { Reads S.Store tx.old tx.new (λ tables. row_at branch_key tables.branches branch) result }
     ensures stored { HasCleanDisk (state S.Store tx.new.conn.now)
         → OfRows (λ rows. FindsStored (row_under rows.branches branch) read_branch result)
         (state S.Store tx.old.conn.now).now }
     ensures own { IfOk result (λ row. IfSome row (λ r. r.branch ≡ branch)) }
+    ensures remembers { OnOk result (∥ Remembers S.Store tx.new.conn.now memory.new ∥₁) }
 {
-    let row = find_branch(tx, branch)?;
+    let row = known_branch_row(tx, memory, branch)?;
     if !is_its(&row, branch) {
         return Err(TableFault::Damaged(Rule::Value));
     }
     Ok(row)
+}
+
+/// The branch under a number, none where it isn't open. The tables are asked where it isn't remembered.
+pub(crate) fn known_branch<S: Alter>(
+    tx: &mut Transaction<'_, S>,
+    memory: &mut Memory,
+    number: u64,
+) -> Result<Option<BranchRow>, TableFault>
+    requires { ∥ Remembers S.Store tx.old.conn.now memory.old ∥₁ }
+    ensures says { Reads S.Store tx.old tx.new (λ tables. row_at branch_key tables.branches number) result }
+    ensures stored { HasCleanDisk (state S.Store tx.new.conn.now)
+        → OfRows (λ rows. FindsStored (branch_under rows number) read_branch result)
+        (state S.Store tx.old.conn.now).now }
+    ensures own { IfOk result (λ row. IfSome row (IsRowOf number)) }
+    ensures remembers { OnOk result (∥ Remembers S.Store tx.new.conn.now memory.new ∥₁) }
+{
+    match Branch::new(number) {
+        Some(branch) => branch_row(tx, memory, branch),
+        None => Ok(None),
+    }
 }
 
 /// The branch under a number, none where it isn't open.
@@ -62,12 +87,9 @@ pub fn branch_at<S: Alter>(
     ensures stored { HasCleanDisk (state S.Store tx.new.conn.now)
         → OfRows (λ rows. FindsStored (branch_under rows number) read_branch result)
         (state S.Store tx.old.conn.now).now }
-    ensures own { IfOk result (λ row. IfSome row (λ r. r.branch ≡ number)) }
+    ensures own { IfOk result (λ row. IfSome row (IsRowOf number)) }
 {
-    match Branch::new(number) {
-        Some(branch) => branch_row(tx, branch),
-        None => Ok(None),
-    }
+    known_branch(tx, &mut Memory::new(), number)
 }
 
 /// The balances of a teller and of its branch, none where the teller isn't open.

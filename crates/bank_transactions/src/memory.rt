@@ -1,6 +1,34 @@
 //! What is remembered of the rows of a bank's file from one call to the next.
-ghost use Rattle.std.specs.Prelude.{◌≤◌, IfSome};
+ghost use Rattle.std.specs.Prelude.{◌<◌, ◌≤◌, IfSome};
+ghost use Rattle.known_rows.specs.Known.{KnowsNothing};
 ghost use Rattle.posting_rules.specs.declared.limits.TheConstants.{MAX_DECIDED};
+ghost use Rattle.bank_transactions.specs.KnownRows.{AreLow};
+
+use known_rows::Known;
+use message_records::{Branch, Cents};
+use posting_rules::{BranchRow, FloorRow};
+use std::alloc::Global;
+use std::mem;
+use store_rows::{Holder, Member};
+
+// How many places a table has: two to the power of this. Keys of rows that are used together are apart: those of
+// 1,000 branches, of the tellers of 100, and of 1,600 accounts of each of nine.
+const BRANCH_BITS: u32 = 10;
+
+const TELLER_BITS: u32 = 10;
+
+const ACCOUNT_BITS: u32 = 14;
+
+// A table of so many places. Where no memory is to be had, nothing is ever known.
+fn table<V: Copy>(alloc: Global, bits: u32) -> Known<V>
+    requires { bits < 64 }
+    ensures { KnowsNothing result }
+{
+    match Known::with_places(alloc, bits) {
+        Ok(known) => known,
+        Err(_) => Known::none(),
+    }
+}
 
 /// What is remembered of the rows that were read or written, so that they aren't asked for again. It holds as long as
 /// nobody else writes the file.
@@ -8,19 +36,56 @@ ghost use Rattle.posting_rules.specs.declared.limits.TheConstants.{MAX_DECIDED};
 pub struct Memory {
     // How many requests are decided.
     pub(crate) decided: Option<u64>,
+    // The row of a branch, or that it has none.
+    pub(crate) branches: Known<Option<BranchRow>>,
+    // The row of a branch's floor, or that it has none.
+    pub(crate) floors: Known<Option<FloorRow>>,
+    // The balance of a teller's row, or that it has none.
+    pub(crate) tellers: Known<Option<Cents>>,
+    // The balance of an account's row, or that it has none.
+    pub(crate) accounts: Known<Option<Cents>>,
     ghost few: { ∥ IfSome decided (λ n. n ≤ MAX_DECIDED) ∥₁ },
+    ghost low: { ∥ AreLow floors ∥₁ },
 }
 
 impl Memory {
-    ghost use Rattle.std.specs.Prelude.{◌≡◌, Some};
-    ghost use Rattle.bank_transactions.specs.Memory.{IsBlank};
+    ghost use Rattle.std.specs.Prelude.{◌≡◌, ◌≤ℤ◌, pos, Some};
+    ghost use Rattle.sqlite.specs.Effect.{Database};
+    ghost use Rattle.store_rows.specs.believed.BankTables.{branch as branch_table, floor as floor_table, meta};
+    ghost use Rattle.store_rows.specs.Holders.{holder_of, holder_table};
+    ghost use Rattle.store_rows.specs.Lying.{BalanceLies, BranchLies, CountLies, FloorLies, LeavesOthers};
+    ghost use Rattle.store_rows.specs.Lying.{SetsBalance, holder_key};
+    ghost use Rattle.store_rows.specs.declared.holders.Holder.TheVariants as holder;
+    ghost use Rattle.store_rows.specs.believed.Inserts.{meta_key};
+    ghost use Rattle.bank_transactions.specs.Memory.{Fits, IsBlank};
 
-    /// Nothing is remembered.
+    /// Nothing is remembered yet, and there is room for what will be: some 800 KiB. Where no memory is to be had, no rows
+    /// are ever remembered.
+    #[must_use]
+    pub fn with_room(alloc: Global) -> Self
+        ensures { IsBlank result }
+    {
+        Memory {
+            decided: None,
+            branches: table(alloc, BRANCH_BITS),
+            floors: table(alloc, BRANCH_BITS),
+            tellers: table(alloc, TELLER_BITS),
+            accounts: table(alloc, ACCOUNT_BITS),
+        }
+    }
+
+    /// Nothing is remembered, and no rows will be. It takes no memory.
     #[must_use]
     pub fn new() -> Self
         ensures { IsBlank result }
     {
-        Memory { decided: None }
+        Memory {
+            decided: None,
+            branches: Known::none(),
+            floors: Known::none(),
+            tellers: Known::none(),
+            accounts: Known::none(),
+        }
     }
 
     /// Forgets all.
@@ -28,6 +93,10 @@ impl Memory {
         ensures { IsBlank self.new }
     {
         self.decided = None;
+        self.branches.forget();
+        self.floors.forget();
+        self.tellers.forget();
+        self.accounts.forget();
     }
 
     /// What is remembered, which is forgotten here.
@@ -35,16 +104,97 @@ impl Memory {
         ensures given { result ≡ self.old }
         ensures blank { IsBlank self.new }
     {
-        let decided = self.decided;
-        self.decided = None;
-        Memory { decided }
+        mem::replace(self, Memory::new())
     }
 
-    /// Remembers how many requests are decided.
+    /// Notes how many requests are decided, as it was read or written.
     pub(crate) fn note(&mut self, decided: u64)
         requires { decided ≤ MAX_DECIDED }
-        ensures { self.new.decided ≡ Some decided }
+        ensures { (was now : Database) → LeavesOthers meta meta_key was now → CountLies now decided
+            → Fits was self.old → Fits now self.new }
     {
         self.decided = Some(decided);
+    }
+
+    /// The row of a branch, if it is known.
+    pub(crate) fn branch_row(&self, branch: Branch) -> Option<Option<BranchRow>>
+        ensures { (db : Database) → Fits db self.now → IfSome result (BranchLies branch db) }
+    {
+        self.branches.get(branch.get())
+    }
+
+    /// Notes the row of a branch, as it was read.
+    pub(crate) fn note_branch(&mut self, branch: Branch, row: &Option<BranchRow>)
+        ensures { (was now : Database) → LeavesOthers branch_table branch was now → BranchLies branch now row.now
+            → Fits was self.old → Fits now self.new }
+    {
+        self.branches.put(branch.get(), *row);
+    }
+
+    /// The floor of a branch, if it is known.
+    pub(crate) fn floor_row(&self, branch: Branch) -> Option<Option<FloorRow>>
+        ensures lies { (db : Database) → Fits db self.now → IfSome result (FloorLies branch db) }
+        ensures within { IfSome result (λ found. IfSome found (λ row. row.lowest ≤ℤ pos 0)) }
+    {
+        self.floors.get(branch.get())
+    }
+
+    /// Notes the floor of a branch, as it was read.
+    pub(crate) fn note_floor(&mut self, branch: Branch, row: &Option<FloorRow>)
+        requires { IfSome row.now (λ r. r.lowest ≤ℤ pos 0) }
+        ensures { (was now : Database) → LeavesOthers floor_table branch was now → FloorLies branch now row.now
+            → Fits was self.old → Fits now self.new }
+    {
+        self.floors.put(branch.get(), *row);
+    }
+
+    /// The balance of an account or a teller, if it is known.
+    pub(crate) fn balance(&self, member: &Member) -> Option<Option<Cents>>
+        ensures { (db : Database) → Fits db self.now → IfSome result (BalanceLies member.now db) }
+    {
+        match member {
+            Member::Account(account) => self.accounts.get(account.get()),
+            Member::Teller(teller) => self.tellers.get(teller.get()),
+        }
+    }
+
+    /// Notes the balance of an account or a teller, as it was read or written.
+    pub(crate) fn note_balance(&mut self, member: &Member, balance: &Option<Cents>)
+        ensures { (was now : Database)
+            → LeavesOthers (holder_table (holder_of member.now)) (holder_key (holder_of member.now)) was now
+            → BalanceLies member.now now balance.now → Fits was self.old → Fits now self.new }
+    {
+        match member {
+            Member::Account(account) => self.accounts.put(account.get(), *balance),
+            Member::Teller(teller) => self.tellers.put(teller.get(), *balance),
+        }
+    }
+
+    // Changes the balance in the row of a branch, where that is known.
+    fn change_branch(&mut self, branch: Branch, balance: Cents)
+        ensures { (was now : Database) → LeavesOthers branch_table branch was now
+            → SetsBalance (holder.Branch branch) balance was now → Fits was self.old → Fits now self.new }
+    {
+        let key = branch.get();
+        match self.branches.get(key) {
+            Some(Some(row)) => self.branches.put(key, Some(BranchRow { balance, ..row })),
+            // A row that was written was there.
+            Some(None) => self.branches.forget(),
+            None => {}
+        }
+    }
+
+    /// Changes a balance, as it was written.
+    pub(crate) fn change_balance(&mut self, holder: &Holder, balance: Cents)
+        ensures { (was now : Database) → LeavesOthers (holder_table holder.now) (holder_key holder.now) was now
+            → SetsBalance holder.now balance was now → Fits was self.old → Fits now self.new }
+    {
+        match holder {
+            Holder::Account(account) => {
+                self.note_balance(&Member::Account(*account), &Some(balance));
+            }
+            Holder::Teller(teller) => self.note_balance(&Member::Teller(*teller), &Some(balance)),
+            Holder::Branch(branch) => self.change_branch(*branch, balance),
+        }
     }
 }

@@ -23,9 +23,10 @@ ghost use Rattle.bank_transactions.specs.believed.Stored.{HoldsAccount, HoldsFlo
 ghost use Rattle.bank_transactions.specs.Memory.{Remembers};
 ghost use Rattle.bank_transactions.specs.Stored.{HoldsTellerRow};
 
-use crate::floors::{balance_and_floor, floor_at, is_below};
-use crate::known::known_decided;
-use crate::{Memory, branch_at, kept_request, teller_balances};
+use crate::floors::{balance_and_floor, is_below, known_floor};
+use crate::known::{known_balance, known_decided};
+use crate::look_ups::known_branch;
+use crate::{Memory, kept_request, teller_balances};
 use message_records::{Account, Cents, Teller};
 use posting_batch::{
     AccountSlot, BranchSlot, FloorSlot, Overlay, RequestSlot, TellerSlot, stored_branch,
@@ -33,7 +34,7 @@ use posting_batch::{
 };
 use posting_rules::{BranchRow, branch_of_account, branch_of_teller, place_of_account};
 use sqlite::{Alter, Transaction};
-use store_rows::{Member, TableFault, balance_of};
+use store_rows::{Member, TableFault};
 
 // What a look-up finds.
 type Read<T> = Result<T, TableFault>;
@@ -58,13 +59,15 @@ trait Slot: Copy {
     /// The slot has what the look-ups show, be the tables a bank's or not.
     ghost Shown: { Database → Self → Type 0 };
 
-    /// Fills it, by the slots of branches and of floors.
+    /// Fills it, by the slots of branches and of floors. The tables are asked where a row isn't remembered.
     fn fill<S: Alter>(
         self,
         tx: &mut Transaction<'_, S>,
+        memory: &mut Memory,
         branches: &[BranchSlot],
         floors: &[FloorSlot],
     ) -> Read<Self>
+        requires { ∥ Remembers S.Store tx.old.conn.now memory.old ∥₁ }
         ensures says { ReadsWhere S.Store tx.old tx.new
             (λ tables. IsUndamaged tables × Knows branches.now tables self)
             (λ tables. filled_from tables self) result }
@@ -73,7 +76,8 @@ trait Slot: Copy {
             → OfRows (λ rows. KnowsRow branches.now floors.now rows self → Held rows slot)
             (state S.Store tx.old.conn.now).now) }
         ensures shown { IfOk result (λ slot. HasCleanDisk (state S.Store tx.new.conn.now)
-            → Shown (state S.Store tx.old.conn.now).now slot) };
+            → Shown (state S.Store tx.old.conn.now).now slot) }
+        ensures remembers { OnOk result (∥ Remembers S.Store tx.new.conn.now memory.new ∥₁) };
 }
 
 impl Slot for BranchSlot {
@@ -95,10 +99,11 @@ impl Slot for BranchSlot {
     fn fill<S: Alter>(
         self,
         tx: &mut Transaction<'_, S>,
+        memory: &mut Memory,
         _branches: &[BranchSlot],
         _floors: &[FloorSlot],
     ) -> Read<Self> {
-        let stored = branch_at(tx, self.branch)?;
+        let stored = known_branch(tx, memory, self.branch)?;
         Ok(BranchSlot { stored, ..self })
     }
 }
@@ -122,10 +127,11 @@ impl Slot for FloorSlot {
     fn fill<S: Alter>(
         self,
         tx: &mut Transaction<'_, S>,
+        memory: &mut Memory,
         _branches: &[BranchSlot],
         _floors: &[FloorSlot],
     ) -> Read<Self> {
-        let floor = floor_at(tx, self.branch)?;
+        let floor = known_floor(tx, memory, self.branch)?;
         Ok(FloorSlot { floor, ..self })
     }
 }
@@ -147,16 +153,19 @@ fn teller_beside<S: Alter>(tx: &mut Transaction<'_, S>, teller: Teller) -> Read<
 // together, both are looked up again, so that one read reports it.
 fn teller_within<S: Alter>(
     tx: &mut Transaction<'_, S>,
+    memory: &mut Memory,
     teller: Teller,
     branch: Option<BranchRow>,
 ) -> Read<Option<Cents>>
+    requires { ∥ Remembers S.Store tx.old.conn.now memory.old ∥₁ }
     ensures says { ReadsWhere S.Store tx.old tx.new (HasBranch branch (branch_of_teller teller))
         (λ tables. option_map balance_of_teller (row_at teller_key tables.tellers teller)) result }
     ensures stored { IfOk result (λ balance. HasCleanDisk (state S.Store tx.new.conn.now)
         → OfRows (λ rows. HoldsBranch rows (branch_of_teller teller) branch
         → HoldsTellerRow rows teller balance) (state S.Store tx.old.conn.now).now) }
+    ensures remembers { OnOk result (∥ Remembers S.Store tx.new.conn.now memory.new ∥₁) }
 {
-    let balance = balance_of(tx, Member::Teller(teller))?;
+    let balance = known_balance(tx, memory, &Member::Teller(teller))?;
     if balance.is_some() != branch.is_some() {
         return teller_beside(tx, teller);
     }
@@ -177,18 +186,21 @@ fn account_beside<S: Alter>(tx: &mut Transaction<'_, S>, account: Account) -> Re
 // isn't below the branch's floor.
 fn account_within<S: Alter>(
     tx: &mut Transaction<'_, S>,
+    memory: &mut Memory,
     account: Account,
     branch: Option<BranchRow>,
     floor: Option<Cents>,
 ) -> Read<Option<Cents>>
+    requires { ∥ Remembers S.Store tx.old.conn.now memory.old ∥₁ }
     ensures says { ReadsWhere S.Store tx.old tx.new (HasBranch branch (branch_of_account account))
         (λ tables. account_balance_in tables account) result }
     ensures stored { IfOk result (λ balance. HasCleanDisk (state S.Store tx.new.conn.now)
         → OfRows (λ rows. HoldsBranch rows (branch_of_account account) branch
         × HoldsFloor rows (branch_of_account account) floor
         → HoldsAccount rows account balance) (state S.Store tx.old.conn.now).now) }
+    ensures remembers { OnOk result (∥ Remembers S.Store tx.new.conn.now memory.new ∥₁) }
 {
-    let balance = balance_of(tx, Member::Account(account))?;
+    let balance = known_balance(tx, memory, &Member::Account(account))?;
     let is_open = match branch {
         Some(branch) => place_of_account(account) <= u64::from(branch.accounts),
         None => false,
@@ -218,11 +230,12 @@ impl Slot for TellerSlot {
     fn fill<S: Alter>(
         self,
         tx: &mut Transaction<'_, S>,
+        memory: &mut Memory,
         branches: &[BranchSlot],
         _floors: &[FloorSlot],
     ) -> Read<Self> {
         let branch = stored_branch(branches, branch_of_teller(self.teller));
-        let stored = teller_within(tx, self.teller, branch)?;
+        let stored = teller_within(tx, memory, self.teller, branch)?;
         Ok(TellerSlot { stored, ..self })
     }
 }
@@ -247,13 +260,14 @@ impl Slot for AccountSlot {
     fn fill<S: Alter>(
         self,
         tx: &mut Transaction<'_, S>,
+        memory: &mut Memory,
         branches: &[BranchSlot],
         floors: &[FloorSlot],
     ) -> Read<Self> {
         let number = branch_of_account(self.account);
         let branch = stored_branch(branches, number);
         let floor = stored_floor(floors, number);
-        let stored = account_within(tx, self.account, branch, floor)?;
+        let stored = account_within(tx, memory, self.account, branch, floor)?;
         Ok(AccountSlot { stored, ..self })
     }
 }
@@ -277,6 +291,7 @@ impl Slot for RequestSlot {
     fn fill<S: Alter>(
         self,
         tx: &mut Transaction<'_, S>,
+        _memory: &mut Memory,
         _branches: &[BranchSlot],
         _floors: &[FloorSlot],
     ) -> Read<Self> {
@@ -288,10 +303,12 @@ impl Slot for RequestSlot {
 // Fills slots, by those of branches and of floors.
 fn fill_all<S: Alter, T: Slot>(
     tx: &mut Transaction<'_, S>,
+    memory: &mut Memory,
     slots: &mut [T],
     branches: &[BranchSlot],
     floors: &[FloorSlot],
 ) -> Read<()>
+    requires { ∥ Remembers S.Store tx.old.conn.now memory.old ∥₁ }
     ensures says { ReadsWhere S.Store tx.old tx.new
         (λ tables. IsUndamaged tables × AllByRecursion (T.Knows branches.now tables) slots.old)
         (λ tables. map (T.filled_from tables) slots.old) (handing slots.new result) }
@@ -301,9 +318,10 @@ fn fill_all<S: Alter, T: Slot>(
         → AllByRecursion (T.Held rows) slots.new) (state S.Store tx.old.conn.now).now) }
     ensures shown { OnOk result (HasCleanDisk (state S.Store tx.new.conn.now)
         → AllByRecursion (T.Shown (state S.Store tx.old.conn.now).now) slots.new) }
+    ensures remembers { OnOk result (∥ Remembers S.Store tx.new.conn.now memory.new ∥₁) }
 {
     for slot in slots.iter_mut() {
-        *slot = (*slot).fill(tx, branches, floors)?;
+        *slot = (*slot).fill(tx, memory, branches, floors)?;
     }
     Ok(())
 }
@@ -332,11 +350,12 @@ pub(crate) fn fill_known<S: Alter>(
     ensures remembers { OnOk result (∥ Remembers S.Store tx.new.conn.now memory.new ∥₁) }
 {
     overlay.decided = known_decided(tx, memory)?;
-    fill_all(tx, &mut overlay.branches, &[], &[])?;
-    fill_all(tx, &mut overlay.floors, &[], &[])?;
-    fill_all(tx, &mut overlay.tellers, &overlay.branches, &[])?;
+    fill_all(tx, memory, &mut overlay.branches, &[], &[])?;
+    fill_all(tx, memory, &mut overlay.floors, &[], &[])?;
+    fill_all(tx, memory, &mut overlay.tellers, &overlay.branches, &[])?;
     fill_all(
         tx,
+        memory,
         &mut overlay.accounts,
         &overlay.branches,
         &overlay.floors,
@@ -368,6 +387,6 @@ pub fn fill<S: Alter>(
     ensures remembers { OnOk result (∥ Remembers S.Store tx.new.conn.now memory.new ∥₁) }
 {
     fill_known(tx, memory, overlay)?;
-    fill_all(tx, &mut overlay.kept, &[], &[])?;
+    fill_all(tx, memory, &mut overlay.kept, &[], &[])?;
     Ok(())
 }

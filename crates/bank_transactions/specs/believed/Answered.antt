@@ -2,16 +2,19 @@
 use Rattle.std.specs.Prelude.{ℕ, List, [], ◌∷◌}
 use Rattle.sqlite.specs.Effect.{Database}
 use Rattle.message_records.specs.believed.Records.{RequestFields}
-use Rattle.store_rows.specs.believed.Made.{WritesOnly}
+use Rattle.posting_rules.specs.believed.Changes.{tables_past_all}
 use Rattle.bank_transactions.specs.believed.Additions.{AddsForRecords}
+use Rattle.bank_transactions.specs.believed.Ran.{LeadTo, Runs}
 use Rattle.bank_transactions.specs.believed.Stored.{RepliesToAllStored, RepliesToStored}
 
--- the reply to a request is that of the case which applies; what was run is what its record may put in or change
-pub record AnswersOne (old new : Database) (bytes : List ℕ) (r : RequestFields) (reply : List ℕ) : Type 0 where
-  pub told : RepliesToStored old new r reply
-  pub wrote : WritesOnly (AddsForRecords old (bytes ∷ [])) old new
-
--- the same of several records
+-- The replies to records are those in tables that had what the rows hold. What was run is what the records may put in
+-- or change, and all that they leave of those tables: a record that is told to be posted was written.
 pub record AnswersAll (old new : Database) (moment : ℕ) (records replies : List (List ℕ)) : Type 0 where
   pub told : RepliesToAllStored old new moment records replies
-  pub wrote : WritesOnly (AddsForRecords old records) old new
+  pub wrote : Runs (AddsForRecords old records) (LeadTo told.tables (tables_past_all told.tables moment records)) old new
+
+-- the same of one, whose reply is that of the case which applies
+pub record AnswersOne (old new : Database) (moment : ℕ) (bytes : List ℕ) (r : RequestFields) (reply : List ℕ)
+    : Type 0 where
+  pub told : RepliesToStored old new r reply
+  pub alone : AnswersAll old new moment (bytes ∷ []) (reply ∷ [])

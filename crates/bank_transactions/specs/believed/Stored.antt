@@ -1,6 +1,6 @@
 -- What a look-up, a posting, a batch and an opening answer of whatever rows a file holds, be they a bank's or
 -- not.
-use Rattle.std.specs.Prelude.{◌≡◌, ◌≢◌, ℕ, ℤ, pos, find, List, Option, Some, None, IsSome, Result, Ok, Err, ⊤}
+use Rattle.std.specs.Prelude.{◌≡◌, ◌≢◌, ℕ, ℤ, pos, find, length, List, Option, Some, None, IsSome, Result, Ok, Err, ⊤}
 use Rattle.std.specs.List.{AllByRecursion}
 use Rattle.sqlite.specs.Effect.{Database}
 use Rattle.message_records.specs.believed.Reading.{request_of}
@@ -32,6 +32,7 @@ use Rattle.store_rows.specs.believed.Rules.{floor_under, row_under}
 use Rattle.store_rows.specs.believed.Shown.{ShowsReference, ShowsRequest}
 use Rattle.store_rows.specs.believed.Stored.{FindsStored}
 use Rattle.store_rows.specs.believed.View.{Shows}
+use Rattle.posting_batch.specs.believed.Batch.{HasFreeOrdinals}
 use Rattle.bank_transactions.specs.believed.Batches.{DecidesNone}
 
 -- the balance that the account's row has, none where it has no row; and it has one just where its branch's
@@ -174,11 +175,13 @@ HasOther db = AllByRecursion (Defines db.schema) bank_tables → ⊥
 
 -- The replies are those to the records one after another, each on what the ones before it left, in tables that
 -- had what the rows hold: under the keys of each request, and of how many are decided. Where those are no bank's
--- tables, they had what is shown to be kept. Where none of the records is decided there, all is as it was.
+-- tables, they had what is shown to be kept. The ordinals that follow were free there. Where none of the records is
+-- decided there, all is as it was.
 pub record RepliesToAllStored (old new : Database) (moment : ℕ) (records replies : List (List ℕ)) : Type 0 where
   pub tables : Tables
   pub stored : OfRows (λ rows. AllByRecursion (λ bytes. HasRead rows tables (request_of bytes)) records
       × HoldsDecided rows tables.decided) old
   pub shown : HasOther old → AllByRecursion (λ bytes. HasShown old tables (request_of bytes)) records
+  pub free : HasFreeOrdinals tables (length records)
   pub are : replies ≡ replies_past_all tables moment records
   pub stays : DecidesNone tables moment records → new ≡ old

@@ -1,7 +1,9 @@
 -- The requests of a batch are written, and then the rest.
-use Rattle.std.proofs.Common.{◌≡◌, Err, rules}
+use Rattle.std.proofs.Common.{◌≡◌, Err, rules, arith}
 use Rattle.posting_batch.specs.View.{view}
-use Rattle.bank_transactions.proofs.{Chained.does_err, Remembered.counts_after, Together.all_written, Together.requests_first}
+use Rattle.bank_transactions.proofs.{Chained.does_err, Remembered.counts_after, Remembered.followed_then}
+use Rattle.bank_transactions.proofs.Together.{all_written, requests_first}
+use Rattle.bank_transactions.proofs.Together.{all_ran, requests_ran}
 use Rattle.bank_transactions.proofs.batch_changes.write.Goals as goal
 
 pub returns-in_err-put_requests-clause-does : goal.returns-in_err-put_requests-clause-does
@@ -15,7 +17,23 @@ returns-clause-does g c =
     let o = view c.args.overlay.now in
     all_written o (requests_first o c.deref.ensures c.in_ok-put_requests.ensures.puts) c.write_after.ensures.does
 
+pub returns-clause-ran : goal.returns-clause-ran
+returns-clause-ran g c =
+    let o = view c.args.overlay.now in
+    let puts = c.in_ok-put_requests.ensures in
+    let rest = c.write_after.ensures in
+    (all_ran o (requests_ran o c.deref.ensures (record { does = puts.puts; ran = puts.ran }))
+    (record { does = rest.does; ran = rest.ran })).ran
+
 pub returns-clause-counts : goal.returns-clause-counts
 returns-clause-counts g c =
     counts_after c.args.overlay.now.decided (requests_first (view c.args.overlay.now) c.deref.ensures c.in_ok-put_requests.ensures.puts)
     c.write_after.ensures.does c.write_after.ensures.counts
+
+pub returns-clause-follows : goal.returns-clause-follows
+returns-clause-follows g c =
+    let m = c.args.memory.now in
+    followed_then c.write_after.new.tx m m c.write_after.new.memory
+    (requests_first (view c.args.overlay.now) c.deref.ensures c.in_ok-put_requests.ensures.puts)
+    (λ clean. omega (arith, c.write_after.ensures.does.says.survives.clean, clean)) (c.in_ok-put_requests.ensures.follows m)
+    c.write_after.result c.write_after.ensures.follows

@@ -1,10 +1,26 @@
 -- The changed balance of one row.
-use Rattle.std.proofs.Common.{rules}
-use Rattle.bank_transactions.proofs.Chained.{does_none}
+use Rattle.std.proofs.Common.{◌≡◌, Err, rules}
+use Rattle.bank_transactions.proofs.{Remembered.followed_change, Remembered.followed_none, Running.writes_none}
+use Rattle.store_rows.specs.{Holders.holder_table, Lying.SetsBalance, Lying.holder_key}
 use Rattle.bank_transactions.proofs.batch_changes.write_change.Goals as goal
 
-pub returns-in-Some : goal.returns-in-Some
-returns-in-Some g c = rw c.in-Some.is c.write_balance.ensures
+pub returns-in_default-clause-writes : goal.returns-in_default-clause-writes
+returns-in_default-clause-writes g c = rw c.in_default.is (writes_none (search rules))
 
-pub returns-in-None : goal.returns-in-None
-returns-in-None g c = rw c.in-None.is (does_none (search rules))
+pub returns-in_default-clause-follows : goal.returns-in_default-clause-follows
+returns-in_default-clause-follows g c = followed_none g.S.Store c.args.tx.now c.args.memory.now
+
+pub returns-in_err-write_balance-clause-writes : goal.returns-in_err-write_balance-clause-writes
+returns-in_err-write_balance-clause-writes g c =
+    let same : c.from_residual.result ≡ Err c.in_err-write_balance.field-0.0 = search rules in
+    rw (same, c.in-Some.is) c.in_err-write_balance.ensures.writes
+
+pub returns-clause-writes : goal.returns-clause-writes
+returns-clause-writes g c = rw c.in-Some.is c.in_ok-write_balance.ensures.writes
+
+pub returns-clause-follows : goal.returns-clause-follows
+returns-clause-follows g c =
+    let h = c.args.holder.now in
+    followed_change g.S.Store c.args.tx.now c.write_balance.new.tx (holder_table h) (holder_key h)
+    (SetsBalance h c.in-Some.balance) c.args.memory.now c.change_balance.new.self c.in_ok-write_balance.ensures.lies
+    c.change_balance.ensures

@@ -1,12 +1,12 @@
 -- A batch that is filled, judged and written.
-use Rattle.std.proofs.Common.{◌≡◌, ◌∙◌, Err, rules, arith, length, refl}
+use Rattle.std.proofs.Common.{◌≡◌, ◌∙◌, Err, rules, arith, length, refl, inl, inr}
 use Rattle.std.proofs.Math.Logic.{∥∥₁_map}
 use Rattle.sqlite.specs.{State.HasCleanDisk, Held.state}
 use Rattle.posting_batch.specs.View.{view}
-use Rattle.bank_transactions.proofs.Chained.{acts_read, does_adds}
+use Rattle.bank_transactions.proofs.Chained.{acts_read, does_adds, still_in}
 use Rattle.bank_transactions.proofs.{Added.adds_looked_up, HeldBatch.homes_made, HeldBatch.in_turn_looked_up}
-use Rattle.bank_transactions.proofs.HeldBatch.{new_unkept}
-use Rattle.bank_transactions.proofs.{LookUps.does_fail, LookUps.does_look, Remembered.noted_after}
+use Rattle.bank_transactions.proofs.{HeldBatch.answers_all, HeldBatch.new_unkept, Running.ran_since}
+use Rattle.bank_transactions.proofs.{LookUps.does_fail, LookUps.does_look, Remembered.keeps_followed}
 use Rattle.bank_transactions.proofs.JudgedSlots.{answered_idle, answered_not, answered_written, counts_none}
 use Rattle.bank_transactions.proofs.JudgedSlots.{fills, judging_all}
 use Rattle.bank_transactions.proofs.batches.answer_batch.Goals.{then-judged-before+in_ok-write, else-judged-before}
@@ -103,6 +103,35 @@ returns-clause-stored g c clean records made =
       | else-judged-before w ↦ rw w.tx-is ((fill.says.says.leaves before).0.now)
     ]))
 
+pub returns-clause-wrote : goal.returns-clause-wrote
+returns-clause-wrote g c clean live records made =
+    let o = view c.judge-judged.result.overlay in
+    let j = c.judge-judged.ensures in
+    let fill = c.in_ok-fill.ensures in
+    let before : HasCleanDisk (state g.S.Store c.fill.new.tx.conn.now) =
+    elim c.if-judged-before.branch [
+      | then-judged-before+in_ok-write w ↦
+          omega (arith, w.in_ok-write.ensures.does.says.survives.clean, rw w.tx-is at clean)
+      | else-judged-before w ↦ rw w.tx-is at clean
+    ] in
+    let stays = (fill.says.says.leaves before).0 in
+    let held = fill.stored before (homes_made c.args.batch records made) in
+    rw c.into_replies.ensures (answers_all _ _ c.args.batch _ records c.args.moment o c.judge-judged.result.replies.items
+    made refl fill.same (fill.shown before).branches held (λ _. (fill.shown before).kept) j.judged
+    (λ none. elim c.if-judged-before.branch [
+      | then-judged-before+in_ok-write w ↦ absurd (w.if-judged-before.true none)
+      | else-judged-before w ↦ rw w.tx-is stays.now
+    ]) j.rising
+    (elim c.if-judged-before.branch [
+      | then-judged-before+in_ok-write w ↦ inr (rw w.tx-is (ran_since stays.now
+          (adds_looked_up c.args.batch records (view c.fill.new.overlay) o _ made fill.same
+          (λ rows has. (held rows has).decided) j.next j.again.keys
+          (new_unkept _ c.args.batch _ records c.args.moment o c.judge-judged.result.replies.items made refl fill.same
+          (fill.shown before) j.judged))
+          (w.in_ok-write.ensures.ran (rw w.tx-is at clean) (still_in _ _ stays.goes_on live))))
+      | else-judged-before w ↦ inl (j.idle (omega (arith, w.if-judged-before.false)), rw w.tx-is stays.now)
+    ]))
+
 pub returns-in_err-write-clause-same_reference : goal.returns-in_err-write-clause-same_reference
 returns-in_err-write-clause-same_reference g c =
     c.in_err-write.ensures.does.says.same_reference ∙ c.in_ok-fill.ensures.says.says.same_reference
@@ -121,7 +150,7 @@ pub returns-clause-remembers : goal.returns-clause-remembers
 returns-clause-remembers g c =
     elim c.if-judged-before.branch [
       | then-judged-before+in_ok-write w ↦
-          rw (w.tx-is, w.memory-is) (noted_after w.note.new.self c.judge-judged.result.overlay.decided c.in_ok-fill.ensures.says w.note.ensures
-          w.in_ok-write.ensures.does w.in_ok-write.ensures.counts)
+          rw (w.tx-is, w.memory-is) (keeps_followed c.fill.new.memory w.write.new.memory c.in_ok-fill.ensures.says
+          w.in_ok-write.ensures.does w.in_ok-write.ensures.follows c.in_ok-fill.ensures.remembers)
       | else-judged-before w ↦ rw (w.tx-is, w.memory-is) (∥∥₁_map c.in_ok-fill.ensures.remembers (λ it live. it))
     ]

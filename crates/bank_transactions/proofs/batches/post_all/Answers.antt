@@ -1,17 +1,14 @@
 -- A try that was given up, and then the batch with its look-ups.
 use Rattle.std.proofs.Common.{◌≡◌, List, arith, length, subst}
 use Rattle.std.specs.Prelude.{IfOk}
-use Rattle.std.proofs.lemmas.Result.{IfOk-weaker}
 use Rattle.sqlite.specs.Held.{state}
 use Rattle.posting_batch.specs.View.{IsMadeOf}
-use Rattle.bank_transactions.specs.believed.Stored.{RepliesToAllStored}
+use Rattle.bank_transactions.specs.believed.Answered.{AnswersAll}
 use Rattle.bank_transactions.proofs.Tries.{faults_undone, idle_again, stored_again, transacts_again}
 use Rattle.bank_transactions.proofs.batches.post_all.Goals as goal
 
 pub returns-then-not-is_tried-clause-stored : goal.returns-then-not-is_tried-clause-stored
-returns-then-not-is_tried-clause-stored g c =
-    IfOk-weaker c.post_looked_up.result _ _ (λ replies looked clean records made. (looked clean records made).told)
-    c.post_looked_up.ensures.stored
+returns-then-not-is_tried-clause-stored g c = c.post_looked_up.ensures.wrote
 
 pub returns-in-Again-clause-says : goal.returns-in-Again-clause-says
 returns-in-Again-clause-says g c records made =
@@ -42,10 +39,8 @@ returns-in-Again-clause-stored g c =
     (IsMadeOf c.args.batch) (IsMadeOf c.in-Again.batch) again.0.made
     (λ records made clean. let does = c.post_looked_up-in-Again.ensures.says records made in
     omega (arith, does.survives.clean, clean))
-    (λ db records replies. RepliesToAllStored db (state g.S.Store c.post_looked_up-in-Again.new.conn).now c.args.moment
-    records replies.items) c.post_looked_up-in-Again.result
-    (IfOk-weaker c.post_looked_up-in-Again.result _ _ (λ replies looked clean records made. (looked clean records made).told)
-    c.post_looked_up-in-Again.ensures.stored)
+    (λ db records replies. AnswersAll db (state g.S.Store c.post_looked_up-in-Again.new.conn).now c.args.moment records
+    replies.items) c.post_looked_up-in-Again.result c.post_looked_up-in-Again.ensures.wrote
 
 pub returns-in-Again-clause-undone : goal.returns-in-Again-clause-undone
 returns-in-Again-clause-undone g c records made =

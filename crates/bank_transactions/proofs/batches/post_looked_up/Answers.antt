@@ -3,8 +3,8 @@ use Rattle.std.proofs.Common.{refl, rules}
 use Rattle.posting_batch.specs.View.{IsMadeOf}
 use Rattle.sqlite.specs.Effect.{Database}
 use Rattle.bank_transactions.specs.believed.Additions.{AddsForRecords}
-use Rattle.bank_transactions.specs.Batches.{RepliesLookedUp}
-use Rattle.bank_transactions.proofs.{HeldBatch.stored_after, Transacted.undoes, Idle.ends_items, Idle.idle_after}
+use Rattle.bank_transactions.specs.{Batches.RepliesLookedUp, believed.Answered.AnswersAll}
+use Rattle.bank_transactions.proofs.{HeldBatch.answered_after, HeldBatch.stored_after, Transacted.undoes, Idle.ends_items, Idle.idle_after}
 use Rattle.bank_transactions.proofs.{Remembered.begins, Remembered.ends_live, Transacted.of_given, Transacted.transacts_records}
 use Rattle.bank_transactions.proofs.batches.post_looked_up.Goals as goal
 
@@ -37,6 +37,15 @@ returns-clause-stored g c =
     c.answer_batch-replies.result c.finish.result c.begin-tx.ensures.begun c.finish.ensures
     (λ records made. let does = c.answer_batch-replies.ensures.says records made in search rules)
     c.answer_batch-replies.ensures.stored
+
+pub returns-clause-wrote : goal.returns-clause-wrote
+returns-clause-wrote g c =
+    answered_after g.S.Store (IsMadeOf c.args.batch)
+    (λ old new records replies. AnswersAll old new c.args.moment records replies.items) c.args.conn.now
+    c.begin-tx.result.conn.now c.answer_batch-replies.new.tx.conn.now c.finish.new.tx.0 c.conn-1.given.0
+    c.answer_batch-replies.result c.finish.result c.begin-tx.ensures.begun c.finish.ensures
+    (λ records made. let does = c.answer_batch-replies.ensures.says records made in search rules)
+    c.answer_batch-replies.ensures.wrote
 
 pub returns-clause-undone : goal.returns-clause-undone
 returns-clause-undone g c records made =

@@ -1,15 +1,17 @@
 -- A batch that is answered as if none of its requests were kept.
-use Rattle.std.proofs.Common.{◌≡◌, ◌∙◌, Err, arith, ap, length, sym, refl, rules}
+use Rattle.std.proofs.Common.{◌≡◌, ◌∙◌, Err, arith, ap, length, sym, refl, rules, inr}
 use Rattle.sqlite.specs.{Held.state, State.HasCleanDisk}
 use Rattle.smallvec.specs.SmallVec.{SmallVec}
 use Rattle.posting_rules.specs.believed.Tables.{Tables}
 use Rattle.posting_batch.specs.{Overlay.Overlay, View.view, declared.slots.RequestSlot.RequestSlot}
 use Rattle.bank_transactions.proofs.{Added.adds_tried, JudgedSlots.judging_all, ShownSlots.shown_filled}
 use Rattle.bank_transactions.proofs.{Chained.acts_read, Chained.does_adds, HeldBatch.homes_made}
-use Rattle.bank_transactions.proofs.{OwnRows.none_other, Remembered.counts_after, Remembered.noted_after}
-use Rattle.bank_transactions.proofs.{HeldBatch.in_turn, LookUps.does_fail, LookUps.does_look, NewBatch.all_held}
+use Rattle.bank_transactions.proofs.{OwnRows.none_other, Remembered.followed_next, Remembered.keeps_followed}
+use Rattle.bank_transactions.proofs.{Tries.tried_own, Chained.still_in, Running.ran_since, Together.all_ran, Together.requests_ran}
+use Rattle.bank_transactions.proofs.{HeldBatch.answers_all, LookUps.does_fail, LookUps.does_look, NewBatch.all_held}
 use Rattle.bank_transactions.proofs.{NewBatch.answered_new, NewBatch.decided_all, NewBatch.is_again, NewBatch.refused_new}
-use Rattle.bank_transactions.proofs.{NewBatch.unanswered_new, Together.all_written, Together.requests_first}
+use Rattle.bank_transactions.proofs.{NewBatch.blind, NewBatch.quiet, NewBatch.unanswered_new, Together.all_written}
+use Rattle.bank_transactions.proofs.Together.{requests_first}
 use Rattle.bank_transactions.proofs.first_try.answer_unkept.Goals as goal
 
 pub returns-in_err-fill_known-clause-says : goal.returns-in_err-fill_known-clause-says
@@ -139,9 +141,25 @@ returns-in_ok-write_after-in-Ok-clause-stored g c clean live as_made records mad
     (ap (λ (v : SmallVec RequestSlot). v.items) fk.new_rows.3) j.again.keys j.again.own
     all.1 c.deref.ensures c.in-Ok.ensures.puts c.in-Ok.ensures.unknown before live
     (fk.stored first (homes_made c.args.batch records made)) in
-    rw c.into_replies.ensures (in_turn _ _ c.args.batch _ records c.args.moment o c.judge-judged.result.replies.items
+    let stays = (fk.says.says.leaves first).0 in
+    let on = still_in _ _ stays.goes_on live in
+    let puts = c.in-Ok.ensures in
+    let end = c.in_ok-write_after-in-Ok.ensures in
+    let ran = all_ran o (requests_ran o c.deref.ensures (record { does = puts.puts; ran = puts.ran }))
+    (record { does = end.does; ran = end.ran }) in
+    rw c.into_replies.ensures (answers_all _ _ c.args.batch _ records c.args.moment o c.judge-judged.result.replies.items
     made refl fk.same (fk.own first) held (λ other. absurd (none_other (state g.S.Store c.args.tx.now.conn.now).now as_made other)) j.judged
-    (λ none. absurd (all.0 none)))
+    (λ same. absurd (all.0 same)) j.rising
+    (inr (ran_since stays.now (λ text values adds. tried_own (state g.S.Store c.args.tx.now.conn.now).now records as_made text values
+    (adds_tried c.args.batch records p' o _ made fk.same
+    (λ rows has. (fk.stored first (homes_made c.args.batch records made) rows has).decided) j.next j.again.keys text values adds))
+    (ran.ran clean on))))
+
+pub returns-in_ok-write_after-in-Ok-clause-quiet : goal.returns-in_ok-write_after-in-Ok-clause-quiet
+returns-in_ok-write_after-in-Ok-clause-quiet g c =
+    let o = view c.judge-judged.result.overlay in
+    quiet (blind (does_look c.in_ok-fill_known.ensures.says)
+    (all_written o (requests_first o c.deref.ensures c.in-Ok.ensures.puts) c.in_ok-write_after-in-Ok.ensures.does))
 
 -- ---- what is remembered
 
@@ -150,5 +168,7 @@ returns-in_ok-write_after-in-Ok-clause-remembers g c =
     let o = view c.judge-judged.result.overlay in
     let puts = requests_first o c.deref.ensures c.in-Ok.ensures.puts in
     let end = c.in_ok-write_after-in-Ok.ensures in
-    noted_after c.note.new.self _ c.in_ok-fill_known.ensures.says c.note.ensures (all_written o puts end.does)
-    (counts_after o.decided puts end.does end.counts)
+    let m = c.fill_known.new.memory in
+    keeps_followed m c.write_after.new.memory c.in_ok-fill_known.ensures.says (all_written o puts end.does)
+    (followed_next c.write_after.new.tx m m c.write_after.new.memory puts (λ clean. omega (arith, end.does.says.survives.clean, clean))
+    (c.in-Ok.ensures.follows m) end.follows) c.in_ok-fill_known.ensures.remembers

@@ -1,41 +1,6 @@
--- What the row of a branch tells.
-use Rattle.std.proofs.Common.{◌≡◌, ℕ, Option, Some, Result, rules, sym, ap, subst, ◌∙◌}
-use Rattle.std.specs.Prelude.{IfOk, IfSome, option_and_then}
-use Rattle.message_records.specs.{believed.Ranges.whole_within, declared.limits.TheConstants.MAX_BRANCH}
-use Rattle.posting_rules.specs.{believed.Tables.branch_key, believed.Tables.row_at, declared.rows.BranchRow.BranchRow}
-use Rattle.sql_meanings.specs.believed.Entries.{Entry}
-use Rattle.store_rows.specs.believed.{Readings.read_branch, Rules.StoredRows, Rules.branch_under, Rules.row_under}
-use Rattle.store_rows.specs.{believed.Stored.FindsStored, declared.fault.TableFault.TableFault}
-use Rattle.bank_transactions.specs.Doing.{Reads}
-use Rattle.bank_transactions.proofs.LookUps.{reads_none}
-use Rattle.bank_transactions.proofs.SoundRows.{no_branch_beyond}
+-- What is asked where nothing is remembered.
+use Rattle.bank_transactions.proofs.Remembered.{blank}
 use Rattle.bank_transactions.proofs.look_ups.branch_at.Goals as goal
 
-pub returns-in-None-clause-says : goal.returns-in-None-clause-says
-returns-in-None-clause-says g c =
-    reads_none (search rules) (λ t sound. no_branch_beyond t c.args.number sound (sym c.new.ensures ∙ c.in-None.is))
-
-pub returns-in-Some-clause-says : goal.returns-in-Some-clause-says
-returns-in-Some-clause-says g c =
-    let key : c.in-Some.branch ≡ c.args.number = search rules in
-    subst (λ (n : ℕ). Reads g.S.Store c.args.tx.now c.branch_row.new.tx
-    (λ t. row_at branch_key t.branches n) c.branch_row.result) key c.branch_row.ensures.says
-
-pub returns-in-Some-clause-own : goal.returns-in-Some-clause-own
-returns-in-Some-clause-own g c =
-    let key : c.in-Some.branch ≡ c.args.number = search rules in
-    subst (λ (n : ℕ). IfOk c.branch_row.result (λ row. IfSome row (λ r. r.branch ≡ n))) key c.branch_row.ensures.own
-
--- ---- of the stored row
-
--- what is found under a branch's number
-finds_under : (rows : StoredRows) (n b : ℕ) (key : Option ℕ) → key ≡ whole_within 1 MAX_BRANCH n → key ≡ Some b
-    → (r : Result (Option BranchRow) TableFault) → FindsStored (row_under rows.branches b) read_branch r
-    → FindsStored (branch_under rows n) read_branch r
-finds_under rows n b key is some r = subst (λ (o : Option Entry). FindsStored o read_branch r)
-    (sym (ap (option_and_then (row_under rows.branches)) (sym is ∙ some)))
-
-pub returns-in-Some-clause-stored : goal.returns-in-Some-clause-stored
-returns-in-Some-clause-stored g c = λ clean rows has.
-    finds_under rows c.args.number c.in-Some.branch c.new.result c.new.ensures c.in-Some.is c.branch_row.result
-    (c.branch_row.ensures.stored clean rows has)
+pub known_branch-requires : goal.known_branch-requires
+known_branch-requires g c = blank g.S.Store c.args.tx.now.conn.now c.new.result c.new.ensures

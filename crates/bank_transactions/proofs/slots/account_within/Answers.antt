@@ -1,8 +1,9 @@
 -- What the balance of an account tells.
 use Rattle.std.proofs.Common.{◌≡◌, Err, rules, arith}
 use Rattle.store_rows.specs.declared.holders.Member.TheVariants.{Account}
-use Rattle.bank_transactions.proofs.{LookUps.looked_at, LookUps.reads_after, ReadsInTurn.balance_failed}
-use Rattle.bank_transactions.proofs.{ReadsInTurn.find_tells, SoundRows.member_found}
+use Rattle.bank_transactions.proofs.{LookUps.recalled_at, LookUps.reads_after, ReadsInTurn.recall_failed}
+use Rattle.bank_transactions.proofs.{Broken.member_broken, Remembered.keeps_reading}
+use Rattle.bank_transactions.proofs.{ReadsInTurn.recall_tells, SoundRows.member_found}
 use Rattle.store_rows.specs.{Holders.entry_under, believed.Readings.read_balance}
 use Rattle.sqlite.specs.{Held.state, State.HasCleanDisk}
 use Rattle.posting_rules.specs.believed.Numbering.{branch_of_account}
@@ -13,17 +14,17 @@ use Rattle.bank_transactions.proofs.slots.account_within.Goals as goal
 pub returns-in_err-balance-clause-says : goal.returns-in_err-balance-clause-says
 returns-in_err-balance-clause-says g c =
     let same : c.from_residual.result ≡ Err c.in_err-balance.field-0.0 = search rules in
-    rw same (balance_failed (Account c.args.account) c.in_err-balance.ensures.looks_up)
+    rw same (recall_failed (entry_under (Account c.args.account)) read_balance (member_broken _ (Account c.args.account) _) c.in_err-balance.ensures.recalls)
 
 pub returns-clause-says : goal.returns-clause-says
 returns-clause-says g c =
-    find_tells (entry_under (Account c.args.account)) read_balance _ c.in_ok-balance.ensures.looks_up
+    recall_tells (entry_under (Account c.args.account)) read_balance _ c.in_ok-balance.ensures.recalls
     (λ t so finds. member_found (Account c.args.account) t so.0 c.in_ok-balance.balance finds)
 
 -- both rows are looked up again
 pub returns-then-is_some-is_open-clause-says : goal.returns-then-is_some-is_open-clause-says
 returns-then-is_some-is_open-clause-says g c =
-    reads_after (looked_at c.in_ok-balance.ensures.looks_up) c.account_beside.ensures.says (λ t so. so.0)
+    reads_after (recalled_at c.in_ok-balance.ensures.recalls) c.account_beside.ensures.says (λ t so. so.0)
 
 pub returns-then-is_some-is_open-clause-stored : goal.returns-then-is_some-is_open-clause-stored
 returns-then-is_some-is_open-clause-stored g c =
@@ -32,12 +33,17 @@ returns-then-is_some-is_open-clause-stored g c =
     (λ rows. HoldsBranch rows (branch_of_account c.args.account) c.args.branch
     × HoldsFloor rows (branch_of_account c.args.account) c.args.floor) _ _ c.account_beside.result
     (λ clean.
-    let mid : HasCleanDisk (state g.S.Store c.balance_of.new.tx.conn.now) =
+    let mid : HasCleanDisk (state g.S.Store c.known_balance.new.tx.conn.now) =
     omega (arith, c.account_beside.ensures.says.says.survives.clean, clean) in
-    (c.in_ok-balance.ensures.looks_up.leaves mid).0.now_is)
+    (c.in_ok-balance.ensures.recalls.leaves mid).now)
     c.account_beside.ensures.stored
 
 pub returns-clause-stored : goal.returns-clause-stored
 returns-clause-stored g c clean rows has beside =
     account_held rows c.args.account c.in_ok-balance.balance c.args.floor c.args.branch
-    (c.in_ok-balance.ensures.looks_up.told clean rows has).0 beside (search rules) (search rules)
+    (c.in_ok-balance.ensures.recalls.told clean rows has) beside (search rules) (search rules)
+
+-- ---- what is remembered
+
+pub returns-then-is_some-is_open-clause-remembers : goal.returns-then-is_some-is_open-clause-remembers
+returns-then-is_some-is_open-clause-remembers g c = keeps_reading c.known_balance.new.memory c.account_beside.result c.account_beside.ensures.says c.in_ok-balance.ensures.remembers

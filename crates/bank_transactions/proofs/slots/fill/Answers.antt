@@ -7,7 +7,7 @@ use Rattle.posting_batch.specs.{declared.slots.RequestSlot.RequestSlot, View.vie
 use Rattle.store_rows.specs.believed.Rules.{HoldsBank}
 use Rattle.bank_transactions.specs.Filling.{RequestHeld, RequestShown, emptied_request}
 use Rattle.bank_transactions.proofs.HeldSlots.{put_back}
-use Rattle.bank_transactions.proofs.{LookUps.reads_but, LookUps.reads_so, Remembered.keeps_read}
+use Rattle.bank_transactions.proofs.{LookUps.reads_but, LookUps.reads_so}
 use Rattle.bank_transactions.proofs.FilledBatch.{emptied_kept, kept_after, nothing_asked, with_kept}
 use Rattle.bank_transactions.proofs.slots.fill.Goals as goal
 
@@ -78,9 +78,3 @@ returns-clause-shown g c clean =
           (RequestShown (state g.S.Store c.args.tx.now.conn.now).now) slots)
           (sym (put_back kv _ c.fill_all.new.slots c.deref_mut.ensures.value c.fill_all.auto.slots)) shown;
     }
-
--- ---- what is remembered
-
-pub returns-clause-remembers : goal.returns-clause-remembers
-returns-clause-remembers g c =
-    keeps_read c.fill_known.new.memory c.in_ok-fill_all.ensures.says c.in_ok-fill_known.ensures.remembers

@@ -15,6 +15,7 @@ loop-slot-init g c = record {
   same = partly_none _ c.args.slots.now;
   stored = λ clean rows has. partly_none _ c.args.slots.now;
   shown = λ clean. partly_none _ c.args.slots.now;
+  remembers = c.requires;
 }
 
 pub loop-slot-preserved : goal.loop-slot-preserved
@@ -46,6 +47,7 @@ loop-slot-preserved g c =
           let here : g.T.Slot.Shown (state g.S.Store c.args.tx.now.conn.now).now y =
           subst (λ (db : Database). g.T.Slot.Shown db y) (so_far.says.says.leaves mid).0.now (one.shown clean) in
           partly_next _ xs ys i (i + 1) x y (add-one i) lt (λ _. here) (so_far.shown mid);
+      remembers = one.remembers;
     }
 
 pub returns-in_err-slot-clause-says : goal.returns-in_err-slot-clause-says

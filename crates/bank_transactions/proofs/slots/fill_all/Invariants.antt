@@ -4,7 +4,7 @@ use Rattle.std.specs.{List.AllByRecursion, Prelude.⊤}
 use Rattle.sqlite.specs.{Held.state, State.HasCleanDisk}
 use Rattle.posting_rules.specs.believed.Damage.{IsUndamaged}
 use Rattle.store_rows.specs.believed.Rules.{OfRows}
-use Rattle.bank_transactions.specs.Doing.{ReadsWhere}
+use Rattle.bank_transactions.specs.{Doing.ReadsWhere, Memory.Remembers}
 use Rattle.bank_transactions.proofs.{Loops.filled_so_far, Partly.Partly}
 use Rattle.bank_transactions.proofs.slots.fill_all.Given as goal
 
@@ -19,4 +19,5 @@ invariant-loop-slot g l = record {
       l.slots l.slot-index) (state g.S.Store l.fn.tx.conn.now).now;
   shown : HasCleanDisk (state g.S.Store l.tx.conn.now)
       → Partly (λ x y. ⊤ → g.T.Slot.Shown (state g.S.Store l.fn.tx.conn.now).now y) l.fn.slots l.slots l.slot-index;
+  remembers : ∥ Remembers g.S.Store l.tx.conn.now l.memory ∥₁;
 }

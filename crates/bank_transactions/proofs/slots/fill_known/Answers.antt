@@ -11,7 +11,7 @@ use Rattle.bank_transactions.specs.Filling.{HasOwnRow, emptied_branch, emptied_f
 use Rattle.bank_transactions.proofs.HeldSlots.{know_branches, know_floors, put_back}
 use Rattle.smallvec.specs.SmallVec.{with_items}
 use Rattle.sqlite_trees.proofs.ListLemmas.{all_both}
-use Rattle.bank_transactions.proofs.{LookUps.reads_but, LookUps.reads_so, Remembered.keeps_read}
+use Rattle.bank_transactions.proofs.{LookUps.reads_but, LookUps.reads_so}
 use Rattle.bank_transactions.proofs.FilledBatch.{accounts_in, branches_in, count_in, floors_in, nothing_asked}
 use Rattle.bank_transactions.proofs.FilledBatch.{emptied_known, same_known, tellers_in}
 use Rattle.bank_transactions.proofs.slots.fill_known.Goals as goal
@@ -162,12 +162,3 @@ returns-clause-own g c clean =
     ) in
     subst (λ (slots : List BranchSlot). AllByRecursion HasOwnRow slots)
     (sym (put_back bv _ c.fill_all.new.slots c.deref_mut.ensures.value c.fill_all.auto.slots)) (one.shown clean1)
-
--- ---- what is remembered
-
-pub returns-clause-remembers : goal.returns-clause-remembers
-returns-clause-remembers g c =
-    let m = c.known_decided.new.memory in
-    keeps_read m c.in_ok-fill_all-4.ensures.says (keeps_read m c.in_ok-fill_all-3.ensures.says
-    (keeps_read m c.in_ok-fill_all-2.ensures.says (keeps_read m c.in_ok-fill_all.ensures.says
-    c.in_ok-overlay.ensures.remembers)))

@@ -1,0 +1,26 @@
+-- What is remembered is what a look-up would find.
+use Rattle.std.proofs.Common.{Ok, rules, subst}
+use Rattle.std.specs.Prelude.{IfSome}
+use Rattle.store_rows.specs.{Lying.BranchLies, believed.Rules.row_under}
+use Rattle.store_rows.specs.believed.Readings.{read_branch}
+use Rattle.store_rows.specs.believed.BankTables as bank
+use Rattle.store_rows.proofs.LyingFound.{finds_branch}
+use Rattle.bank_transactions.proofs.{ReadsInTurn.recalls, Remembered.looks_known, Remembered.noted_look}
+use Rattle.bank_transactions.proofs.Fitting.{leaves_same}
+use Rattle.bank_transactions.proofs.known.known_branch_row.Goals as goal
+
+pub returns-in-Some-clause-recalls : goal.returns-in-Some-clause-recalls
+returns-in-Some-clause-recalls g c =
+    looks_known c.args.memory.now (λ rows. row_under rows.branches c.args.branch) read_branch c.in-Some.row (λ db found. BranchLies c.args.branch db found)
+    (search rules)
+    (λ db fits. subst (λ o. IfSome o (BranchLies c.args.branch db)) c.in-Some.is (c.branch_row.ensures db fits))
+    (λ db rows has lies. finds_branch db rows has c.args.branch c.in-Some.row lies) c.requires
+
+pub returns-clause-recalls : goal.returns-clause-recalls
+returns-clause-recalls g c =
+    recalls g.S.Store c.args.tx.now c.find_branch.new.tx (λ rows. row_under rows.branches c.args.branch) read_branch (Ok c.in_ok-row.row) c.in_ok-row.ensures.looks_up
+
+pub returns-clause-remembers : goal.returns-clause-remembers
+returns-clause-remembers g c =
+    noted_look c.in_ok-row.row c.args.memory.now c.note_branch.new.self (λ db found. BranchLies c.args.branch db found) c.in_ok-row.ensures.looks_up c.in_ok-row.ensures.lies
+    (λ db file. c.note_branch.ensures db db (leaves_same bank.branch c.args.branch db file)) c.requires
