@@ -11,7 +11,7 @@ use Rattle.store_rows.specs.believed.View.{Shows, ShowsTrees}
 use Rattle.store_rows.proofs.ShownOnce.{to_trees}
 use Rattle.bank_transactions.specs.Undone.{IsUndone}
 use Rattle.bank_store.specs.Leaving.{CommitsAsFound, LeavesAsFound, OnlyReads, StandsWhileOpen}
-use Rattle.bank_store.specs.{Sparing.SparesWhileOpen, Walks.IsUntouchedIfOpen, declared.bank.Bank.Bank}
+use Rattle.bank_store.specs.{OpenBankSparing.SparesWhileOpen, Walks.IsUntouchedIfOpen, declared.bank.Bank.Bank}
 use Rattle.bank_store.specs.believed.Seen.{connection_of, database_of, file_of}
 
 module _ {S : Type 0} (g : Ghosts S) where

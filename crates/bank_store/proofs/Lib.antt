@@ -1,6 +1,7 @@
 -- What the proofs of the calls share.
 pub mod AsFound
 pub mod Broke
+pub mod Either
 pub mod CarriedOver
 pub mod Causes
 pub mod Countered

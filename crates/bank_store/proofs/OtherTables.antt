@@ -10,7 +10,7 @@ use Rattle.sql_meanings.proofs.Sparing.{spares_same}
 use Rattle.store_rows.specs.believed.Sparing.{bank_names}
 use Rattle.store_rows.specs.declared.fault.TableFault.{TableFault, TheVariants.Sqlite, TheVariants.Damaged}
 use Rattle.bank_transactions.specs.{believed.Doing.LeavesOthers, Doing.SparesTheirs, Undone.UndoesFaults}
-use Rattle.bank_store.specs.{Connections.IsAsBefore, Down.GoesDown, believed.Sparing.SparesOtherTables}
+use Rattle.bank_store.specs.{Connections.IsAsBefore, Down.GoesDown, believed.BankSparing.SparesOtherTables}
 use Rattle.bank_store.specs.{Walks.IsUntouchedIfOpen, declared.bank.Bank.Bank, SparedTables.spared_itself}
 use Rattle.bank_store.specs.believed.Seen.{bank_seen, connection_of, database_of, file_of}
 use Rattle.bank_store.specs.Seen.{fault_of}

@@ -7,7 +7,7 @@ use Rattle.sql_meanings.proofs.Sparing.{spares_itself}
 use Rattle.store_rows.specs.believed.Sparing.{SparesOthers, bank_names}
 use Rattle.bank_transactions.specs.believed.Doing.{LeavesOthers}
 use Rattle.bank_store.specs.{believed.Seen.connection_of, Walks.IsUntouchedIfOpen, declared.bank.Bank.Bank}
-use Rattle.bank_store.specs.{believed.Sparing.SparesOtherTables, Sparing.SparesWhileOpen}
+use Rattle.bank_store.specs.{believed.BankSparing.SparesOtherTables, OpenBankSparing.SparesWhileOpen}
 
 -- nothing was read
 pub idle_spares : {S : Type 0} (g : Ghosts S) (conn : Held S) → SparesWhileOpen g conn conn

@@ -17,5 +17,5 @@ pub mod Tills
 pub mod Failures
 pub mod Leaving
 pub mod Room
-pub mod Sparing
+pub mod OpenBankSparing
 pub mod SparedTables

@@ -11,7 +11,7 @@ use Rattle.sqlite_trees.specs.View.{doubt}
 use Rattle.sql_meanings.proofs.Sparing.{spares_itself, spares_then}
 use Rattle.store_rows.specs.believed.Sparing.{SparesOthers, bank_names}
 use Rattle.bank_transactions.specs.believed.Doing.{LeavesOthers}
-use Rattle.bank_store.specs.believed.Sparing.{SparesTables}
+use Rattle.bank_store.specs.believed.BankSparing.{SparesTables}
 
 -- nothing was done
 survives_itself : (s : State) (P : Trees → Type 0) → Survives s s P

@@ -1,4 +1,4 @@
 pub mod Down
 pub mod Seen
 pub mod NoneOrAll
-pub mod Sparing
+pub mod BankSparing

@@ -87,7 +87,7 @@ impl<S: Alter> Bank<S> {
         Bank {
             alloc,
             conn,
-            memory: Memory::new(),
+            memory: Memory::with_room(alloc),
             fault: None,
         }
     }
@@ -247,13 +247,14 @@ impl<S: Alter + Drop> Counter for Bank<S> {
     ghost use Rattle.bank_transactions.specs.believed.Stored.{IsStoredBalance, OpensByStored};
     ghost use Rattle.bank_transactions.specs.Stored.{IsStoredNext};
     ghost use Rattle.bank_transactions.specs.believed.Answered.{AnswersAll, AnswersOne};
-    ghost use Rattle.bank_store.specs.believed.Down.{AnswersBy, BreaksOpening, BreaksRule, IsBankCall, OfDamage};
+    ghost use Rattle.bank_store.specs.believed.Down.{AnswersBy, IsBankCall, OfDamage};
     ghost use Rattle.bank_store.specs.Down.{WasBroken};
     ghost use Rattle.bank_store.specs.believed.Down.{bank_reason};
     ghost use Rattle.bank_store.specs.Leaving.{OnlyReads};
     ghost use Rattle.bank_store.specs.believed.NoneOrAll.{LeavesBatch, LeavesNoneOrAll, LeavesRecords};
+    ghost use Rattle.bank_store.specs.believed.NoneOrAll.{RefusesOpening, RefusesRecords};
     ghost use Rattle.bank_store.specs.believed.Seen.{bank_seen, database_of};
-    ghost use Rattle.bank_store.specs.believed.Sparing.{SparesOtherTables};
+    ghost use Rattle.bank_store.specs.believed.BankSparing.{SparesOtherTables};
     ghost use Rattle.bank_store.specs.SparedTables.{some_or_none, spared_itself, spared_then};
     ghost use Rattle.sqlite.specs.Effect.{Database};
     ghost use Rattle.bank_transactions.specs.believed.Batches.{HasRoomFor};
@@ -284,10 +285,11 @@ impl<S: Alter + Drop> Counter for Bank<S> {
             (λ log out. out ≡ reply_spelling (reply log bytes.now)) }
         ensures call { IsBankCall S.Store self.old self.new (Post moment bytes.now ∷ []) result }
         ensures frugal { result ≢ Err fault.Memory }
-        // Whatever rows the file holds. A request that is kept changes nothing, whatever tables it has.
+        // Whatever rows the file holds, and whatever tables it has: a request that is kept changes nothing, and one that
+        // is told to be posted was written.
         ensures stored { IfOk result (λ out. (bank_seen S.Store self.new).honest → (r : RequestFields)
             → request_of bytes.now ≡ Ok r
-            → AnswersOne (database_of S.Store self.old) (database_of S.Store self.new) bytes.now r out) }
+            → AnswersOne (database_of S.Store self.old) (database_of S.Store self.new) moment bytes.now r out) }
         // Be the tables of a log, damaged or neither.
         ensures leaves { IfOk result (λ out. (bank_seen S.Store self.new).honest → (r : RequestFields)
             → request_of bytes.now ≡ Ok r → (t : Tables) → (bank_seen S.Store self.old).tables t → HasRoomFor 1 t
@@ -297,9 +299,8 @@ impl<S: Alter + Drop> Counter for Bank<S> {
             → request_of bytes.now ≡ Err bad
             → (result ≡ Ok (reply_spelling malformed_reply)) × (self.new ≡ self.old) }
         // A key that is taken is the next ordinal's, unless the file has no bank's tables. Where that ordinal is free,
-        // the rows that the file held break the rule.
-        ensures own { IfErr result (λ fault. OfDamage fault
-            (BreaksRule S.Store (bytes.now ∷ []) self.old self.new)) }
+        // the rows that the file held break the rule, and a crash leaves all of the posting or nothing.
+        ensures own { IfErr result (RefusesRecords S.Store moment (bytes.now ∷ []) self.old self.new) }
         ensures spares { SparesOtherTables S.Store self.old self.new }
     {
         range_law(moment);
@@ -340,14 +341,15 @@ impl<S: Alter + Drop> Counter for Bank<S> {
         ensures leaves { IfOk result (λ replies. (bank_seen S.Store self.new).honest → (t : Tables)
             → (bank_seen S.Store self.old).tables t → HasRoomFor (length records.now) t
             → LeavesBatch S.Store self.old self.new t moment records.now replies.items) }
-        // Whatever rows the file holds. Records that are all kept change nothing, whatever tables it has.
+        // Whatever rows the file holds, and whatever tables it has: records that are all kept change nothing, and each
+        // that is told to be posted was written.
         ensures stored { IfOk result (λ replies. (bank_seen S.Store self.new).honest
             → AnswersAll (database_of S.Store self.old) (database_of S.Store self.new) moment records.now
             replies.items) }
         // A key that is taken is one of the next ordinals', at most one a record, unless the file has no bank's
-        // tables. Where those are free, the rows that the file held break the rule.
-        ensures own { IfErr result (λ fault. OfDamage fault
-            (BreaksRule S.Store records.now self.old self.new)) }
+        // tables. Where those are free, the rows that the file held break the rule, and a crash leaves all of the
+        // batch or nothing.
+        ensures own { IfErr result (RefusesRecords S.Store moment records.now self.old self.new) }
         ensures spares { SparesOtherTables S.Store self.old self.new }
     {
         range_law(moment);
@@ -385,9 +387,8 @@ impl<S: Alter + Drop> Counter for Bank<S> {
             (opened_with count floor) opening) }
         // A key that is taken is the branch's own, one of its tellers', of its accounts' or its floor's, unless the
         // file has no bank's tables. It changes no row that is there, so that none can be missing. Where those keys
-        // are free, the rows that the file held break the rule.
-        ensures own { IfErr result (λ fault. OfDamage fault
-            (BreaksOpening S.Store branch (opened_with count floor) self.old self.new)) }
+        // are free, the rows that the file held break the rule, and a crash leaves all of the branch or nothing.
+        ensures own { IfErr result (RefusesOpening S.Store branch (opened_with count floor) self.old self.new) }
         ensures spares { SparesOtherTables S.Store self.old self.new }
     {
         range_law(branch);

@@ -11,7 +11,7 @@ ghost use Rattle.bank_store.specs.Down.{WasBroken};
 ghost use Rattle.bank_store.specs.Leaving.{OnlyReads};
 ghost use Rattle.bank_store.specs.believed.Down.{AnswersBy, IsBankCall, OfDamage};
 ghost use Rattle.bank_store.specs.believed.Seen.{bank_seen, database_of};
-ghost use Rattle.bank_store.specs.believed.Sparing.{SparesOtherTables};
+ghost use Rattle.bank_store.specs.believed.BankSparing.{SparesOtherTables};
 
 use crate::bank::Bank;
 use crate::entries::read_log;

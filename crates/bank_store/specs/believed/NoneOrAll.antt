@@ -1,12 +1,15 @@
 -- Commands that are kept together or not at all, and what records leave of tables, of a log or not.
-use Rattle.std.specs.Prelude.{◌≡◌, ◌⊎◌, ℕ, List}
-use Rattle.posting_rules.specs.believed.Changes.{tables_past_all, replies_past_all}
-use Rattle.posting_rules.specs.believed.Commands.{Command}
+use Rattle.std.specs.Prelude.{◌≡◌, ◌⊎◌, ℕ, List, length}
+use Rattle.posting_rules.specs.believed.Changes.{replies_past_all, tables_opened, tables_past_all}
+use Rattle.posting_rules.specs.believed.Commands.{Command, Terms}
 use Rattle.posting_rules.specs.believed.Counter.{Seen, LeavesOnly, StandsAt}
 use Rattle.posting_rules.specs.believed.Runs.{followed_by}
 use Rattle.posting_rules.specs.believed.Tables.{Tables, AreTablesOf}
-use Rattle.bank_transactions.specs.believed.Batches.{DecidesNone}
+use Rattle.posting_rules.specs.declared.fault.Fault.{Fault}
+use Rattle.bank_transactions.specs.believed.Batches.{DecidesNone, HasRoomFor}
+use Rattle.bank_transactions.specs.believed.Openings.{IsReadyToOpen}
 use Rattle.sqlite_trees.specs.declared.store.Store.{Ghosts}
+use Rattle.bank_store.specs.believed.Down.{BreaksOpening, BreaksRule, OfDamage}
 use Rattle.bank_store.specs.believed.Seen.{bank_seen, database_of}
 use Rattle.bank_store.specs.declared.bank.Bank.{Bank}
 
@@ -16,6 +19,27 @@ abbrev pub LeavesNoneOrAll : Seen → Seen → List Command → Type 0
 LeavesNoneOrAll old new commands =
     new.honest → (log : List Command) → StandsAt old log
     → LeavesOnly new (λ t. AreTablesOf t log ⊎ AreTablesOf t (followed_by log commands))
+
+-- everything that a crash could leave had the first tables, and everything that it may leave now has them, or the
+-- second
+abbrev pub LeavesEither : {S : Type 0} (g : Ghosts S) → Bank S g → Bank S g → Tables → Tables → Type 0
+LeavesEither g old new t u = (bank_seen g new).honest → LeavesOnly (bank_seen g old) (λ left. left ≡ t)
+    → LeavesOnly (bank_seen g new) (λ left. (left ≡ t) ⊎ (left ≡ u))
+
+-- What a fault says by which records were refused: damage, which rule is broken. On tables with room for the records,
+-- of a log or not, a crash leaves all that they leave, or nothing of it.
+pub record RefusesRecords {S : Type 0} (g : Ghosts S) (moment : ℕ) (records : List (List ℕ)) (old new : Bank S g)
+    (fault : Fault) : Type 0 where
+  pub damage : OfDamage fault (BreaksRule g records old new)
+  pub left : (t : Tables) → (bank_seen g old).tables t → HasRoomFor (length records) t
+      → LeavesEither g old new t (tables_past_all t moment records)
+
+-- so of an opening, on tables in which the branch is open, or none of its keys was taken
+pub record RefusesOpening {S : Type 0} (g : Ghosts S) (branch : ℕ) (terms : Terms) (old new : Bank S g) (fault : Fault)
+    : Type 0 where
+  pub damage : OfDamage fault (BreaksOpening g branch terms old new)
+  pub left : (t : Tables) → (bank_seen g old).tables t → IsReadyToOpen branch terms t
+      → LeavesEither g old new t (tables_opened t branch terms)
 
 -- on these tables, of a log or not, an answered call left what the records leave of them, and everything that a crash
 -- may leave has that alone; the replies are those to the records

@@ -9,6 +9,7 @@ use Rattle.bank_store.proofs.bank.BankCounter.open_branch.Given.{Over}
 use Rattle.bank_store.specs.Seen.{fault_of}
 use Rattle.bank_store.proofs.OtherTables.{spares_done, spares_down, spares_untouched}
 use Rattle.bank_store.proofs.Refusing.{answered_call, breaks_opening, refused_call, transaction_refused}
+use Rattle.bank_store.proofs.{Either.either_after, Either.either_opened, Either.untried_opening}
 use Rattle.bank_store.proofs.Refusing.{untried_call, Refusal}
 use Rattle.bank_transactions.specs.{believed.Additions.AddsBranch, believed.Causes.IsBrokenOrMet}
 use Rattle.bank_store.proofs.bank.BankCounter.open_branch.Goals as goal
@@ -59,17 +60,23 @@ returns-in-Ok g c =
 pub returns-in-Err : goal.returns-in-Err
 returns-in-Err g c =
     let no = refused g c in
+    let b = c.args.branch in
+    let terms = opened_with c.args.count c.args.floor in
     record {
       answer = tt;
       call = refused_call g.S.Store c.args.self.now c.go_down.new.self _ c.go_down.result no
           c.in_ok-up.ensures.up;
       frugal = λ same. no.frugal (let it = same in cc);
       stored = tt;
-      own = breaks_opening g.S.Store c.args.branch (opened_with c.args.count c.args.floor) c.args.self.now
-          c.go_down.new.self c.go_down.result no.broken
-          (breaks_shown g.S.Store c.args.self.now.conn c.open_branch.new.conn c.go_down.new.self.conn
-          (fault_of c.go_down.new.self) c.go_down.result c.go_down.ensures.survives _ c.in-Err.fault
-          c.in-Err.ensures.transacts c.go_down.ensures.down);
+      own = record {
+        damage = breaks_opening g.S.Store b terms c.args.self.now c.go_down.new.self c.go_down.result no.broken
+            (breaks_shown g.S.Store c.args.self.now.conn c.open_branch.new.conn c.go_down.new.self.conn
+            (fault_of c.go_down.new.self) c.go_down.result c.go_down.ensures.survives _ c.in-Err.fault
+            c.in-Err.ensures.transacts c.go_down.ensures.down);
+        left = λ t shows so. either_opened g.S.Store c.args.self.now c.go_down.new.self t b terms
+            (either_after g.S.Store c.args.self.now c.go_down.new.self c.open_branch.new.conn
+            c.in-Err.ensures.transacts c.go_down.ensures.survives t shows so);
+      };
       spares = spares_down g.S.Store c.args.self.now c.go_down.new.self c.open_branch.new.conn c.in-Err.fault
           c.go_down.result c.in_ok-up.ensures.up c.in-Err.ensures.transacts.spares
           c.in-Err.ensures.undone
@@ -81,6 +88,12 @@ returns-in_err-up-clause-call g c =
     let p = err_from_is_err_and c.from_residual.result c.from_residual.ensures.1 in
     untried_call g.S.Store c.args.self.now _ c.from_residual.result p.0 p.1
     (p.2 ∙ c.in_err-up.ensures.down.0) c.in_err-up.ensures.down.1
+
+pub returns-in_err-up-clause-own : goal.returns-in_err-up-clause-own
+returns-in_err-up-clause-own g c =
+    let p = err_from_is_err_and c.from_residual.result c.from_residual.ensures.1 in
+    untried_opening g.S.Store c.args.self.now c.args.branch (opened_with c.args.count c.args.floor)
+    c.from_residual.result p.0 p.1 (p.2 ∙ c.in_err-up.ensures.down.0)
 
 pub returns-in_err-up-clause-spares : goal.returns-in_err-up-clause-spares
 returns-in_err-up-clause-spares g c = spares_untouched g.S.Store c.args.self.now

@@ -1,9 +1,10 @@
 -- What a record comes to.
-use Rattle.std.proofs.Common.{◌≡◌, ℕ, List, [], ◌∷◌, Ok, Err, Result, get_or, length, rules, refl, sym, ap, subst, ◌∙◌}
+use Rattle.std.proofs.Common.{◌≡◌, ℕ, List, [], ◌∷◌, Ok, Err, Result, get_or, length, rules, refl, sym, ap, subst, ◌∙◌, inl}
 use Rattle.std.proofs.lemmas.Result.{err_from_is_err_and}
 use Rattle.std.specs.Prelude.{IsSome}
 use Rattle.message_records.specs.{believed.Reading.request_of, believed.Records.RequestFields, declared.fault.Bad.Bad}
 use Rattle.bank_transactions.specs.{Batches.RepliesLookedUp, believed.Additions.AddsForRecords}
+use Rattle.bank_transactions.specs.believed.Answered.{AnswersAll}
 use Rattle.bank_transactions.specs.believed.Causes.{IsBrokenOrMet}
 use Rattle.bank_transactions.proofs.{OneRequest.one_stored, Remembered.blank}
 use Rattle.bank_transactions.specs.{Memory.Remembers, declared.memory.Memory.Memory}
@@ -12,7 +13,7 @@ use Rattle.bank_store.specs.believed.Seen.{database_of}
 use Rattle.posting_rules.proofs.Records.{all_replies, posts_all}
 use Rattle.bank_store.proofs.{Causes.still_clean, Countered.of_logs, Countered.takes, bank.BankCounter.submit.Given.Over}
 use Rattle.bank_store.proofs.OtherTables.{spares_done, spares_down, spares_untouched}
-use Rattle.bank_store.proofs.Broke.{breaks_shown}
+use Rattle.bank_store.proofs.{Broke.breaks_shown, Either.either_after, Either.untried_records}
 use Rattle.bank_store.proofs.Refusing.{answered_call, breaks, refused_call, transaction_refused, untried_call, Refusal}
 use Rattle.bank_store.specs.Seen.{fault_of}
 use Rattle.bank_store.proofs.bank.BankCounter.submit.Goals as goal
@@ -47,7 +48,7 @@ post_looked_up-requires-clause-remembers g c =
     c.args.self.now.remembers
 
 -- what its refusal says
-refused : (g : Over) (c : goal.After-go_down g)
+refused : (g : Over) (c : goal.Joined-memory-4 g)
     → Refusal g.S.Store c.args.self.now c.go_down.new.self (posts c.args.moment (c.args.bytes.now ∷ []))
     (IsBrokenOrMet g.S.Store (AddsForRecords (database_of g.S.Store c.args.self.now) (c.args.bytes.now ∷ [])))
     c.go_down.result
@@ -83,11 +84,12 @@ returns-in-Ok-post_looked_up g c =
           (takes (of_logs 1) (posts m rs) (posts_all m rs) are Down Down c.in_ok-up.ensures.up says)
           (still_clean says.survives);
       frugal = λ same. (let it = same in cc);
-      stored = λ clean r is. record {
-        told = one_stored is (subst (RepliesLookedUp _ _ m rs) (sym c.deref.ensures ∙ only c.deref.result.now _ many)
-            (it.stored clean rs made));
-        wrote = says.wrote clean;
-      };
+      stored = λ clean r is.
+          let same = sym c.deref.ensures ∙ only c.deref.result.now _ many in
+          record {
+            told = one_stored is (subst (RepliesLookedUp _ _ m rs) same (it.stored clean rs made));
+            alone = subst (AnswersAll _ _ m rs) same (it.wrote clean rs made);
+          };
       leaves =
           λ clean r is t shows so.
           let told = says.told clean t shows so in
@@ -115,10 +117,14 @@ returns-in-Err g c =
       stored = tt;
       leaves = tt;
       malformed = λ up bad is. absurd (no_request (sym read ∙ is));
-      own = breaks g.S.Store rs c.args.self.now c.go_down.new.self c.go_down.result no.broken
-          (breaks_shown g.S.Store c.args.self.now.conn c.post_looked_up.new.conn c.go_down.new.self.conn
-          (fault_of c.go_down.new.self) c.go_down.result c.go_down.ensures.survives _ c.in-Err.fault
-          (c.in-Err.ensures.says rs made) c.go_down.ensures.down);
+      own = record {
+        damage = breaks g.S.Store rs c.args.self.now c.go_down.new.self c.go_down.result no.broken
+            (breaks_shown g.S.Store c.args.self.now.conn c.post_looked_up.new.conn c.go_down.new.self.conn
+            (fault_of c.go_down.new.self) c.go_down.result c.go_down.ensures.survives _ c.in-Err.fault
+            (c.in-Err.ensures.says rs made) c.go_down.ensures.down);
+        left = either_after g.S.Store c.args.self.now c.go_down.new.self c.post_looked_up.new.conn
+            (c.in-Err.ensures.says rs made) c.go_down.ensures.survives;
+      };
       spares = spares_down g.S.Store c.args.self.now c.go_down.new.self c.post_looked_up.new.conn c.in-Err.fault
           c.go_down.result c.in_ok-up.ensures.up (c.in-Err.ensures.says rs made).spares
           (c.in-Err.ensures.undone rs made)
@@ -130,6 +136,12 @@ returns-in_err-up-clause-call g c =
     let p = err_from_is_err_and c.from_residual.result c.from_residual.ensures.1 in
     untried_call g.S.Store c.args.self.now _ c.from_residual.result p.0 p.1
     (p.2 ∙ c.in_err-up.ensures.down.0) c.in_err-up.ensures.down.1
+
+pub returns-in_err-up-clause-own : goal.returns-in_err-up-clause-own
+returns-in_err-up-clause-own g c =
+    let p = err_from_is_err_and c.from_residual.result c.from_residual.ensures.1 in
+    untried_records g.S.Store c.args.self.now c.args.moment (c.args.bytes.now ∷ []) c.from_residual.result p.0 p.1
+    (inl (p.2 ∙ c.in_err-up.ensures.down.0))
 
 pub returns-in_err-up-clause-spares : goal.returns-in_err-up-clause-spares
 returns-in_err-up-clause-spares g c = spares_untouched g.S.Store c.args.self.now

@@ -1,5 +1,5 @@
 -- What records come to.
-use Rattle.std.proofs.Common.{◌≡◌, ◌++◌, ℕ, List, length, refl, sym, ap, subst, ◌∙◌}
+use Rattle.std.proofs.Common.{◌≡◌, ◌++◌, ℕ, List, length, refl, sym, ap, subst, ◌∙◌, inl, inr}
 use Rattle.std.specs.Prelude.{IsSome}
 use Rattle.std.proofs.lemmas.{Result.err_from_is_err_and, List.length-map}
 use Rattle.message_records.specs.believed.Reading.{request_of}
@@ -9,12 +9,12 @@ use Rattle.bank_store.specs.believed.Seen.{database_of}
 use Rattle.bank_store.proofs.{Causes.still_clean, bank.BankCounter.submit_all.Given.Over}
 use Rattle.bank_store.proofs.Countered.{none_or_all, none_or_all_down, of_logs, takes}
 use Rattle.bank_store.proofs.OtherTables.{spares_done, spares_down, spares_untouched}
-use Rattle.bank_store.proofs.Broke.{breaks_shown}
+use Rattle.bank_store.proofs.{Broke.breaks_shown, Either.either_after, Either.untried_records}
 use Rattle.bank_store.proofs.Refusing.{answered_call, breaks, refused_call, spared_call, transaction_refused}
 use Rattle.bank_store.proofs.Refusing.{untried_call}
 use Rattle.bank_store.specs.Seen.{fault_of}
 use Rattle.bank_store.proofs.Refusing.{Refusal}
-use Rattle.bank_transactions.specs.believed.{Additions.AddsForRecords, Causes.IsBrokenOrMet, Stored.RepliesToAllStored}
+use Rattle.bank_transactions.specs.believed.{Additions.AddsForRecords, Answered.AnswersAll, Causes.IsBrokenOrMet}
 use Rattle.bank_transactions.specs.{Memory.Remembers, declared.memory.Memory.Memory}
 use Rattle.bank_store.proofs.bank.BankCounter.submit_all.Goals as goal
 
@@ -72,10 +72,7 @@ returns-in-Ok g c =
             };
             idle = λ none. let it = c.in-Ok.ensures.idle clean rs made t shows so none in (it.leads, it.same);
           };
-      stored = λ clean. record {
-        told = subst (RepliesToAllStored _ _ m rs) (sym same) (c.in-Ok.ensures.stored clean rs made);
-        wrote = says.wrote clean;
-      };
+      stored = λ clean. subst (AnswersAll _ _ m rs) (sym same) (c.in-Ok.ensures.stored clean rs made);
       own = tt;
       spares = spares_done g.S.Store c.args.self.now _ _ c.in_ok-up.ensures.up says.spares;
     }
@@ -97,10 +94,14 @@ returns-in-Err g c =
           c.go_down.ensures.survives;
       leaves = tt;
       stored = tt;
-      own = breaks g.S.Store rs c.args.self.now c.go_down.new.self c.go_down.result no.broken
-          (breaks_shown g.S.Store c.args.self.now.conn c.post_all.new.conn c.go_down.new.self.conn
-          (fault_of c.go_down.new.self) c.go_down.result c.go_down.ensures.survives _ c.in-Err.fault
-          (c.in-Err.ensures.says rs c.in_ok-batch.ensures.made) c.go_down.ensures.down);
+      own = record {
+        damage = breaks g.S.Store rs c.args.self.now c.go_down.new.self c.go_down.result no.broken
+            (breaks_shown g.S.Store c.args.self.now.conn c.post_all.new.conn c.go_down.new.self.conn
+            (fault_of c.go_down.new.self) c.go_down.result c.go_down.ensures.survives _ c.in-Err.fault
+            (c.in-Err.ensures.says rs c.in_ok-batch.ensures.made) c.go_down.ensures.down);
+        left = either_after g.S.Store c.args.self.now c.go_down.new.self c.post_all.new.conn
+            (c.in-Err.ensures.says rs c.in_ok-batch.ensures.made) c.go_down.ensures.survives;
+      };
       spares = spares_down g.S.Store c.args.self.now c.go_down.new.self c.post_all.new.conn c.in-Err.fault
           c.go_down.result c.in_ok-up.ensures.up (c.in-Err.ensures.says rs c.in_ok-batch.ensures.made).spares
           (c.in-Err.ensures.undone rs c.in_ok-batch.ensures.made)
@@ -133,3 +134,23 @@ returns-in_err-batch-clause-spares g c = spares_untouched g.S.Store c.args.self.
 
 pub returns-in_err-replies-clause-spares : goal.returns-in_err-replies-clause-spares
 returns-in_err-replies-clause-spares g c = spares_untouched g.S.Store c.args.self.now
+
+-- ---- nothing was tried
+
+pub returns-in_err-up-clause-own : goal.returns-in_err-up-clause-own
+returns-in_err-up-clause-own g c =
+    let p = err_from_is_err_and c.from_residual.result c.from_residual.ensures.1 in
+    untried_records g.S.Store c.args.self.now c.args.moment c.args.records.now c.from_residual.result p.0 p.1
+    (inl (p.2 ∙ c.in_err-up.ensures.down.0))
+
+pub returns-in_err-replies-clause-own : goal.returns-in_err-replies-clause-own
+returns-in_err-replies-clause-own g c =
+    let p = err_from_is_err_and c.from_residual-in_err-replies.result c.from_residual-in_err-replies.ensures.1 in
+    untried_records g.S.Store c.args.self.now c.args.moment c.args.records.now c.from_residual-in_err-replies.result p.0
+    p.1 (inr p.2)
+
+pub returns-in_err-batch-clause-own : goal.returns-in_err-batch-clause-own
+returns-in_err-batch-clause-own g c =
+    let p = err_from_is_err_and c.from_residual-in_err-batch.result c.from_residual-in_err-batch.ensures.1 in
+    untried_records g.S.Store c.args.self.now c.args.moment c.args.records.now c.from_residual-in_err-batch.result p.0
+    p.1 (inr p.2)
