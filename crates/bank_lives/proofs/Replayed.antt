@@ -9,7 +9,7 @@ use Rattle.bank_store.specs.{Connections.conn_seen, declared.bank.Bank.Bank}
 use Rattle.bank_store.specs.believed.Seen.{bank_seen, file_of, seen_in}
 use Rattle.bank_lives.specs.believed.Lives.{IsCall, Life, begins, goes_on}
 use Rattle.bank_lives.specs.believed.ManyLives.{LeavesShown, Lives, replayed}
-use Rattle.bank_lives.specs.{believed.Moments.Of_bank, believed.Moments.Of_connection, believed.Moments.seen_at}
+use Rattle.bank_lives.specs.{believed.LifeStates.Of_bank, believed.LifeStates.Of_connection, believed.LifeStates.seen_at}
 use Rattle.bank_lives.specs.{Replayed.IsReplayed}
 use Rattle.bank_lives.proofs.{Calls.taken_is_call, ManyLived.before_life, Quiet.call_of_nothing}
 

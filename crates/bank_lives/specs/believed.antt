@@ -1,3 +1,3 @@
 pub mod Lives
 pub mod ManyLives
-pub mod Moments
+pub mod LifeStates

@@ -8,7 +8,7 @@ ghost use Rattle.bank_store.specs.Connections.{conn_seen};
 ghost use Rattle.bank_store.specs.believed.Seen.{bank_seen, connection_of};
 ghost use Rattle.bank_lives.specs.believed.Lives.{EndsLife, IsCall, Life};
 ghost use Rattle.bank_lives.specs.believed.ManyLives.{Given, IsFoundAfter, IsOpenedOn, Outlasts, Lives, ShowsAfter};
-ghost use Rattle.bank_lives.specs.believed.Moments.{Moment, Of_bank, seen_at};
+ghost use Rattle.bank_lives.specs.believed.LifeStates.{LifeState, Of_bank, seen_at};
 ghost use Rattle.bank_lives.specs.Replayed.{IsReplayed};
 ghost use Rattle.bank_lives.specs.Sending.{FindsSent, Sends};
 
@@ -19,7 +19,7 @@ use sqlite::{Alter, Connection};
 /// connection that was refused before, and what `adopt` and `release` of `bank_store` say of it. A bank that is
 /// taken up is a call that is given nothing; a refused one ends the life of its connection.
 pub fn reopenings_law<S: Alter>(conn: &Connection<S>)
-    ensures opened { (last : Moment S.Store) → Opens (state S.Store conn.now)
+    ensures opened { (last : LifeState S.Store) → Opens (state S.Store conn.now)
         → (seen_at S.Store last).left (state S.Store conn.now).now.trees
         → IsOpenedOn (seen_at S.Store last) (conn_seen S.Store conn.now) }
     ensures adopted { (bank : _)
@@ -56,15 +56,15 @@ pub fn replayed_law<S: Alter>(conn: &Connection<S>)
 /// life is a run of calls, streams and reports, and ends with a release or with a crash at any store call; a
 /// reopening that was refused, or files that couldn't be opened, are a life that was given nothing.
 pub fn lives_law<S: Alter>(_bank: &Bank<S>)
-    ensures found { (start : List Command) (first : Moment S.Store) (lives : List Given)
+    ensures found { (start : List Command) (first : LifeState S.Store) (lives : List Given)
         → Lives (seen_at S.Store) start first lives
         → (seen_at S.Store first).honest → IsFoundAfter (seen_at S.Store first) start lives }
     // So it goes on from a log that other lives led to, as over the files of another store.
-    ensures on { (start middle : List Command) (first : Moment S.Store) (earlier later : List Given)
+    ensures on { (start middle : List Command) (first : LifeState S.Store) (earlier later : List Given)
         → Outlasts start middle earlier → Lives (seen_at S.Store) middle first later
         → (seen_at S.Store first).honest → IsFoundAfter (seen_at S.Store first) start (later ++ earlier) }
     // Wherever the last life is stopped, all that may be left shows such a log.
-    ensures left { (start : List Command) (lives : List Given) (life : Given) (first now last : Moment S.Store)
+    ensures left { (start : List Command) (lives : List Given) (life : Given) (first now last : LifeState S.Store)
         → Lives (seen_at S.Store) start first lives
         → Life (seen_at S.Store) first now life.commands life.least
         → EndsLife (seen_at S.Store now) (seen_at S.Store last) → (seen_at S.Store last).honest
@@ -75,7 +75,7 @@ pub fn lives_law<S: Alter>(_bank: &Bank<S>)
 /// before it, gets the replies that he would have got. The tables are those of a prefix of his list that
 /// holds every answered record, each posting once, and at last of his whole list, moments aside.
 pub fn sender_law<S: Alter>(_bank: &Bank<S>)
-    ensures { (start : List Command) (first : Moment S.Store) (sent before : List Given)
+    ensures { (start : List Command) (first : LifeState S.Store) (sent before : List Given)
         (records : List (List ℕ)) (answered : ℕ)
         → Lives (seen_at S.Store) start first (sent ++ before) → Sends records sent answered
         → (seen_at S.Store first).honest

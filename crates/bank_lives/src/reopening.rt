@@ -10,7 +10,7 @@ ghost use Rattle.bank_store.specs.believed.Seen.{bank_seen};
 ghost use Rattle.bank_store.specs.StoreFaults.{KnowsCause};
 ghost use Rattle.bank_lives.specs.believed.Lives.{Life};
 ghost use Rattle.bank_lives.specs.believed.ManyLives.{Given, IsFoundAfter, Lives};
-ghost use Rattle.bank_lives.specs.believed.Moments.{Moment, Of_bank, seen_at};
+ghost use Rattle.bank_lives.specs.believed.LifeStates.{LifeState, Of_bank, seen_at};
 
 use bank_store::{Bank, OpenFault, Refused, adopt};
 use sqlite::{Alter, Connection};
@@ -40,7 +40,7 @@ pub fn reopen<S: Alter + Drop, T: Alter>(
     ensures lives { IfOk result (λ bank. (bank_seen T.Store bank).honest → Opens (state T.Store conn)
         → (bank_seen S.Store stopped.now).honest
         → (bank_seen S.Store stopped.now).left (state T.Store conn).now.trees
-        → (start : List Command) (first : Moment S.Store) (life : Given) (lives : List Given)
+        → (start : List Command) (first : LifeState S.Store) (life : Given) (lives : List Given)
         → Lives (seen_at S.Store) start first lives
         → Life (seen_at S.Store) first (Of_bank stopped.now) life.commands life.least
         → IsFoundAfter (bank_seen T.Store bank) start (life ∷ lives)) }

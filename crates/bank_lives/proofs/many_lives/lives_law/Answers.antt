@@ -1,5 +1,5 @@
 -- What is found after any number of lives, and what is left at each moment.
-use Rattle.bank_lives.specs.believed.Moments.{seen_at}
+use Rattle.bank_lives.specs.believed.LifeStates.{seen_at}
 use Rattle.bank_lives.proofs.ManyLived.{keeps_on, kept, left_of}
 use Rattle.bank_lives.proofs.many_lives.lives_law.Goals as goal
 

@@ -1,5 +1,5 @@
 -- What the sender finds.
-use Rattle.bank_lives.specs.believed.Moments.{seen_at}
+use Rattle.bank_lives.specs.believed.LifeStates.{seen_at}
 use Rattle.bank_lives.proofs.Sent.{finds_sent}
 use Rattle.bank_lives.proofs.many_lives.sender_law.Goals as goal
 

@@ -4,7 +4,7 @@ use Rattle.sqlite.specs.Held.{state}
 use Rattle.posting_rules.specs.believed.Runs.{followed_by}
 use Rattle.bank_store.specs.believed.Seen.{bank_seen}
 use Rattle.bank_store.proofs.Unmade.{if_err}
-use Rattle.bank_lives.specs.believed.Moments.{Of_bank, seen_at}
+use Rattle.bank_lives.specs.believed.LifeStates.{Of_bank, seen_at}
 use Rattle.bank_lives.proofs.{Lived.life_honest, Lived.life_leaves, ManyLived.kept}
 use Rattle.bank_lives.proofs.Reopened.{begins_opened, if_ok, refused_leaves}
 use Rattle.bank_lives.proofs.reopening.reopen.Goals as goal
