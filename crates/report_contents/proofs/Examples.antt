@@ -8,7 +8,12 @@ use Rattle.report_contents.specs.declared.audit.Audit.{Audit}
 use Rattle.message_records.proofs.Examples.{plain_request}
 use Rattle.posting_rules.specs.believed.{Entries.posted_entry, Tables.history_row_of}
 use Rattle.report_contents.specs.{Audit.audit_of, Stored.StoredTables, Stored.posting_stored}
-use Rattle.report_contents.specs.StatementText.{stated_text, statement_text}
+use Rattle.report_contents.specs.StatementText.{form_for, stated_text}
+use Rattle.report_contents.specs.Queries.{whole_query}
+use Rattle.report_contents.specs.Sheet.{reference_field, sheet_line, time_text}
+use Rattle.report_contents.specs.declared.{form.Form.Form, form.Style.TheVariants.Sheet}
+use Rattle.civil_times.specs.Zoned.{date_of}
+use Rattle.csv.specs.Writing.{escaped}
 use Rattle.report_contents.specs.AuditText.{audit_text, number_line, branch_line}
 
 teller : ℕ → ℤ → StoredTeller
@@ -106,7 +111,7 @@ rent = record { posting = deposit; reference = Some (codes "RENT MAY            
 bare : StatedPosting
 bare = record { posting = withdrawal; reference = None }
 
-statement_of_one : statement_text 1 (rent ∷ []) (pos 500) ≡
+statement_of_one : stated_text 1 (form_for whole_query (pos 500) (rent ∷ [])) (rent ∷ []) ≡
     codes "STATEMENT ACCOUNT 000000000001\n"
     ++ codes "      ordinal       moment   teller branch          delta        balance reference\n"
     ++ codes "            1         1000        1      1           +500            500 RENT MAY            \n"
@@ -114,10 +119,24 @@ statement_of_one : statement_text 1 (rent ∷ []) (pos 500) ≡
 unfolding rent deposit stated_text digits
 statement_of_one = refl
 
-statement_without : statement_text 100001 (bare ∷ []) (negsuc 699) ≡
+statement_without : stated_text 100001 (form_for whole_query (negsuc 699) (bare ∷ [])) (bare ∷ []) ≡
     codes "STATEMENT ACCOUNT 000000100001\n"
     ++ codes "      ordinal       moment   teller branch          delta        balance reference\n"
     ++ codes "            2         2000        1      1           -700           -700\n"
     ++ codes "closing balance                                                     -700\n"
 unfolding bare withdrawal stated_text digits
 statement_without = refl
+
+-- the deposit by a clock an hour ahead of UTC, with a reference that has to be quoted
+said : StatedPosting
+said = record { posting = deposit; reference = Some (codes "RENT, \"MAY\"         ") }
+
+sheet : Form
+sheet = record { selection = record { range = None; reference = None }; style = Sheet (pos 3600) }
+
+sheet_of_two : stated_text 1 sheet (said ∷ bare ∷ []) ≡
+    codes "account,ordinal,time,teller,branch,amount,balance,reference\n"
+    ++ codes "1,1,1970-01-01T01:16:40+01:00,1,1,5.00,5.00,\"RENT, \"\"MAY\"\"\"\n"
+    ++ codes "100001,2,1970-01-01T01:33:20+01:00,1,1,-7.00,-2.00,\n"
+unfolding said bare deposit withdrawal sheet stated_text sheet_line time_text reference_field escaped date_of digits
+sheet_of_two = refl

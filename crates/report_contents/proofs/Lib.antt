@@ -7,6 +7,7 @@ pub mod Joined
 pub mod Written
 pub mod OneMore
 pub mod Printable
+pub mod Trimmed
 pub mod OfRows
 pub mod Examples
 pub mod Added

@@ -5,6 +5,8 @@ pub mod Consistency
 pub mod Lines
 pub mod AuditText
 pub mod Ranges
+pub mod Queries
+pub mod Sheet
 pub mod StatementText
 pub mod Written
 pub mod Sums

@@ -4,9 +4,16 @@ use Rattle.std.specs.Prelude.{if◌then◌else◌}
 use Rattle.std.specs.Fmt.{signed_decimal}
 use Rattle.walked_rows.specs.declared.stated.StatedPosting.{StatedPosting}
 use Rattle.report_contents.specs.declared.form.Form.{Form}
-use Rattle.report_contents.specs.declared.form.Form.TheVariants.{Part, Whole}
+use Rattle.report_contents.specs.declared.form.Style.{Style}
+use Rattle.report_contents.specs.declared.form.Style.TheVariants.{Part, Sheet, Whole}
+use Rattle.report_contents.specs.declared.query.Layout.{Layout}
+use Rattle.report_contents.specs.declared.query.Layout.TheVariants as layout
+use Rattle.report_contents.specs.declared.query.Query.{Query}
+use Rattle.report_contents.specs.declared.query.Selection.{Selection}
 use Rattle.report_contents.specs.declared.range.Range.{Range}
-use Rattle.report_contents.specs.Ranges.{is_within, sum_before}
+use Rattle.report_contents.specs.Queries.{is_selected}
+use Rattle.report_contents.specs.Ranges.{sum_before}
+use Rattle.report_contents.specs.Sheet.{sheet_heading, sheet_line}
 use Rattle.report_contents.specs.Lines.{line, filled_to, left_in, right_in, with_sign, text_of}
 
 -- the account in twelve digits
@@ -43,9 +50,6 @@ lines_by line_with before [] = []
 lines_by line_with before (s ∷ rows) = line_with s (before +ℤ s.posting.delta)
     ∷ lines_by line_with (before +ℤ s.posting.delta) rows
 
-abbrev pub posting_lines : ℤ → List StatedPosting → List (List ℕ)
-posting_lines before rows = lines_by posting_line before rows
-
 -- a balance by its name, below the balances of postings
 abbrev pub balance_line : List ℕ → ℤ → List ℕ
 balance_line name balance = line (left_in 57 name ++ codes " " ++ right_in 14 (signed_decimal balance))
@@ -60,32 +64,68 @@ closing_line balance = balance_line (codes "closing balance") balance
 
 -- ---- a form
 
--- what stands between the heading and the postings
-abbrev pub names_of : Form → List ℕ
-names_of (Whole balance) = names_line
-names_of (Part range opening closing) = names_line ++ opening_line opening
+-- the first line; a sheet has the names of its columns there
+abbrev pub heading_by : Style → ℕ → List ℕ
+heading_by (Whole balance) account = heading_line account
+heading_by (Part opening closing) account = heading_line account
+heading_by (Sheet ahead) account = sheet_heading
 
--- the line of a posting with the balance after it; one that isn't in the range has none
+abbrev pub heading_of : Form → ℕ → List ℕ
+heading_of form account = heading_by form.style account
+
+-- what stands between it and the postings
+abbrev pub names_by : Style → List ℕ
+names_by (Whole balance) = names_line
+names_by (Part opening closing) = names_line ++ opening_line opening
+names_by (Sheet ahead) = []
+
+abbrev pub names_of : Form → List ℕ
+names_of form = names_by form.style
+
+-- the line of a posting with the balance after it
+abbrev pub styled_line : Style → StatedPosting → ℤ → List ℕ
+styled_line (Whole balance) = posting_line
+styled_line (Part opening closing) = posting_line
+styled_line (Sheet ahead) = sheet_line ahead
+
+-- one that isn't selected has none
 abbrev pub line_of : Form → StatedPosting → ℤ → List ℕ
-line_of (Whole balance) = posting_line
-line_of (Part range opening closing) = λ s balance. if is_within range s then posting_line s balance else []
+line_of form s balance = if is_selected form.selection s then styled_line form.style s balance else []
+
+-- what stands below the postings
+abbrev pub last_by : Style → List ℕ
+last_by (Whole balance) = closing_line balance
+last_by (Part opening closing) = closing_line closing
+last_by (Sheet ahead) = []
 
 abbrev pub last_of : Form → List ℕ
-last_of (Whole balance) = closing_line balance
-last_of (Part range opening closing) = closing_line closing
+last_of form = last_by form.style
 
 -- the lines of a statement of these postings of an account, which opens at zero
 abbrev pub stated_lines : ℕ → Form → List StatedPosting → List (List ℕ)
-stated_lines account form rows = heading_line account ∷ names_of form
+stated_lines account form rows = heading_of form account ∷ names_of form
     ∷ (lines_by (line_of form) (pos 0) rows ++ last_of form ∷ [])
 
 unfoldable pub stated_text : ℕ → Form → List StatedPosting → List ℕ
 stated_text account form rows = text_of (stated_lines account form rows)
 
--- all postings of an account that has this balance
-abbrev pub statement_text : ℕ → List StatedPosting → ℤ → List ℕ
-statement_text account rows balance = stated_text account (Whole balance) rows
+-- what is selected of a range of the postings of an account: its balances are sums of all of them
+abbrev pub part_of : Selection → Range → List StatedPosting → Form
+part_of selection range rows = record {
+  selection = selection;
+  style = Part (sum_before range.from rows) (sum_before range.until rows);
+}
 
--- a range of the postings of an account: its balances are sums of all of them
-abbrev pub part_of : Range → List StatedPosting → Form
-part_of range rows = Part range (sum_before range.from rows) (sum_before range.until rows)
+-- ---- what is asked for
+
+-- with this balance of the account's row, and these as all its postings
+abbrev pub style_for : Layout → Option Range → ℤ → List StatedPosting → Style
+style_for (layout.Sheet ahead) range balance rows = Sheet ahead
+style_for layout.Columns None balance rows = Whole balance
+style_for layout.Columns (Some range) balance rows = Part (sum_before range.from rows) (sum_before range.until rows)
+
+abbrev pub form_for : Query → ℤ → List StatedPosting → Form
+form_for query balance rows = record {
+  selection = query.selection;
+  style = style_for query.layout query.selection.range balance rows;
+}

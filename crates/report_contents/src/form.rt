@@ -1,39 +1,45 @@
-//! What a statement says of an account.
+//! How a statement of an account is written.
 ghost use Rattle.std.specs.Prelude.{◌≡◌, List};
 ghost use Rattle.walked_rows.specs.declared.stated.StatedPosting.{StatedPosting};
 ghost use Rattle.report_contents.specs.declared.range.Range.{Range};
 ghost use Rattle.report_contents.specs.Ranges.{HasSummed};
 ghost use Rattle.report_contents.specs.StatementText.{part_of};
 
-use crate::range::Range;
+use crate::query::Selection;
 use crate::range_sums::RangeSums;
 use message_records::Cents;
 
-/// What a statement says of an account.
+/// What a statement says of an account, and of which of its postings.
 #[derive(Clone, Copy, Debug, PartialEq, Eq)]
-pub enum Form {
-    /// All its postings, and the balance of its row.
-    Whole {
-        balance: Cents,
-    },
-    /// Its postings in a range, between the balances before it and at its end, in cents.
-    Part {
-        range: Range,
-        opening: i128,
-        closing: i128,
-    },
+pub struct Form {
+    pub selection: Selection,
+    pub style: Style,
 }
 
-impl RangeSums {
-    /// The statement of the range between the sums.
-    pub fn form(&self) -> Form
-        ensures { (range : Range) (rows : List StatedPosting) → HasSummed range self.now rows
-            → result ≡ part_of range rows }
+/// What it says beside the postings.
+#[derive(Clone, Copy, Debug, PartialEq, Eq)]
+pub enum Style {
+    /// The balance of the account's row, below them.
+    Whole { balance: Cents },
+    /// The balances before a range and at its end, in cents, above and below them.
+    Part { opening: i128, closing: i128 },
+    /// Nothing: it is a sheet of CSV, with the times of a clock that is so many seconds ahead of UTC.
+    Sheet { ahead: i64 },
+}
+
+impl Form {
+    /// The statement of what is selected in the range between the sums.
+    #[must_use]
+    pub fn of_sums(selection: Selection, sums: &RangeSums) -> Form
+        ensures { (range : Range) (rows : List StatedPosting) → HasSummed range sums.now rows
+            → result ≡ part_of selection range rows }
     {
-        Form::Part {
-            range: self.range,
-            opening: self.before,
-            closing: self.until,
+        Form {
+            selection,
+            style: Style::Part {
+                opening: sums.before,
+                closing: sums.until,
+            },
         }
     }
 }

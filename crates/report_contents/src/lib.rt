@@ -37,8 +37,9 @@
 //! | [`WriteFault`] | the writer failed, or took no byte; a prefix of the text was written |
 //! | `AllocError` | of [`TellerSums::new`] and [`BranchSums::new`], which alone take memory: it was refused |
 //!
-//! `specs/Audit` says what the numbers of an audit are, `specs/AuditText` and `specs/StatementText` what is
-//! written, and [`audit_tells_consistency`] that an audit is consistent exactly where the tables are.
+//! `specs/Audit` says what the numbers of an audit are, `specs/AuditText`, `specs/StatementText` and `specs/Sheet` what
+//! is written, `specs/Queries` which postings a statement lists, and [`audit_tells_consistency`] that an audit is
+//! consistent exactly where the tables are.
 #![tactic(auto)]
 
 mod adding;
@@ -51,8 +52,12 @@ mod limits;
 mod lines;
 mod matching;
 mod ordinals;
+mod query;
 mod range;
 mod range_sums;
+mod sheet;
+mod sheet_fields;
+mod sheet_times;
 mod statement_text;
 mod sum;
 mod tellers;
@@ -61,14 +66,15 @@ mod writing;
 pub use adding::audit_of_sums;
 pub use audit::{Audit, BranchLine, BranchLines};
 pub use branches::BranchSums;
-pub use form::Form;
+pub use form::{Form, Style};
 pub use laws::{audit_tells_consistency, ranges_add_up, rows_tell_of_tables};
 pub use limits::MAX_ROWS;
 pub use lines::push_text;
 pub use ordinals::OrdinalSums;
+pub use query::{Layout, Query, Selection};
 pub use range::Range;
 pub use range_sums::RangeSums;
-pub use statement_text::{STATEMENT_LINE, StatementLine, statement_heading};
+pub use statement_text::{STATEMENT_LINE, StatementLine};
 pub use sum::Sum;
 pub use tellers::TellerSums;
 pub use writing::{WriteFault, put, put_last, write_audit};

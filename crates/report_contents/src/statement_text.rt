@@ -2,17 +2,19 @@
 ghost use Rattle.std.specs.Prelude.{◌≡◌, ◌≤◌, ◌+◌, ◌++◌, length};
 ghost use Rattle.message_records.specs.declared.limits.TheConstants.{REFERENCE_BYTES};
 ghost use Rattle.report_contents.specs.StatementText.{after_others, heading_line, names_line, posting_line};
-ghost use Rattle.report_contents.specs.StatementText.{closing_line, last_of, line_of, names_of, opening_line};
+ghost use Rattle.report_contents.specs.StatementText.{closing_line, heading_of, last_of, line_of, names_of};
+ghost use Rattle.report_contents.specs.StatementText.{opening_line, styled_line};
 
-use crate::form::Form;
+use crate::form::{Form, Style};
 use crate::lines::{push_delta, push_filled, push_number, push_text};
+use crate::sheet::{sheet_heading, sheet_line};
 use arrayvec::ArrayString;
 use itoa::Buffer;
 use message_records::{Account, Cents, Reference};
 use walked_rows::StatedPosting;
 
 /// The most that a line takes.
-pub const STATEMENT_LINE: usize = 341;
+pub const STATEMENT_LINE: usize = 480;
 
 /// A line of a statement, with its end.
 pub type StatementLine = ArrayString<STATEMENT_LINE>;
@@ -33,8 +35,8 @@ const DELTA: usize = 14;
 
 const BALANCE: usize = 14;
 
-/// The first line: which account it is, in twelve digits.
-pub fn statement_heading(account: Account) -> StatementLine
+// The first line: which account it is, in twelve digits.
+fn statement_heading(account: Account) -> StatementLine
     ensures { result.bytes ≡ heading_line account }
 {
     let mut digits = Buffer::new();
@@ -115,41 +117,60 @@ fn statement_closing(balance: i128) -> StatementLine
     line
 }
 
+impl Style {
+    // The line of a posting with the balance after it.
+    fn line(&self, row: &StatedPosting, balance: Cents) -> StatementLine
+        ensures { result.bytes ≡ styled_line self.now row.now balance }
+    {
+        match self {
+            Style::Sheet { ahead } => sheet_line(*ahead, row, balance),
+            _ => statement_line(row, balance),
+        }
+    }
+}
+
 impl Form {
+    /// The first line: which account it is, in twelve digits; of a sheet the names of its columns.
+    pub fn heading(&self, account: Account) -> StatementLine
+        ensures { result.bytes ≡ heading_of self.now account }
+    {
+        match self.style {
+            Style::Sheet { .. } => sheet_heading(),
+            _ => statement_heading(account),
+        }
+    }
+
     /// What stands between the heading and the postings: the names of the columns; of a range, also the
-    /// balance before it.
+    /// balance before it; of a sheet nothing.
     pub fn names(&self) -> StatementLine
         ensures { result.bytes ≡ names_of self.now }
     {
-        match self {
-            Form::Whole { .. } => statement_names(),
-            Form::Part { opening, .. } => names_and_opening(*opening),
+        match self.style {
+            Style::Whole { .. } => statement_names(),
+            Style::Part { opening, .. } => names_and_opening(opening),
+            Style::Sheet { .. } => ArrayString::new(),
         }
     }
 
-    /// The line of a posting with the balance after it, which is empty where it isn't in the range.
+    /// The line of a posting with the balance after it, which is empty where it isn't selected.
     pub fn line(&self, row: &StatedPosting, balance: Cents) -> StatementLine
         ensures { result.bytes ≡ line_of self.now row.now balance }
     {
-        match self {
-            Form::Whole { .. } => statement_line(row, balance),
-            Form::Part { range, .. } => {
-                if range.has(row) {
-                    statement_line(row, balance)
-                } else {
-                    ArrayString::new()
-                }
-            }
+        if self.selection.has(row) {
+            self.style.line(row, balance)
+        } else {
+            ArrayString::new()
         }
     }
 
-    /// The last line: the balance of the account's row; of a range, the balance at its end.
+    /// The last line: the balance of the account's row; of a range, the balance at its end; of a sheet nothing.
     pub fn closing(&self) -> StatementLine
         ensures { result.bytes ≡ last_of self.now }
     {
-        match self {
-            Form::Whole { balance } => statement_closing(i128::from(balance.get())),
-            Form::Part { closing, .. } => statement_closing(*closing),
+        match self.style {
+            Style::Whole { balance } => statement_closing(i128::from(balance.get())),
+            Style::Part { closing, .. } => statement_closing(closing),
+            Style::Sheet { .. } => ArrayString::new(),
         }
     }
 }

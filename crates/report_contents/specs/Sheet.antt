@@ -1,0 +1,68 @@
+-- The text of a statement as CSV: the times, the amounts and the references of its rows.
+use Rattle.std.specs.Prelude.{ℕ, ℤ, pos, ◌/◌, ◌%◌, ◌==◌, nat_abs, int_lt, List, [], ◌∷◌, ◌++◌, Option, Some, None}
+use Rattle.std.specs.Prelude.{codes, decimal, if◌then◌else◌}
+use Rattle.std.specs.Fmt.{signed_decimal}
+use Rattle.csv.specs.Writing.{default_writer, field_text}
+use Rattle.civil_times.specs.declared.zoned.Date.{Date}
+use Rattle.civil_times.specs.declared.zoned.ZonedTime.{ZonedTime}
+use Rattle.civil_times.specs.Zoned.{zoned_time}
+use Rattle.posting_sheets.specs.declared.money.Money.TheVariants.{Decimals}
+use Rattle.posting_sheets.specs.Replies.{money_text}
+use Rattle.walked_rows.specs.declared.stated.StatedPosting.{StatedPosting}
+use Rattle.report_contents.specs.Lines.{filled_to, line}
+
+-- ---- times, as ISO 8601 writes them
+
+abbrev pub two_digits : ℕ → List ℕ
+two_digits n = filled_to 48 2 (decimal n)
+
+-- as 2026-11-28
+abbrev pub date_text : Date → List ℕ
+date_text d = filled_to 48 4 (decimal d.year) ++ codes "-" ++ two_digits d.month ++ codes "-" ++ two_digits d.day
+
+-- as 09:30:00
+abbrev pub day_time_text : ZonedTime → List ℕ
+day_time_text t = two_digits t.hour ++ codes ":" ++ two_digits t.minute ++ codes ":" ++ two_digits t.second
+
+abbrev pub offset_sign : ℤ → List ℕ
+offset_sign ahead = if int_lt ahead (pos 0) then codes "-" else codes "+"
+
+-- as +01:00
+abbrev pub offset_text : ℤ → List ℕ
+offset_text ahead = offset_sign ahead ++ two_digits (nat_abs ahead / 3600) ++ codes ":"
+    ++ two_digits (nat_abs ahead % 3600 / 60)
+
+-- as 2026-11-28T09:30:00+01:00
+unfoldable pub time_text : ZonedTime → List ℕ
+time_text t = date_text t.date ++ codes "T" ++ day_time_text t ++ offset_text t.ahead
+
+-- ---- references
+
+abbrev pub space_or : ℕ → List ℕ → List ℕ
+space_or c [] = if c == 32 then [] else c ∷ []
+space_or c (d ∷ ds) = c ∷ d ∷ ds
+
+-- a text without the spaces at its end
+abbrev pub trimmed : List ℕ → List ℕ
+trimmed [] = []
+trimmed (c ∷ cs) = space_or c (trimmed cs)
+
+-- the field of a reference, which stands in quotes where it has a comma or a quote
+unfoldable pub reference_field : Option (List ℕ) → List ℕ
+reference_field None = []
+reference_field (Some text) = field_text default_writer (trimmed text)
+
+-- ---- rows
+
+abbrev pub sheet_heading : List ℕ
+sheet_heading = line (codes "account,ordinal,time,teller,branch,amount,balance,reference")
+
+-- a posting by a clock that is so far ahead of UTC, and the running balance with it
+unfoldable pub sheet_line : ℤ → StatedPosting → ℤ → List ℕ
+sheet_line ahead s balance =
+    let r = s.posting in
+    line (signed_decimal r.account ++ codes "," ++ decimal r.ordinal ++ codes ","
+    ++ time_text (zoned_time ahead r.moment) ++ codes ","
+    ++ signed_decimal r.teller ++ codes "," ++ signed_decimal r.branch ++ codes ","
+    ++ money_text Decimals r.delta ++ codes "," ++ money_text Decimals balance ++ codes ","
+    ++ reference_field s.reference)
