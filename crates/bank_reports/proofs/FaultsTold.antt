@@ -6,9 +6,9 @@ use Rattle.posting_rules.specs.{believed.Commands.Command, believed.Counter.Seen
 use Rattle.report_contents.proofs.Written.{nothing_written, on_err_any}
 use Rattle.report_contents.specs.declared.audit.Audit.{Audit}
 use Rattle.bank_reports.specs.declared.fault.ReportFault.{ReportFault, TheVariants.Bank}
-use Rattle.bank_reports.specs.{Audits.Audits, Audits.HasAudited, StatedLines.stated_after, Postings.HasAnswered}
-use Rattle.bank_reports.specs.Statements.{StatesDated}
-use Rattle.report_contents.specs.declared.range.Range.{Range}
+use Rattle.bank_reports.specs.{Audits.Audits, Audits.HasAudited, StatedLines.statement_after, Postings.HasAnswered}
+use Rattle.bank_reports.specs.Statements.{StatesSelected}
+use Rattle.report_contents.specs.declared.query.Query.{Query}
 use Rattle.bank_store.specs.Leaving.{TakesNone}
 use Rattle.bank_reports.proofs.{Further.error_is, ReportEnds.not_missing, ReportEnds.same_fault}
 
@@ -45,15 +45,15 @@ unaudited old new told fault is sound takes = record {
 
 -- ---- a statement of which nothing was written
 
-pub unstated : (old new : Seen) (account : ℕ) (range : Option Range) (w : Option (List ℕ)) (told : Result (Unit {0}) ReportFault)
+pub unstated : (old new : Seen) (account : ℕ) (query : Query) (w : Option (List ℕ)) (told : Result (Unit {0}) ReportFault)
     (fault : Fault) → told ≡ Err (Bank fault)
-    → NeverSound old new fault → TakesNone old new (HasAnswered told) → StatesDated old new account range w w told
-unstated old new account range w told fault is sound takes = record {
+    → NeverSound old new fault → TakesNone old new (HasAnswered told) → StatesSelected old new account query w w told
+unstated old new account query w told fault is sound takes = record {
   text = rw is tt;
   found = rw is tt;
   missing = λ none. absurd (not_missing told fault is none);
   silent = λ none. refl;
-  part = on_err_any told (λ clean log s. nothing_written w (stated_after log account range));
+  part = on_err_any told (λ clean log s. nothing_written w (statement_after log account query));
   sound = λ rule damaged. sound rule (same_fault told fault (Damaged rule) is damaged);
   takes = takes;
 }

@@ -6,7 +6,8 @@ use Rattle.std.proofs.{lemmas.Int.ints, lemmas.List.length-append, lemmas.List.m
 use Rattle.message_records.specs.declared.limits.TheConstants.{MAX_BALANCE}
 use Rattle.posting_rules.specs.believed.{Entries.DecidedRequest, Entries.account_balance, Laws.total}
 use Rattle.walked_rows.specs.declared.stated.StatedPosting.{StatedPosting}
-use Rattle.report_contents.specs.StatementText.{lines_by, posting_line, posting_lines}
+use Rattle.report_contents.specs.StatementText.{line_of, lines_by}
+use Rattle.report_contents.specs.declared.form.Form.{Form}
 use Rattle.report_contents.proofs.OneMore.{total-snoc}
 use Rattle.bank_reports.specs.StatedLines.{is_posted_to, lines_to, postings_to, stated_of}
 use Rattle.bank_reports.specs.Postings.{delta_of, sum_of}
@@ -51,25 +52,26 @@ sum_is_balance a (e ∷ es) = last (is_posted_to a e) (sum_is_balance a es)
     last false earlier = earlier
 
 -- the running balance of a line is the account's balance after it
-pub lines_are : (a : ℕ) (es : List DecidedRequest) → posting_lines (pos 0) (postings_to a es) ≡ lines_to a es
-lines_are a [] = refl
-lines_are a (e ∷ es) = last (is_posted_to a e) refl (lines_are a es)
+pub lines_are : (form : Form) (a : ℕ) (es : List DecidedRequest)
+    → lines_by (line_of form) (pos 0) (postings_to a es) ≡ lines_to form a es
+lines_are form a [] = refl
+lines_are form a (e ∷ es) = last (is_posted_to a e) refl (lines_are form a es)
   where
-    last : (b : Bool) → is_posted_to a e ≡ b → posting_lines (pos 0) (postings_to a es)
-        ≡ lines_to a es
-        → posting_lines (pos 0)
+    last : (b : Bool) → is_posted_to a e ≡ b → lines_by (line_of form) (pos 0) (postings_to a es)
+        ≡ lines_to form a es
+        → lines_by (line_of form) (pos 0)
         (cond b (postings_to a es ++ stated_of (length es + 1) e ∷ []) (postings_to a es))
-        ≡ cond b (lines_to a es
-        ++ posting_line (stated_of (length es + 1) e) (account_balance (e ∷ es) a) ∷ [])
-        (lines_to a es)
+        ≡ cond b (lines_to form a es
+        ++ line_of form (stated_of (length es + 1) e) (account_balance (e ∷ es) a) ∷ [])
+        (lines_to form a es)
     last true is earlier =
-        lines-snoc posting_line (postings_to a es) (stated_of (length es + 1) e)
-        ∙ ap (λ (z : ℤ). posting_lines (pos 0) (postings_to a es)
-        ++ posting_line (stated_of (length es + 1) e) (z +ℤ e.request.delta) ∷ [])
+        lines-snoc (line_of form) (postings_to a es) (stated_of (length es + 1) e)
+        ∙ ap (λ (z : ℤ). lines_by (line_of form) (pos 0) (postings_to a es)
+        ++ line_of form (stated_of (length es + 1) e) (z +ℤ e.request.delta) ∷ [])
         (sum_is_balance a es)
-        ∙ ap (λ l. l ++ posting_line (stated_of (length es + 1) e)
+        ∙ ap (λ l. l ++ line_of form (stated_of (length es + 1) e)
         (account_balance es a +ℤ e.request.delta) ∷ []) earlier
-        ∙ ap (λ (z : ℤ). lines_to a es ++ posting_line (stated_of (length es + 1) e) z ∷ [])
+        ∙ ap (λ (z : ℤ). lines_to form a es ++ line_of form (stated_of (length es + 1) e) z ∷ [])
         (sym (rw is refl))
     last false is earlier = earlier
 

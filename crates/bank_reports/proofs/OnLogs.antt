@@ -9,7 +9,7 @@ use Rattle.std.proofs.{lemmas.List.map-append, lemmas.List.Elements.filter-appen
 use Rattle.sqlite.specs.Effect.{Database}
 use Rattle.posting_rules.specs.declared.rows.ReferenceRow.{ReferenceRow}
 use Rattle.posting_rules.specs.believed.Commands.{Command}
-use Rattle.posting_rules.specs.believed.Entries.{DecidedRequest, is_posted, decided, account_balance}
+use Rattle.posting_rules.specs.believed.Entries.{DecidedRequest, is_posted, decided}
 use Rattle.posting_rules.specs.believed.Tables.{Tables, AreTablesOf, history_key, history_row_of, reference_key}
 use Rattle.posting_rules.specs.believed.Tables.{reference_row, reference_row_of, row_at}
 use Rattle.sql_meanings.specs.believed.Entries.{Entry as Stored}
@@ -23,11 +23,11 @@ use Rattle.walked_rows.specs.Stored.{is_of, is_stated_of, posting_entry, stated_
 use Rattle.walked_rows.proofs.{Joining.paired_filter, Shown.has_history, Shown.has_references}
 use Rattle.walked_rows.proofs.RisingRows.{all-append, rising_keys, rising_once}
 use Rattle.report_contents.specs.Lines.{text_of}
-use Rattle.report_contents.specs.StatementText.{heading_line, last_of, line_of, lines_by, names_line, names_of}
-use Rattle.report_contents.specs.StatementText.{stated_lines, stated_text, closing_line}
-use Rattle.report_contents.specs.declared.form.Form.{Form, TheVariants.Whole}
+use Rattle.report_contents.specs.StatementText.{heading_of, last_of, line_of, lines_by, names_of, stated_lines}
+use Rattle.report_contents.specs.StatementText.{stated_text}
+use Rattle.report_contents.specs.declared.form.Form.{Form}
 use Rattle.report_contents.proofs.Joined.{text_of-append}
-use Rattle.bank_reports.specs.StatedLines.{is_posted_to, postings_to, stated_of, statement_after}
+use Rattle.bank_reports.specs.StatedLines.{is_posted_to, postings_to, stated_of, statement_in}
 use Rattle.bank_reports.specs.Postings.{delta_of, form_lines, sum_of, text_so_far}
 use Rattle.bank_reports.proofs.{Read.posting_back, Read.posting_in, Lined.lines_are}
 use Rattle.bank_reports.proofs.LogHistory.{postings_of, postings_rise, postings_under}
@@ -238,10 +238,10 @@ module _ (a : ℕ) (form : Form) (given : List StatedPosting) where
       sym (text-append (line_of form) (pos 0) given (p ∷ more)) in (
         text_of (later ++ closing),
         ap (λ r. text_so_far a form given r ++ text_of (later ++ closing)) left
-            ∙ ap (λ l. text_of (heading_line a ∷ names_of form ∷ l) ++ text_of (later ++ closing))
+            ∙ ap (λ l. text_of (heading_of form a ∷ names_of form ∷ l) ++ text_of (later ++ closing))
             (append-nil lines)
-            ∙ sym (text_of-append (heading_line a ∷ names_of form ∷ lines) (later ++ closing))
-            ∙ ap (λ l. text_of (heading_line a ∷ names_of form ∷ l))
+            ∙ sym (text_of-append (heading_of form a ∷ names_of form ∷ lines) (later ++ closing))
+            ∙ ap (λ l. text_of (heading_of form a ∷ names_of form ∷ l))
             (sym (append_assoc lines later closing) ∙ ap (λ l. l ++ closing) all),
       )
 
@@ -253,13 +253,11 @@ module _ (a : ℕ) (form : Form) (given : List StatedPosting) where
   text_ends (p ∷ more) left = absurd cc
 
 -- the statement of all postings is that of the log
-pub whole_is : (a : ℕ) (log : List Command) (z : ℤ) → z ≡ account_balance (decided log) a
-    → stated_text a (Whole z) (postings_to a (decided log)) ≡ statement_after log a
-unfolding statement_after stated_text
-whole_is a log z is =
-    ap (λ (z : ℤ). text_of (stated_lines a (Whole z) (postings_to a (decided log)))) is
-    ∙ ap (λ l. text_of (heading_line a ∷ names_line
-    ∷ (l ++ closing_line (account_balance (decided log) a) ∷ []))) (lines_are a (decided log))
+pub form_is : (a : ℕ) (log : List Command) (form : Form)
+    → stated_text a form (postings_to a (decided log)) ≡ statement_in log a form
+unfolding stated_text
+form_is a log form =
+    ap (λ l. text_of (heading_of form a ∷ names_of form ∷ (l ++ last_of form ∷ []))) (lines_are form a (decided log))
 
 -- the postings of an account in a file that shows a log
 pub account_rows : (db : Database) (t : Tables) (log : List Command) (a : ℕ) → Shows db t

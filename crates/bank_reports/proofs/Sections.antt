@@ -4,7 +4,7 @@ use Rattle.std.specs.Io.KnownBytes.{Appends}
 use Rattle.std.proofs.KnownBytes.{Appends-trans}
 use Rattle.walked_rows.specs.{declared.stated.StatedPosting.StatedPosting, Pairs.Pair}
 use Rattle.report_contents.specs.{Lines.text_of, Written.AppendsPart}
-use Rattle.report_contents.specs.StatementText.{heading_line, last_of, names_of}
+use Rattle.report_contents.specs.StatementText.{heading_of, last_of, names_of}
 use Rattle.report_contents.specs.declared.form.Form.{Form}
 use Rattle.report_contents.proofs.Joined.{text_of-append}
 use Rattle.report_contents.proofs.Written.{first_part, same_all, same_part, then_part}
@@ -16,7 +16,7 @@ module _ (account : ℕ) (form : Form) (all : List Pair) (old : Option (List ℕ
   later given rest = text_of (form_lines form given ++ closing_after form rest)
 
   -- the heading failed
-  pub heading_err : (new : Option (List ℕ)) → AppendsPart old new (heading_line account)
+  pub heading_err : (new : Option (List ℕ)) → AppendsPart old new (heading_of form account)
       → WritesStatement account form all old new (Err Write)
   unfolding later
   heading_err new part =
@@ -25,10 +25,10 @@ module _ (account : ℕ) (form : Form) (all : List Pair) (old : Option (List ℕ
         rest = all;
         are = refl;
         why = tt;
-        wrote = first_part old new (heading_line account) (names_of form ++ later [] all) part;
+        wrote = first_part old new (heading_of form account) (names_of form ++ later [] all) part;
       }
 
-  module _ (one : Option (List ℕ)) (heading : Appends old one (heading_line account)) where
+  module _ (one : Option (List ℕ)) (heading : Appends old one (heading_of form account)) where
     -- the names failed
     pub names_err : (new : Option (List ℕ)) → AppendsPart one new (names_of form)
         → WritesStatement account form all old new (Err Write)
@@ -38,7 +38,7 @@ module _ (account : ℕ) (form : Form) (all : List Pair) (old : Option (List ℕ
       rest = all;
       are = refl;
       why = tt;
-      wrote = then_part old one new (heading_line account) (names_of form ++ later [] all) heading
+      wrote = then_part old one new (heading_of form account) (names_of form ++ later [] all) heading
           (first_part one new (names_of form) (later [] all) part);
     }
 
@@ -49,7 +49,7 @@ module _ (account : ℕ) (form : Form) (all : List Pair) (old : Option (List ℕ
           → AppendsPart old new (text_so_far account form given rest)
       unfolding later
       after new given rest part =
-          then_part old one new (heading_line account) (names_of form ++ later given rest) heading
+          then_part old one new (heading_of form account) (names_of form ++ later given rest) heading
           (then_part one two new (names_of form) (later given rest) names part)
 
       -- the postings failed
@@ -100,7 +100,7 @@ module _ (account : ℕ) (form : Form) (all : List Pair) (old : Option (List ℕ
           rest = p.rest;
           are = p.are;
           why = p.why;
-          wrote = Appends-trans old one new (heading_line account) (names_of form ++ later p.given p.rest)
+          wrote = Appends-trans old one new (heading_of form account) (names_of form ++ later p.given p.rest)
               heading
               (Appends-trans one two new (names_of form) (later p.given p.rest) names (same_all two new closes
               (Appends-trans two three new (text_of (form_lines form p.given)) (last_of form)

@@ -18,18 +18,23 @@ use Rattle.walked_rows.specs.Stored.{BreaksStated, stated_pair}
 use Rattle.walked_rows.specs.declared.{stated.StatedPosting.StatedPosting}
 use Rattle.walked_rows.proofs.{RisingRows.all-append, Unbroken.all_after, Unbroken.reads_posting}
 use Rattle.report_contents.specs.Written.{AppendsPart}
-use Rattle.report_contents.specs.StatementText.{part_of, stated_text}
-use Rattle.report_contents.specs.declared.form.Form.{Form, TheVariants.Whole}
+use Rattle.report_contents.specs.StatementText.{form_for, part_of, stated_text, style_for}
+use Rattle.report_contents.specs.declared.form.{Form.Form, Style.TheVariants.Sheet, Style.TheVariants.Whole}
+use Rattle.report_contents.specs.declared.query.Layout.{Layout}
+use Rattle.report_contents.specs.declared.query.Layout.TheVariants as layout
+use Rattle.report_contents.specs.declared.query.{Query.Query, Selection.Selection}
 use Rattle.report_contents.specs.declared.range.Range.{Range}
 use Rattle.report_contents.proofs.Written.{first_part, nothing_written, same_all, same_part}
 use Rattle.bank_reports.specs.declared.fault.ReportFault.{ReportFault, TheVariants.Bank}
-use Rattle.bank_reports.specs.StatedLines.{is_posted_to, postings_to, range_after, stated_after, stated_of}
-use Rattle.bank_reports.specs.Postings.{StopsAtBalance, StopsAtRow, Why, WhyDamaged, WritesDated, WritesStatement}
+use Rattle.bank_reports.specs.StatedLines.{form_after, is_posted_to, postings_to, stated_of, statement_after}
+use Rattle.bank_reports.specs.StatedLines.{statement_in}
+use Rattle.bank_reports.specs.Postings.{StopsAtBalance, StopsAtRow, Why, WhyDamaged, WritesLaid, WritesSelected}
+use Rattle.bank_reports.specs.Postings.{WritesStatement}
 use Rattle.bank_reports.specs.Postings.{delta_of, sum_of}
 use Rattle.bank_reports.specs.Postings.{text_so_far}
 use Rattle.bank_reports.proofs.{LogHistory.each_within}
 use Rattle.bank_reports.proofs.Lined.{AllRunWithin, few_postings, never_beyond, runs_within}
-use Rattle.bank_reports.proofs.OnLogs.{prefix, one_entry, text_begins, text_ends, whole_is}
+use Rattle.bank_reports.proofs.OnLogs.{form_is, prefix, one_entry, text_begins, text_ends}
 use Rattle.bank_reports.proofs.{Further.error_is, ReportEnds.not_ok}
 
 -- ---- the rows can be read
@@ -152,40 +157,80 @@ all_summed ps summed rest are none =
     empty [] e = refl
     empty (s ∷ more) e = absurd cc
 
+-- the text of all postings in the form of what is asked for is that of the log
+selected_is : (a : ℕ) (log : List Command) (query : Query) (form : Form) → form ≡ form_after log a query
+    → stated_text a form (postings_to a (decided log)) ≡ statement_after log a query
+unfolding statement_after
+selected_is a log query form is = form_is a log form ∙ ap (statement_in log a) is
+
+-- the text of the statement of a log, in a form that is that of what is asked for
+record Forms (a : ℕ) (balance : ℤ) (log : List Command) (selection : Selection) (layout : Layout) (range : Option Range)
+    (text : List ℕ) : Type 0 where
+  is : (rows : List StatedPosting) → rows ≡ postings_to a (decided log)
+      → stated_text a (record { selection = selection; style = style_for layout range balance rows })
+      (postings_to a (decided log)) ≡ text
+
 module _ (a : ℕ) (balance : ℤ) (log : List Command) (is : balance ≡ account_balance (decided log) a)
     (all : List Pair)
     (rows : all ≡ map stated_pair (postings_to a (decided log))) (old new : Option (List ℕ)) where
-  summed_is : (range : Range) (summed : List StatedPosting) (rest : List Pair)
-      → map stated_pair summed ++ rest ≡ all → rest ≡ []
-      → stated_text a (part_of range summed) (postings_to a (decided log)) ≡ range_after log a range
-  summed_is range summed rest are none =
-      ap (λ (s : List StatedPosting). stated_text a (part_of range s) (postings_to a (decided log)))
-      (all_summed (postings_to a (decided log)) summed rest (are ∙ rows) none)
+  forms : (query : Query)
+      → Forms a balance log query.selection query.layout query.selection.range (statement_after log a query)
+  forms query = record {
+    is = λ rs same. selected_is a log query _
+        (ap (λ (z : ℤ). form_for query z rs) is ∙ ap (λ (ss : List StatedPosting).
+        form_for query (account_balance (decided log) a) ss) same);
+  }
 
-  -- the statement is that of the log
-  told_whole : (range : Option Range) → WritesDated a balance range all old new (Ok tt)
-      → Appends old new (stated_after log a range)
-  told_whole None w =
-      same_all old new (whole_is a log balance is)
-      (form_whole a (Whole balance) (postings_to a (decided log)) all rows old new w)
-  told_whole (Some range) w = elim w.ends [
-    | inl written ↦ same_all old new (summed_is range w.summed w.rest w.are written.0)
-        (form_whole a (part_of range w.summed) (postings_to a (decided log)) all rows old new written.1)
-    | inr ended ↦ absurd (not_ok _ _ _ refl ended.1)
-  ]
+  module _ (selection : Selection) (text : List ℕ) where
+    -- the statement is that of the log
+    laid_whole : (layout : Layout) (range : Option Range) → Forms a balance log selection layout range text
+        → WritesLaid a balance selection layout range all old new (Ok tt) → Appends old new text
+    laid_whole (layout.Sheet ahead) range f w =
+        same_all old new (f.is _ refl)
+        (form_whole a (record { selection = selection; style = Sheet ahead }) (postings_to a (decided log)) all rows old
+        new w)
+    laid_whole layout.Columns None f w =
+        same_all old new (f.is _ refl)
+        (form_whole a (record { selection = selection; style = Whole balance }) (postings_to a (decided log)) all rows old
+        new w)
+    laid_whole layout.Columns (Some range) f w = elim w.ends [
+      | inl written ↦
+          same_all old new
+          (f.is w.summed (all_summed (postings_to a (decided log)) w.summed w.rest (w.are ∙ rows) written.0))
+          (form_whole a (part_of selection range w.summed) (postings_to a (decided log)) all rows old new written.1)
+      | inr ended ↦ absurd (not_ok _ _ _ refl ended.1)
+    ]
 
-  -- at a fault a prefix of it was written
-  told_part : (range : Option Range) (fault : ReportFault) → WritesDated a balance range all old new (Err fault)
-      → AppendsPart old new (stated_after log a range)
-  told_part None fault w =
-      same_part old new (whole_is a log balance is)
-      (form_part a (Whole balance) (postings_to a (decided log)) all rows old new fault w)
-  told_part (Some range) fault w = elim w.ends [
-    | inl written ↦ same_part old new (summed_is range w.summed w.rest w.are written.0)
-        (form_part a (part_of range w.summed) (postings_to a (decided log)) all rows old new fault written.1)
-    | inr ended ↦ subst (λ (o : Option (List ℕ)). AppendsPart old o (range_after log a range)) (sym ended.3)
-        (nothing_written old (range_after log a range))
-  ]
+    -- at a fault a prefix of it was written
+    laid_part : (layout : Layout) (range : Option Range) (fault : ReportFault)
+        → Forms a balance log selection layout range text
+        → WritesLaid a balance selection layout range all old new (Err fault) → AppendsPart old new text
+    laid_part (layout.Sheet ahead) range fault f w =
+        same_part old new (f.is _ refl)
+        (form_part a (record { selection = selection; style = Sheet ahead }) (postings_to a (decided log)) all rows old
+        new fault w)
+    laid_part layout.Columns None fault f w =
+        same_part old new (f.is _ refl)
+        (form_part a (record { selection = selection; style = Whole balance }) (postings_to a (decided log)) all rows old
+        new fault w)
+    laid_part layout.Columns (Some range) fault f w = elim w.ends [
+      | inl written ↦
+          same_part old new
+          (f.is w.summed (all_summed (postings_to a (decided log)) w.summed w.rest (w.are ∙ rows) written.0))
+          (form_part a (part_of selection range w.summed) (postings_to a (decided log)) all rows old new fault
+          written.1)
+      | inr ended ↦ subst (λ (o : Option (List ℕ)). AppendsPart old o text) (sym ended.3) (nothing_written old text)
+    ]
+
+  told_whole : (query : Query) → WritesSelected a balance query all old new (Ok tt)
+      → Appends old new (statement_after log a query)
+  told_whole query w =
+      laid_whole query.selection (statement_after log a query) query.layout query.selection.range (forms query) w
+
+  told_part : (query : Query) (fault : ReportFault) → WritesSelected a balance query all old new (Err fault)
+      → AppendsPart old new (statement_after log a query)
+  told_part query fault w =
+      laid_part query.selection (statement_after log a query) query.layout query.selection.range fault (forms query) w
 
   -- no damage is told
   no_damage_in : AreCommands log → (given : List StatedPosting) (rest : List Pair) (rule : Rule)
@@ -194,40 +239,46 @@ module _ (a : ℕ) (balance : ℤ) (log : List Command) (is : balance ≡ accoun
       let b = prefix given (postings_to a (decided log)) rest (rows_are ∙ rows) in
       no_damage a log are given b.0 b.1 rest rule b.2 why
 
-  told_sound : AreCommands log → (range : Option Range) (rule : Rule)
-      → WritesDated a balance range all old new (Err (Bank (Damaged rule))) → ⊥
-  told_sound are None rule w = no_damage_in are w.given w.rest rule w.are w.why
-  told_sound are (Some range) rule w = elim w.ends [
+  laid_sound : AreCommands log → (selection : Selection) (layout : Layout) (range : Option Range) (rule : Rule)
+      → WritesLaid a balance selection layout range all old new (Err (Bank (Damaged rule))) → ⊥
+  laid_sound are selection (layout.Sheet ahead) range rule w = no_damage_in are w.given w.rest rule w.are w.why
+  laid_sound are selection layout.Columns None rule w = no_damage_in are w.given w.rest rule w.are w.why
+  laid_sound are selection layout.Columns (Some range) rule w = elim w.ends [
     | inl written ↦ no_damage_in are written.1.given written.1.rest rule written.1.are written.1.why
     | inr ended ↦ no_damage_in are w.summed w.rest rule w.are
         (subst (λ (f : ReportFault). Why w.summed w.rest (Err f)) (sym (error_is _ _ ended.1)) ended.2)
   ]
 
+  told_sound : AreCommands log → (query : Query) (rule : Rule)
+      → WritesSelected a balance query all old new (Err (Bank (Damaged rule))) → ⊥
+  told_sound are query rule w = laid_sound are query.selection query.layout query.selection.range rule w
+
 -- what is told of an account where the bank shows a log
-pub record ToldOfLog (a : ℕ) (log : List Command) (range : Option Range) (old new : Option (List ℕ))
+pub record ToldOfLog (a : ℕ) (log : List Command) (query : Query) (old new : Option (List ℕ))
     (answer : Result (Unit {0}) ReportFault) : Type 0 where
   pub balance : ℤ
   pub is : Some balance ≡ balance_after log a
   pub all : List Pair
   pub rows : all ≡ map stated_pair (postings_to a (decided log))
-  pub told : WritesDated a balance range all old new answer
+  pub told : WritesSelected a balance query all old new answer
   pub commands : AreCommands log
 
-module _ {a : ℕ} {log : List Command} {range : Option Range} {old new : Option (List ℕ)} {answer : Result (Unit {0}) ReportFault}
-    (it : ToldOfLog a log range old new answer) where
+module _ {a : ℕ} {log : List Command} {query : Query} {old new : Option (List ℕ)}
+    {answer : Result (Unit {0}) ReportFault}
+    (it : ToldOfLog a log query old new answer) where
   as_told : (other : Result (Unit {0}) ReportFault) → answer ≡ other
-      → WritesDated a it.balance range it.all old new other
-  as_told other is = subst (λ r. WritesDated a it.balance range it.all old new r) is it.told
+      → WritesSelected a it.balance query it.all old new other
+  as_told other is = subst (λ r. WritesSelected a it.balance query it.all old new r) is it.told
 
-  pub log_whole : answer ≡ Ok tt → Appends old new (stated_after log a range)
+  pub log_whole : answer ≡ Ok tt → Appends old new (statement_after log a query)
   log_whole is =
-      told_whole a it.balance log (balance_is log a it.balance it.is) it.all it.rows old new range (as_told _ is)
+      told_whole a it.balance log (balance_is log a it.balance it.is) it.all it.rows old new query (as_told _ is)
 
-  pub log_part : (fault : ReportFault) → answer ≡ Err fault → AppendsPart old new (stated_after log a range)
+  pub log_part : (fault : ReportFault) → answer ≡ Err fault → AppendsPart old new (statement_after log a query)
   log_part fault is =
-      told_part a it.balance log (balance_is log a it.balance it.is) it.all it.rows old new range fault (as_told _ is)
+      told_part a it.balance log (balance_is log a it.balance it.is) it.all it.rows old new query fault (as_told _ is)
 
   pub log_sound : (rule : Rule) → answer ≡ Err (Bank (Damaged rule)) → ⊥
   log_sound rule is =
-      told_sound a it.balance log (balance_is log a it.balance it.is) it.all it.rows old new it.commands range rule
+      told_sound a it.balance log (balance_is log a it.balance it.is) it.all it.rows old new it.commands query rule
       (as_told _ is)

@@ -1,5 +1,5 @@
 -- What reports of a bank in a file write.
-pub mod Faults
+pub mod ReportFaults
 pub mod Postings
 pub mod StatedLines
 pub mod Files

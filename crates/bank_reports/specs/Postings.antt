@@ -13,9 +13,13 @@ use Rattle.walked_rows.specs.declared.stated.StatedPosting.{StatedPosting}
 use Rattle.walked_rows.specs.Pairs.{Pair}
 use Rattle.walked_rows.specs.Stored.{BreaksStated, is_stated_of, stated_pair}
 use Rattle.report_contents.specs.Lines.{text_of}
-use Rattle.report_contents.specs.StatementText.{heading_line, last_of, line_of, lines_by, names_of, part_of}
+use Rattle.report_contents.specs.StatementText.{heading_of, last_of, line_of, lines_by, names_of, part_of}
 use Rattle.report_contents.specs.declared.form.Form.{Form}
-use Rattle.report_contents.specs.declared.form.Form.TheVariants.{Whole}
+use Rattle.report_contents.specs.declared.form.Style.TheVariants.{Sheet, Whole}
+use Rattle.report_contents.specs.declared.query.Layout.{Layout}
+use Rattle.report_contents.specs.declared.query.Layout.TheVariants as layout
+use Rattle.report_contents.specs.declared.query.Query.{Query}
+use Rattle.report_contents.specs.declared.query.Selection.{Selection}
 use Rattle.report_contents.specs.declared.range.Range.{Range}
 use Rattle.report_contents.specs.declared.range_sums.RangeSums.{RangeSums}
 use Rattle.report_contents.specs.Ranges.{HasSummed}
@@ -104,7 +108,7 @@ closing_after form (p ∷ rest) = []
 -- the statement so far
 abbrev pub text_so_far : ℕ → Form → List StatedPosting → List Pair → List ℕ
 text_so_far account form given rest =
-    text_of (heading_line account ∷ names_of form
+    text_of (heading_of form account ∷ names_of form
     ∷ (form_lines form given ++ closing_after form rest))
 
 -- the same of the whole statement
@@ -122,29 +126,39 @@ abbrev pub EndsBefore : List StatedPosting → List Pair → Option (List ℕ) �
 EndsBefore summed rest old new result =
     (fault : ReportFault) × (result ≡ Err fault) × Why summed rest (Err fault) × (new ≡ old)
 
--- of these rows the first were added, for the balances of a range: all of them, and then the range of them is
--- written, or not all
-pub record WritesPart (account : ℕ) (range : Range) (all : List Pair) (old new : Option (List ℕ))
-    (result : Result (Unit {0}) ReportFault) : Type 0 where
+-- of these rows the first were added, for the balances of a range: all of them, and then what is selected is written,
+-- or not all
+pub record WritesPart (account : ℕ) (selection : Selection) (range : Range) (all : List Pair)
+    (old new : Option (List ℕ)) (result : Result (Unit {0}) ReportFault) : Type 0 where
   pub summed : List StatedPosting
   pub rest : List Pair
   pub are : map stated_pair summed ++ rest ≡ all
-  pub ends : ((rest ≡ []) × WritesStatement account (part_of range summed) all old new result)
+  pub ends : ((rest ≡ []) × WritesStatement account (part_of selection range summed) all old new result)
       ⊎ EndsBefore summed rest old new result
 
--- all is stated of an account that has this balance, or a range
-abbrev pub WritesDated : ℕ → ℤ → Option Range → List Pair → Option (List ℕ) → Option (List ℕ)
+-- the layout says what is written beside the postings
+abbrev pub WritesLaid : ℕ → ℤ → Selection → Layout → Option Range → List Pair → Option (List ℕ) → Option (List ℕ)
     → Result (Unit {0}) ReportFault → Type 0
-WritesDated account balance None all old new result = WritesStatement account (Whole balance) all old new result
-WritesDated account balance (Some range) all old new result = WritesPart account range all old new result
+WritesLaid account balance selection (layout.Sheet ahead) range all old new result =
+    WritesStatement account (record { selection = selection; style = Sheet ahead }) all old new result
+WritesLaid account balance selection layout.Columns None all old new result =
+    WritesStatement account (record { selection = selection; style = Whole balance }) all old new result
+WritesLaid account balance selection layout.Columns (Some range) all old new result =
+    WritesPart account selection range all old new result
+
+-- what is asked for is stated of an account that has this balance
+abbrev pub WritesSelected : ℕ → ℤ → Query → List Pair → Option (List ℕ) → Option (List ℕ)
+    → Result (Unit {0}) ReportFault → Type 0
+WritesSelected account balance query all old new result =
+    WritesLaid account balance query.selection query.layout query.selection.range all old new result
 
 -- so the account's rows of history are written, of these, each with its reference, and then the balance that
--- its own row has; or a range of them is, and then the balance at its end
-abbrev pub StatesRows : Database → ℕ → Option Range → List Pair → Option (List ℕ) → Option (List ℕ)
+-- its own row has; or what is asked for of them is
+abbrev pub StatesRows : Database → ℕ → Query → List Pair → Option (List ℕ) → Option (List ℕ)
     → Result (Unit {0}) ReportFault → Type 0
-StatesRows db account range rows old new result =
+StatesRows db account query rows old new result =
     (balance : ℤ) × IsStoredBalance db account (Some balance)
-    × WritesDated account balance range (filter (is_stated_of (Some account)) rows) old new result
+    × WritesSelected account balance query (filter (is_stated_of (Some account)) rows) old new result
 
 -- all was written, or the writer failed
 abbrev pub HasWritten : Result (Unit {0}) ReportFault → Type 0

@@ -1,14 +1,14 @@
 -- The statement of an account after a log: its posted requests in order, each with the balance after it.
-use Rattle.std.specs.Prelude.{ℕ, ◌+◌, ◌==◌, ◌&&◌, Bool, List, [], ◌∷◌, ◌++◌, length, Option, None, Some, if◌then◌else◌}
+use Rattle.std.specs.Prelude.{ℕ, ◌+◌, ◌==◌, ◌&&◌, Bool, List, [], ◌∷◌, ◌++◌, length, if◌then◌else◌}
 use Rattle.walked_rows.specs.declared.stated.StatedPosting.{StatedPosting}
 use Rattle.posting_rules.specs.believed.Commands.{Command}
 use Rattle.posting_rules.specs.believed.Entries.{DecidedRequest, is_posted, account_balance, decided}
 use Rattle.posting_rules.specs.believed.Tables.{history_row_of}
 use Rattle.report_contents.specs.Lines.{text_of}
 use Rattle.report_contents.specs.Stored.{posting_stored}
-use Rattle.report_contents.specs.StatementText.{heading_line, names_line, part_of, posting_line, stated_text}
-use Rattle.report_contents.specs.StatementText.{closing_line}
-use Rattle.report_contents.specs.declared.range.Range.{Range}
+use Rattle.report_contents.specs.StatementText.{form_for, heading_of, last_of, line_of, names_of}
+use Rattle.report_contents.specs.declared.form.Form.{Form}
+use Rattle.report_contents.specs.declared.query.Query.{Query}
 
 -- a posting under its ordinal, as a file has it, with the reference of its request
 abbrev pub stated_of : ℕ → DecidedRequest → StatedPosting
@@ -29,25 +29,24 @@ postings_to a (e ∷ es) =
     then postings_to a es ++ stated_of (length es + 1) e ∷ []
     else postings_to a es
 
--- their lines, each with the account's balance after it
-abbrev pub lines_to : ℕ → List DecidedRequest → List (List ℕ)
-lines_to a [] = []
-lines_to a (e ∷ es) =
+-- their lines in a form, each with the account's balance after it
+abbrev pub lines_to : Form → ℕ → List DecidedRequest → List (List ℕ)
+lines_to form a [] = []
+lines_to form a (e ∷ es) =
     if is_posted_to a e
-    then lines_to a es ++ posting_line (stated_of (length es + 1) e) (account_balance (e ∷ es) a) ∷ []
-    else lines_to a es
+    then lines_to form a es ++ line_of form (stated_of (length es + 1) e) (account_balance (e ∷ es) a) ∷ []
+    else lines_to form a es
 
--- the statement of an account after a log
-unfoldable pub statement_after : List Command → ℕ → List ℕ
-statement_after log a =
-    text_of (heading_line a ∷ names_line
-    ∷ (lines_to a (decided log) ++ closing_line (account_balance (decided log) a) ∷ []))
+-- the form of what is asked for after a log: with the account's balance, and what is before a range and up to its end
+-- as sums of all postings
+abbrev pub form_after : List Command → ℕ → Query → Form
+form_after log a query = form_for query (account_balance (decided log) a) (postings_to a (decided log))
 
--- of a range of its postings; what is before the range, and what is up to its end, are sums of all of them
-abbrev pub range_after : List Command → ℕ → Range → List ℕ
-range_after log a range = let rows = postings_to a (decided log) in stated_text a (part_of range rows) rows
+-- a statement in a form
+abbrev pub statement_in : List Command → ℕ → Form → List ℕ
+statement_in log a form =
+    text_of (heading_of form a ∷ names_of form ∷ (lines_to form a (decided log) ++ last_of form ∷ []))
 
--- of all of them, or of a range
-abbrev pub stated_after : List Command → ℕ → Option Range → List ℕ
-stated_after log a None = statement_after log a
-stated_after log a (Some range) = range_after log a range
+-- the statement of an account after a log, of what is asked for
+unfoldable pub statement_after : List Command → ℕ → Query → List ℕ
+statement_after log a query = statement_in log a (form_after log a query)

@@ -22,18 +22,19 @@ use Rattle.bank_store.specs.believed.Seen.{bank_seen, connection_of, database_of
 use Rattle.bank_store.specs.declared.bank.Bank.{Bank}
 use Rattle.bank_reports.specs.declared.fault.ReportFault.{ReportFault}
 use Rattle.bank_reports.specs.declared.fault.ReportFault.TheVariants.{Bank as OfBank, NoAccount, Write}
-use Rattle.report_contents.specs.declared.range.Range.{Range}
-use Rattle.bank_reports.specs.StatedLines.{stated_after}
+use Rattle.report_contents.specs.declared.query.Query.{Query}
+use Rattle.report_contents.specs.Queries.{whole_query}
+use Rattle.bank_reports.specs.StatedLines.{statement_after}
 use Rattle.bank_store.specs.Failures.{HasFailedToRead}
 use Rattle.bank_store.specs.Leaving.{TakesNone}
 use Rattle.bank_reports.specs.Postings.{HasAnswered, StatesRows}
 
--- an account of a bank was stated, or a range of it; w and w' are the known bytes of the writer before and after
-pub record StatesDated (old new : Seen) (account : ℕ) (range : Option Range) (w w' : Option (List ℕ))
+-- what is asked for of an account of a bank was stated; w and w' are the known bytes of the writer before and after
+pub record StatesSelected (old new : Seen) (account : ℕ) (query : Query) (w w' : Option (List ℕ))
     (told : Result (Unit {0}) ReportFault) : Type 0 where
   -- the statement after the bank's log was written
   pub text : OnOk told (new.honest → (log : List Command) → ShowsLog old log
-      → Appends w w' (stated_after log account range))
+      → Appends w w' (statement_after log account query))
   -- of an account that is open
   pub found : OnOk told (new.honest → (log : List Command) → ShowsLog old log
       → IsSome (balance_after log account))
@@ -43,7 +44,7 @@ pub record StatesDated (old new : Seen) (account : ℕ) (range : Option Range) (
   pub silent : told ≡ Err NoAccount → w' ≡ w
   -- at a fault a prefix of it was
   pub part : OnErr told (new.honest → (log : List Command) → ShowsLog old log
-      → AppendsPart w w' (stated_after log account range))
+      → AppendsPart w w' (statement_after log account query))
   -- a bank that shows a log is never told to be damaged
   pub sound : (rule : Rule) → told ≡ Err (OfBank (Damaged rule)) → new.honest → (log : List Command)
       → ShowsLog old log → ⊥
@@ -51,20 +52,20 @@ pub record StatesDated (old new : Seen) (account : ℕ) (range : Option Range) (
 
 -- all of it was
 abbrev pub States : Seen → Seen → ℕ → Option (List ℕ) → Option (List ℕ) → Result (Unit {0}) ReportFault → Type 0
-States old new account w w' told = StatesDated old new account None w w' told
+States old new account w w' told = StatesSelected old new account whole_query w w' told
 
--- an account of a file was stated, or a range of it, whatever rows it has
-pub record StatesFileDated {S : Type 0} (g : Ghosts S) (old new : Bank S g) (account : ℕ) (range : Option Range) (w w' : Option (List ℕ))
+-- what is asked for of an account of a file was stated, whatever rows it has
+pub record StatesFileSelected {S : Type 0} (g : Ghosts S) (old new : Bank S g) (account : ℕ) (query : Query) (w w' : Option (List ℕ))
     (told : Result (Unit {0}) ReportFault) : Type 0 where
   -- of the rows of history that the file holds, the account's are written by their ordinals, each with the
   -- reference that is held under its ordinal, all of them or, at a fault, the first, and then the balance
   -- that its row has
   pub rows : told ≢ Err NoAccount → (rows : List Pair)
       → HasPairs (database_of g old) history_table reference_table rows
-      → StatesRows (database_of g old) account range rows w w' told
+      → StatesRows (database_of g old) account query rows w w' told
   -- so are those of a bank's tables, be they of a log or not
   pub tables : told ≢ Err NoAccount → (t : Tables) → (bank_seen g old).tables t
-      → StatesRows (database_of g old) account range
+      → StatesRows (database_of g old) account query
       (paired (map reference_entry t.references) (map history_entry t.history)) w w' told
   -- or the account has no row, and none is due by its branch's count
   pub absent : told ≡ Err NoAccount → IsStoredBalance (database_of g old) account None
@@ -76,7 +77,7 @@ pub record StatesFileDated {S : Type 0} (g : Ghosts S) (old new : Bank S g) (acc
 -- all of it was
 abbrev pub StatesFile : {S : Type 0} (g : Ghosts S) (old new : Bank S g) → ℕ → Option (List ℕ) → Option (List ℕ)
     → Result (Unit {0}) ReportFault → Type 0
-StatesFile g old new account w w' told = StatesFileDated g old new account None w w' told
+StatesFile g old new account w w' told = StatesFileSelected g old new account whole_query w w' told
 
 -- the bank is down after a statement: it refused the balance, or was down before
 pub record RefusesBalance {S : Type 0} (g : Ghosts S) (old new : Bank S g)

@@ -19,7 +19,7 @@ pub enum ReportFault {
 
 impl fmt::Display for ReportFault {
     ghost use Rattle.std.specs.Prelude.{Some};
-    ghost use Rattle.bank_reports.specs.Faults.{report_text};
+    ghost use Rattle.bank_reports.specs.ReportFaults.{report_text};
 
     ghost output = { λ fault. Some (report_text fault) };
 

@@ -2,8 +2,8 @@
 //!
 //! [`audit`] reads every row of the bank once and returns the numbers that TPC-B clause 2 compares.
 //! [`write_statement`] writes the postings of an account by their ordinals, each with the balance after it
-//! and the reference of its request; [`write_dated`] those of a range of time, between two balances.
-//! Both take the rows as the file has them, damaged or not, and change none. The function `first_reports` of
+//! and the reference of its request; [`write_selected`] those of a range of time or of a reference, in columns or as
+//! CSV. All take the rows as the file has them, damaged or not, and change none. The function `first_reports` of
 //! `store_tests`, which a test runs, writes the statement of account 1 and the audit, and returns whether
 //! the books agree:
 //!
@@ -57,5 +57,7 @@ mod sums;
 
 pub use audits::audit;
 pub use fault::ReportFault;
-pub use report_contents::{Audit, BranchLine, BranchLines, Range, WriteFault, write_audit};
-pub use statement::{write_dated, write_statement};
+pub use report_contents::{
+    Audit, BranchLine, BranchLines, Layout, Query, Range, Selection, WriteFault, write_audit,
+};
+pub use statement::{write_selected, write_statement};

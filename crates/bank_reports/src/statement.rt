@@ -11,9 +11,9 @@ ghost use Rattle.bank_store.specs.believed.Seen.{bank_seen, database_of, file_of
 ghost use Rattle.bank_reports.specs.declared.fault.ReportFault.TheVariants.{Bank as OfBank, NoAccount, Write};
 ghost use Rattle.bank_reports.specs.Leaving.{ReadsRows, TellsDown};
 ghost use Rattle.bank_store.specs.Leaving.{CommitsAsFound};
-ghost use Rattle.bank_reports.specs.Postings.{WritesDated, WritesPart, WritesStatement};
-ghost use Rattle.bank_reports.specs.Statements.{LeavesWriter, RefusesBalance, States, StatesDated, StatesFile};
-ghost use Rattle.bank_reports.specs.Statements.{StatesFileDated};
+ghost use Rattle.bank_reports.specs.Postings.{WritesSelected, WritesPart, WritesStatement};
+ghost use Rattle.bank_reports.specs.Statements.{LeavesWriter, RefusesBalance, States, StatesSelected, StatesFile};
+ghost use Rattle.bank_reports.specs.Statements.{StatesFileSelected};
 
 use crate::fault::ReportFault;
 use crate::postings::write_postings;
@@ -22,7 +22,7 @@ use bank_store::Bank;
 use message_records::{Account, Cents};
 use posting_core::Sink;
 use posting_rules::{Counter, Fault};
-use report_contents::{Form, Range, RangeSums, put, put_last, statement_heading};
+use report_contents::{Form, Layout, Query, Range, RangeSums, Selection, Style, put, put_last};
 use sqlite::Alter;
 
 // Writes the statement of an account in a form.
@@ -40,23 +40,24 @@ fn write_lines<S: Alter, W: Sink>(
     ensures flushed { OnOk result (EndsWith IsFlush (W.told writer.old) (W.told writer.new)) }
     ensures failed { result ≡ Err Write → HasWriteFailed (W.told writer.old) (W.told writer.new) }
 {
-    put(writer, statement_heading(account).as_str())?;
+    put(writer, form.heading(account).as_str())?;
     put(writer, form.names().as_str())?;
     write_postings(bank, account, form, writer)?;
     put_last(writer, form.closing().as_str())?;
     Ok(())
 }
 
-// Writes the statement of a range of an account.
+// Writes the statement of what is selected in a range of an account.
 fn write_part<S: Alter, W: Sink>(
     bank: &mut Bank<S>,
     account: Account,
+    selection: Selection,
     range: Range,
     writer: &mut W,
 ) -> Result<(), ReportFault>
     ensures told { HasCleanDisk (file_of bank.new) → (rows : List Pair)
         → HasPairs (database_of S.Store bank.old) history_table reference_table rows
-        → WritesPart account range (filter (is_stated_of (Some account)) rows) (W.contents writer.old)
+        → WritesPart account selection range (filter (is_stated_of (Some account)) rows) (W.contents writer.old)
         (W.contents writer.new) result }
     ensures reads { ReadsRows S.Store bank.old bank.new result }
     ensures flushed { OnOk result (EndsWith IsFlush (W.told writer.old) (W.told writer.new)) }
@@ -64,29 +65,39 @@ fn write_part<S: Alter, W: Sink>(
 {
     let mut sums = RangeSums::none(range);
     sum_postings(bank, account, &mut sums)?;
-    let part = sums.form();
+    let part = Form::of_sums(selection, &sums);
     write_lines(bank, account, &part, writer)
 }
 
-// Writes the statement of an account that has this balance, or of a range of it.
+// Writes what is asked for of an account that has this balance.
 fn write_open<S: Alter, W: Sink>(
     bank: &mut Bank<S>,
     account: Account,
     balance: Cents,
-    range: Option<Range>,
+    query: Query,
     writer: &mut W,
 ) -> Result<(), ReportFault>
     ensures told { HasCleanDisk (file_of bank.new) → (rows : List Pair)
         → HasPairs (database_of S.Store bank.old) history_table reference_table rows
-        → WritesDated account balance range (filter (is_stated_of (Some account)) rows) (W.contents writer.old)
+        → WritesSelected account balance query (filter (is_stated_of (Some account)) rows) (W.contents writer.old)
         (W.contents writer.new) result }
     ensures reads { ReadsRows S.Store bank.old bank.new result }
     ensures flushed { OnOk result (EndsWith IsFlush (W.told writer.old) (W.told writer.new)) }
     ensures failed { result ≡ Err Write → HasWriteFailed (W.told writer.old) (W.told writer.new) }
 {
-    match range {
-        None => write_lines(bank, account, &Form::Whole { balance }, writer),
-        Some(range) => write_part(bank, account, range, writer),
+    let selection = query.selection;
+    match query.layout {
+        Layout::Sheet { ahead } => {
+            let style = Style::Sheet { ahead };
+            write_lines(bank, account, &Form { selection, style }, writer)
+        }
+        Layout::Columns => match selection.range {
+            None => {
+                let style = Style::Whole { balance };
+                write_lines(bank, account, &Form { selection, style }, writer)
+            }
+            Some(range) => write_part(bank, account, selection, range, writer),
+        },
     }
 }
 
@@ -124,26 +135,27 @@ pub fn write_statement<S: Alter + Drop, W: Sink>(
         ((bank.new ≡ bank.old) × (writer.new ≡ writer.old)) }
     ensures leaves { CommitsAsFound S.Store bank.old bank.new }
 {
-    write_dated(bank, account, None, writer)
+    write_selected(bank, account, Query::whole(), writer)
 }
 
-/// Writes the statement of an account, as [`write_statement`], or of the range that is asked for: what the
-/// postings before it add up to, those in it with their running balances, and what the postings up to its end
-/// add up to. Of a range all postings are read twice.
+/// Writes the statement of an account, as [`write_statement`], or what is asked for of it: those of its postings that
+/// are selected, each with the account's running balance. In columns they stand below what all postings before the
+/// range add up to, and above what all up to its end do, for which all postings are read twice; as CSV below the
+/// names of the columns.
 ///
 /// # Errors
 ///
 /// Those of [`write_statement`].
-pub fn write_dated<S: Alter + Drop, W: Sink>(
+pub fn write_selected<S: Alter + Drop, W: Sink>(
     bank: &mut Bank<S>,
     account: Account,
-    range: Option<Range>,
+    query: Query,
     writer: &mut W,
 ) -> Result<(), ReportFault>
-    ensures bank { StatesDated (bank_seen S.Store bank.old) (bank_seen S.Store bank.new) account range
+    ensures bank { StatesSelected (bank_seen S.Store bank.old) (bank_seen S.Store bank.new) account query
         (W.contents writer.old) (W.contents writer.new) result }
     ensures file { (bank_seen S.Store bank.new).honest → ((bank_seen S.Store bank.new).is_down → ⊥)
-        → StatesFileDated S.Store bank.old bank.new account range (W.contents writer.old) (W.contents writer.new)
+        → StatesFileSelected S.Store bank.old bank.new account query (W.contents writer.old) (W.contents writer.new)
         result }
     ensures refused { (bank_seen S.Store bank.new).is_down
         → RefusesBalance S.Store bank.old bank.new result }
@@ -159,5 +171,5 @@ pub fn write_dated<S: Alter + Drop, W: Sink>(
     let Some(balance) = bank.balance(account)? else {
         return Err(ReportFault::NoAccount);
     };
-    write_open(bank, account, balance, range, writer)
+    write_open(bank, account, balance, query, writer)
 }

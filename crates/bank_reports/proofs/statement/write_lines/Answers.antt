@@ -17,7 +17,7 @@ returns-in_err-put g c =
     record {
       told = λ clean rows has.
           rw same (heading_err c.args.account c.args.form.now (filter (is_stated_of (Some c.args.account)) rows) _ _
-          (same_part _ _ (c.as_str.ensures.value ∙ c.statement_heading.ensures) c.in_err-put.ensures.err));
+          (same_part _ _ (c.as_str.ensures.value ∙ c.heading.ensures) c.in_err-put.ensures.err));
       flushed = rw same tt;
       failed = λ write. c.in_err-put.ensures.failed;
       reads = record {
@@ -38,7 +38,7 @@ returns-in_err-put-2 g c =
     record {
       told = λ clean rows has.
           rw same (names_err c.args.account c.args.form.now (filter (is_stated_of (Some c.args.account)) rows) _ _
-          (same_all _ _ (c.as_str.ensures.value ∙ c.statement_heading.ensures) c.in_ok-put.ensures.ok) _
+          (same_all _ _ (c.as_str.ensures.value ∙ c.heading.ensures) c.in_ok-put.ensures.ok) _
           (same_part _ _ (c.as_str-2.ensures.value ∙ c.names.ensures) c.in_err-put-2.ensures.err));
       flushed = rw same tt;
       failed = λ write. later_failed c.in_ok-put.ensures.more c.in_err-put-2.ensures.failed;
@@ -62,7 +62,7 @@ returns-in_err-write_postings g c =
     record {
       told = λ clean rows has.
           rw same (postings_err c.args.account c.args.form.now (filter (is_stated_of (Some c.args.account)) rows) _ _
-          (same_all _ _ (c.as_str.ensures.value ∙ c.statement_heading.ensures) c.in_ok-put.ensures.ok) _
+          (same_all _ _ (c.as_str.ensures.value ∙ c.heading.ensures) c.in_ok-put.ensures.ok) _
           (same_all _ _ (c.as_str-2.ensures.value ∙ c.names.ensures) c.in_ok-put-2.ensures.ok) _
           fault (says.told clean rows has));
       flushed = rw same tt;
@@ -88,7 +88,7 @@ returns-in_err-put_last g c =
     record {
       told = λ clean rows has.
           rw same (closing_err c.args.account c.args.form.now (filter (is_stated_of (Some c.args.account)) rows) _ _
-          (same_all _ _ (c.as_str.ensures.value ∙ c.statement_heading.ensures) c.in_ok-put.ensures.ok) _
+          (same_all _ _ (c.as_str.ensures.value ∙ c.heading.ensures) c.in_ok-put.ensures.ok) _
           (same_all _ _ (c.as_str-2.ensures.value ∙ c.names.ensures) c.in_ok-put-2.ensures.ok) _
           (says.told clean rows has) _
           (same_part _ _ (c.as_str-3.ensures.value ∙ c.closing.ensures)
@@ -115,7 +115,7 @@ returns g c =
     record {
       told = λ clean rows has.
           all_written c.args.account c.args.form.now (filter (is_stated_of (Some c.args.account)) rows) _ _
-          (same_all _ _ (c.as_str.ensures.value ∙ c.statement_heading.ensures) c.in_ok-put.ensures.ok) _
+          (same_all _ _ (c.as_str.ensures.value ∙ c.heading.ensures) c.in_ok-put.ensures.ok) _
           (same_all _ _ (c.as_str-2.ensures.value ∙ c.names.ensures) c.in_ok-put-2.ensures.ok) _
           (says.told clean rows has) _
           (same_all _ _ (c.as_str-3.ensures.value ∙ c.closing.ensures)

@@ -66,7 +66,7 @@ returns g c =
               subst (λ (form : Form). WritesStatement c.args.account form
                   (filter (is_stated_of (Some c.args.account)) rows) (g.W.Sink.contents c.args.writer.now)
                   (g.W.Sink.contents c.write_lines.new.writer) c.write_lines.result)
-                  (c.form-part.ensures c.args.range it.given summed) (second.told clean rows there),
+                  (c.of_sums-part.ensures c.args.range it.given summed) (second.told clean rows there),
             );
           };
       flushed = second.flushed;

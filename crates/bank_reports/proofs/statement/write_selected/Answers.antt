@@ -9,11 +9,11 @@ use Rattle.store_rows.specs.believed.BankTables.{history as history_table, refer
 use Rattle.walked_rows.specs.{Pairs.HasPairs, Pairs.Pair, Stored.is_stated_of}
 use Rattle.bank_store.specs.{believed.Down.OfDamage, Down.WasBroken, believed.Down.bank_reason}
 use Rattle.bank_store.specs.{believed.Seen.bank_seen, believed.Seen.database_of}
-use Rattle.bank_reports.specs.{declared.fault.ReportFault.TheVariants.Bank, StatedLines.stated_after}
+use Rattle.bank_reports.specs.{declared.fault.ReportFault.TheVariants.Bank, StatedLines.statement_after}
 use Rattle.bank_reports.specs.{Postings.StatesRows}
 use Rattle.report_contents.proofs.Written.{nothing_written}
 use Rattle.bank_reports.proofs.FaultsTold.{down_is_sound, unstated}
-use Rattle.bank_reports.proofs.{Passed.failed_later, statement.write_dated.Given.Over}
+use Rattle.bank_reports.proofs.{Passed.failed_later, statement.write_selected.Given.Over}
 use Rattle.bank_reports.proofs.OnLogs.{account_rows, has_stated, stated_rows}
 use Rattle.bank_reports.proofs.ReportEnds.{damaged_not_down, down_not_store, not_both, not_missing, not_write, of_err}
 use Rattle.bank_reports.proofs.ReportEnds.{of_ok, refused_before, refused_down, refused_leaves, refused_sound}
@@ -21,7 +21,7 @@ use Rattle.bank_reports.proofs.ReportEnds.{same_fault, written_of}
 use Rattle.bank_store.proofs.{AsFound.commits_then, AsFound.idle_commits, ReadsLeave.idle_takes, ReadsLeave.reads_after}
 use Rattle.bank_transactions.proofs.Blamed.{comes}
 use Rattle.bank_reports.proofs.StatementReports.{ToldOfLog, log_part, log_sound, log_whole}
-use Rattle.bank_reports.proofs.statement.write_dated.Goals as goal
+use Rattle.bank_reports.proofs.statement.write_selected.Goals as goal
 
 tested_up : (tested is_down : Bool) → tested ≡ is_down → tested ≡ false → is_down ≡ true → ⊥
 tested_up tested is_down same up down = cc
@@ -33,7 +33,7 @@ returns-then-is_down g c =
     let seen = bank_seen g.S.Store c.args.bank.now in
     let was = sym c.is_down.ensures ∙ c.if-is_down.true in
     record {
-      bank = unstated seen seen c.args.account c.args.range (g.W.Sink.contents c.args.writer.now) _ Down refl
+      bank = unstated seen seen c.args.account c.args.query (g.W.Sink.contents c.args.writer.now) _ Down refl
           (down_is_sound seen seen) (idle_takes seen _);
       file = λ clean up. absurd (up was);
       refused = λ down. record {
@@ -70,7 +70,7 @@ returns-in_err-balance g c =
     let tried = λ (is : c.from_residual.result ≡ Err (Bank Down)).
     refused_before fault old new [] says.call.fault (same_fault _ fault Down same is) in
     record {
-      bank = unstated old new c.args.account c.args.range (g.W.Sink.contents c.args.writer.now) _ fault same
+      bank = unstated old new c.args.account c.args.query (g.W.Sink.contents c.args.writer.now) _ fault same
           (λ rule is. refused_sound fault old new [] says.call.fault rule is)
           record {
             done = λ answered. absurd (rw same at answered);
@@ -113,7 +113,7 @@ returns-in_default g c =
         found = tt;
         missing = λ none clean log s. sym (rw c.in_default.is at (says.answer clean log s));
         silent = λ none. refl;
-        part = λ clean log s. nothing_written _ (stated_after log c.args.account c.args.range);
+        part = λ clean log s. nothing_written _ (statement_after log c.args.account c.args.query);
         sound = λ rule is clean log s. not_missing _ _ is refl;
         takes = record {
           done = λ answered. says.call.done;
@@ -158,7 +158,7 @@ rows_at g c clean rows has =
 stated : (g : Over) (c : goal.After-write_open g)
     → HasCleanDisk (state g.S.Store c.write_open.new.bank.conn) → (rows : List Pair)
     → HasPairs (database_of g.S.Store c.args.bank.now) history_table reference_table rows
-    → StatesRows (database_of g.S.Store c.args.bank.now) c.args.account c.args.range rows
+    → StatesRows (database_of g.S.Store c.args.bank.now) c.args.account c.args.query rows
     (g.W.Sink.contents c.args.writer.now) (g.W.Sink.contents c.write_open.new.writer) c.write_open.result
 stated g c clean rows has =
     let balance = rw c.in-Some.is at (c.in_ok-balance.ensures.stored (clean_at g c clean)) in
@@ -168,7 +168,7 @@ stated g c clean rows has =
 told_of : (g : Over) (c : goal.After-write_open g)
     → HasCleanDisk (state g.S.Store c.write_open.new.bank.conn) → (log : List Command)
     → ShowsLog (bank_seen g.S.Store c.args.bank.now) log
-    → ToldOfLog c.args.account log c.args.range (g.W.Sink.contents c.args.writer.now)
+    → ToldOfLog c.args.account log c.args.query (g.W.Sink.contents c.args.writer.now)
     (g.W.Sink.contents c.write_open.new.writer) c.write_open.result
 told_of g c clean log s =
     let mid = clean_at g c clean in
