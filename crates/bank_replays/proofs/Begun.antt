@@ -9,8 +9,8 @@ use Rattle.posting_rules.specs.declared.fault.{Fault.Fault, Rule.Rule}
 use Rattle.posting_rules.specs.declared.fault.Fault.TheVariants.{Damaged, Down, Memory, Store}
 use Rattle.walked_rows.specs.Broken.{HasBroken}
 use Rattle.bank_store.specs.{Failures.HasFailedToRead, believed.Seen.connection_of}
-use Rattle.bank_replays.specs.{Comparing.DiffersAmong, Comparing.DiffersIn, Damaged.Stops, Handing.HandsSome}
-use Rattle.bank_replays.specs.Handing.{Why, refused_of}
+use Rattle.bank_replays.specs.{Comparing.DiffersAmong, Comparing.DiffersIn, Damaged.Stops, Visiting.VisitsSome}
+use Rattle.bank_replays.specs.Visiting.{Why, refused_of}
 use Rattle.bank_replays.specs.declared.fault.ReplayFault.TheVariants.{Bank as OfBank, Write}
 use Rattle.bank_replays.specs.{NextRows.DifferFirst, NextRows.HaveRisingKeys, declared.fault.ReplayFault.ReplayFault}
 use Rattle.bank_replays.specs.declared.difference.{Difference.Difference, Sides.Sides}
@@ -37,20 +37,20 @@ module _ {S R X : Type 0} {g : Ghosts S} {key : X → ℤ} {item : R → X} {is_
     why_of_all WasDown coming (OfBank Down) why = absurd why
     why_of_all WasDown coming (OfBank (Damaged rule)) why = why
 
-    pub hands_of_all : (Took : List R → Type 0) (Part : List R → Option R → ReplayFault → Type 0)
+    pub visits_of_all : (Visited : List R → Type 0) (Part : List R → Option R → ReplayFault → Type 0)
         (WasDown : Type 0) {Clean Later : Type 0} (most : ℕ) (r : Result ℕ ReplayFault)
-        → HandsSome item Took Part (Why Breaks (HasFailedToRead g (connection_of (lent walk)) last) ⊥) Clean
+        → VisitsSome item Visited Part (Why Breaks (HasFailedToRead g (connection_of (lent walk)) last) ⊥) Clean
         (HasItems (database_of g (lent walk))) (λ all. items_to_come key item is_given all walk) most r
         → (Later → Clean)
-        → HandsSome item Took Part (Why Breaks (HasFailedToRead g (connection_of old) new) WasDown) Later
+        → VisitsSome item Visited Part (Why Breaks (HasFailedToRead g (connection_of old) new) WasDown) Later
         (HasItems (database_of g old)) (λ all. all) most r
-    hands_of_all Took Part WasDown most (Ok count) it before = (
+    visits_of_all Visited Part WasDown most (Ok count) it before = (
       it.0,
       it.1,
       it.2,
       λ late all has. it.3 (before late) all (there all has) ∙ ap (take most) (begins.all all has),
     )
-    hands_of_all Took Part WasDown most (Err fault) it before = (
+    visits_of_all Visited Part WasDown most (Err fault) it before = (
       it.0,
       it.1,
       it.2,

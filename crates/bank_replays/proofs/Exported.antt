@@ -15,7 +15,7 @@ use Rattle.walked_rows.proofs.RisingRows.{all-append}
 use Rattle.message_records.specs.believed.Spelling.{request_spelling}
 use Rattle.walked_rows.specs.{KeptRows.BreaksKept, KeptRows.KeptItem, KeptRows.kept_item, declared.kept.KeptRequest.KeptRequest}
 use Rattle.posting_rules.specs.declared.fault.Rule.{Rule}
-use Rattle.bank_replays.specs.{Handing.Bars, Handing.Why, Refusing.RefusesExport}
+use Rattle.bank_replays.specs.{Visiting.Bars, Visiting.Why, Refusing.RefusesExport}
 use Rattle.walked_rows.specs.Requests.{IsRequestRow}
 use Rattle.bank_replays.specs.{Prefixes.memory_is, Prefixes.not_write}
 use Rattle.walked_rows.specs.Requests.{request_in}
@@ -61,11 +61,11 @@ module _ (after : ℕ) where
 -- ---- what is left of the writer, one row more
 
 module _ (after : ℕ) (rows : List KeptRequest) (row : KeptRequest) {old mid : Option (List ℕ)}
-    {t t' : Option (List WriteTold)} (took : WroteRecords after (map kept_item rows) old mid t t') where
+    {t t' : Option (List WriteTold)} (visited : WroteRecords after (map kept_item rows) old mid t t') where
   each_more : IsExported after (kept_item row) → AllByRecursion (IsExported after) (map kept_item (rows ++ row ∷ []))
   each_more is =
       subst (AllByRecursion (IsExported after)) (sym (map-append kept_item rows (row ∷ [])))
-      (all-append (IsExported after) (map kept_item rows) (kept_item row ∷ []) took.each (is, tt))
+      (all-append (IsExported after) (map kept_item rows) (kept_item row ∷ []) visited.each (is, tt))
 
   -- it isn't after the ordinal
   pub records_past : is_after after (kept_item row) ≡ false
@@ -75,8 +75,8 @@ module _ (after : ℕ) (rows : List KeptRequest) (row : KeptRequest) {old mid : 
       same_all old mid
           (sym (append-nil (records_after after (map kept_item rows)))
           ∙ ap (λ (x : List ℕ). records_after after (map kept_item rows) ++ x) (sym (no_record after (kept_item row) is))
-          ∙ records_more after rows row) took.wrote.0,
-      took.wrote.1,
+          ∙ records_more after rows row) visited.wrote.0,
+      visited.wrote.1,
     );
     each = each_more (λ above. absurd (not_both (is_after after (kept_item row)) above is));
   }
@@ -85,8 +85,8 @@ module _ (after : ℕ) (rows : List KeptRequest) (row : KeptRequest) {old mid : 
   pub records_refused : (fault : Fault) → (fault ≡ Memory → ⊥)
       → WroteSomeRecords after (map kept_item rows) (kept_item row ∷ []) old mid t t' (Bank fault)
   records_refused fault other = record {
-    wrote = took.wrote;
-    each = took.each;
+    wrote = visited.wrote;
+    each = visited.each;
     last = λ is. absurd (not_write fault is);
     many = λ is. absurd (other (memory_is fault is));
   }
@@ -100,8 +100,8 @@ module _ (after : ℕ) (rows : List KeptRequest) (row : KeptRequest) {old mid : 
       wrote = (
         same_all old new
             (ap (λ (x : List ℕ). records_after after (map kept_item rows) ++ x) same ∙ record_more after rows row is)
-            (Appends-trans old mid new (records_after after (map kept_item rows)) bytes took.wrote.0 puts.text),
-        more_more took.wrote.1 puts.more,
+            (Appends-trans old mid new (records_after after (map kept_item rows)) bytes visited.wrote.0 puts.text),
+        more_more visited.wrote.1 puts.more,
       );
       each = each_more (λ above. request);
     }
@@ -119,10 +119,10 @@ module _ (after : ℕ) (rows : List KeptRequest) (row : KeptRequest) {old mid : 
             same_part old new
                 (ap (λ (x : List ℕ). records_after after (map kept_item rows) ++ x)
                 (same ∙ sym (one_record after (kept_item row) is)))
-                (then_part old mid new (records_after after (map kept_item rows)) bytes took.wrote.0 puts.text),
-            later_failed took.wrote.1 puts.failed,
+                (then_part old mid new (records_after after (map kept_item rows)) bytes visited.wrote.0 puts.text),
+            later_failed visited.wrote.1 puts.failed,
           );
-          each = took.each;
+          each = visited.each;
           last = λ write. (λ above. request, tt);
           many = λ memory. absurd cc;
         })
@@ -194,15 +194,15 @@ module _ (after : ℕ) (all : List KeptItem) where
   }
 
   module _ {old mid new : Option (List ℕ)} {t t' : Option (List WriteTold)} (items : List KeptItem) (are : items ≡ all)
-      (took : WroteRecords after items old mid t t') where
+      (visited : WroteRecords after items old mid t t') where
     -- all were written, and what comes at the end couldn't be
     pub exports_end : AppendsPart mid new [] → ExportsRows after all old new (Err Write)
     exports_end end = record {
       given = items;
       rest = [];
       are = append-nil items ∙ are;
-      each = took.each;
-      wrote = end_part old mid new (records_after after items) took.wrote.0 end;
+      each = visited.each;
+      wrote = end_part old mid new (records_after after items) visited.wrote.0 end;
       why = tt;
     }
 
@@ -211,8 +211,8 @@ module _ (after : ℕ) (all : List KeptItem) where
       given = items;
       rest = [];
       are = append-nil items ∙ are;
-      each = took.each;
-      wrote = end_wrote old mid new (records_after after items) took.wrote.0 end;
+      each = visited.each;
+      wrote = end_wrote old mid new (records_after after items) visited.wrote.0 end;
       why = refl;
     }
 

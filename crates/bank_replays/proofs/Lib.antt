@@ -10,7 +10,7 @@ pub mod Columns
 pub mod Comparisons
 pub mod Begun
 pub mod GivenBack
-pub mod Hands
+pub mod Visits
 pub mod Whys
 pub mod Refilled
 pub mod SameNumbers

@@ -28,7 +28,7 @@ moment_is moment None e is at = absurd at
 moment_is moment (Some p) e is at = sym is ∙ at
 
 module _ {T W : Type 0} {h : Ghosts T} (first old : Refill T W h) (rows : List KeptRequest) (row : KeptRequest)
-    (took : FollowsRows h first old (map kept_item rows)) where
+    (visited : FollowsRows h first old (map kept_item rows)) where
   module _ (plan : ℕ → Option Terms) (is : IsPlan plan) (es : List DecidedRequest) (are : AreDecided plan es)
       (kept : AreRowsOf (map kept_item (rows ++ row ∷ [])) es) (log : List Command) (sure : IsNeverInDoubt h)
       (holds : Holds h plan log first) (follows : Follows plan [] log) where
@@ -42,7 +42,7 @@ module _ {T W : Type 0} {h : Ghosts T} (first old : Refill T W h) (rows : List K
     are_now = subst (AreDecided plan) more.2 are
 
     abbrev mid : (now : List Command) × Holds h plan now old × Follows plan more.1 now
-    mid = took sure plan more.1 is (decided_before plan more.0 more.1 are_now) more.4 log holds follows
+    mid = visited sure plan more.1 is (decided_before plan more.0 more.1 are_now) more.4 log holds follows
 
     -- it can be read
     pub is_row : IsRowOf (kept_item row) more.0
@@ -86,10 +86,10 @@ module _ {T W : Type 0} {h : Ghosts T} (first old : Refill T W h) (rows : List K
   follows_none_read last none sure plan es is are kept log holds follows =
       absurd (none (is_row plan is es are kept log sure holds follows).is)
 
-  pub took_more : (last : Refill T W h) (result : Result (Unit {0}) ReplayFault)
+  pub visited_more : (last : Refill T W h) (result : Result (Unit {0}) ReplayFault)
       → (ShowsSome h first.bank → OnOk result (ShowsSome h last.bank))
       → OnOk result (FollowsRows h first last (map kept_item (rows ++ row ∷ [])))
       → OnOk result ((ShowsSome h first.bank → ShowsSome h last.bank)
       × FollowsRows h first last (map kept_item (rows ++ row ∷ [])))
-  took_more last (Ok done) shows follows = (shows, follows)
-  took_more last (Err e) shows follows = tt
+  visited_more last (Ok done) shows follows = (shows, follows)
+  visited_more last (Err e) shows follows = tt

@@ -10,11 +10,11 @@ use Rattle.bank_transactions.proofs.Blamed.{comes, then_moment}
 use Rattle.bank_store.specs.{Failures.HasFailedToRead, believed.Seen.bank_seen, believed.Seen.connection_of}
 use Rattle.bank_store.specs.{believed.Seen.database_of, believed.Seen.file_of, declared.bank.Bank.Bank}
 use Rattle.bank_replays.specs.Damaged.{AreHeld, HasBrokenRow, Stops, Tells, TellsWhy, fault_in}
-use Rattle.bank_replays.specs.Handing.{HandsSome, Why, refused_of}
+use Rattle.bank_replays.specs.Visiting.{VisitsSome, Why, refused_of}
 use Rattle.bank_replays.specs.declared.fault.ReplayFault.{ReplayFault, TheVariants.Bank as OfBank, TheVariants.Write}
 use Rattle.bank_replays.specs.{FileTables.FileTables, FileTables.HasTables, Reading.ReadsBank}
 use Rattle.walked_rows.specs.Broken.{HasBroken}
-use Rattle.bank_replays.proofs.{Hands.why_among, Read.clean_before}
+use Rattle.bank_replays.proofs.{Visits.why_among, Read.clean_before}
 
 -- a read that failed later has failed since before
 pub failed_later : {S : Type 0} (g : Ghosts S) (old mid new : Held S) → IsBefore (state g old) (state g mid)
@@ -87,7 +87,7 @@ module _ {S : Type 0} {g : Ghosts S} where
   stop_tells old new f all broken told.Down stops = stops
   stop_tells old new f all broken (told.Damaged rule) stops = broken rule stops
 
--- ---- rows that were handed on
+-- ---- rows that were visited
 
 module _ {S R X : Type 0} {g : Ghosts S} (old new : Bank S g) (item : R → X) (Breaks : Rule → X → Type 0) where
   abbrev WhyNot : List X → ReplayFault → Type 0
@@ -102,13 +102,13 @@ module _ {S R X : Type 0} {g : Ghosts S} (old new : Bank S g) (item : R → X) (
       (why_among item Breaks (HasFailedToRead g (connection_of old) (connection_of new)) (bank_seen g old).is_down
       before coming all are fault why)
 
-  module _ (Took : List R → Type 0) (Part : List R → Option R → ReplayFault → Type 0)
+  module _ (Visited : List R → Type 0) (Part : List R → Option R → ReplayFault → Type 0)
       (HasItems : Database → List X → Type 0) (held : AreHeld HasItems Breaks) where
-    pub handed_why : (most : ℕ) (r : Result ℕ ReplayFault)
-        → HandsSome item Took Part WhyNot (HasCleanDisk (file_of new)) (HasItems (database_of g old)) (λ all. all) most r
+    pub visited_why : (most : ℕ) (r : Result ℕ ReplayFault)
+        → VisitsSome item Visited Part WhyNot (HasCleanDisk (file_of new)) (HasItems (database_of g old)) (λ all. all) most r
         → TellsWhy g fault_in old new r
-    handed_why most (Ok count) it = why_none count
-    handed_why most (Err fault) it = record {
+    visited_why most (Ok count) it = why_none count
+    visited_why most (Err fault) it = record {
       told = λ clean f has.
           let rows = held (database_of g old) f has in
           let more = it.4 clean rows.0 rows.1 in

@@ -8,18 +8,18 @@ use Rattle.posting_core.proofs.Telling.{more_last, more_more}
 use Rattle.posting_rules.specs.declared.{fault.Fault.Fault, fault.Rule.Rule}
 use Rattle.report_contents.specs.Written.{AppendsPart}
 use Rattle.report_contents.proofs.Written.{first_part, later_failed, same_all, same_part, then_part}
-use Rattle.bank_replays.specs.Handing.{IsRefusal}
+use Rattle.bank_replays.specs.Visiting.{IsRefusal}
 use Rattle.bank_replays.specs.Writing.{LeavesWriter, Puts, Wrote, WrotePart}
 use Rattle.bank_replays.specs.declared.fault.ReplayFault.{ReplayFault, TheVariants.Bank, TheVariants.Write}
 
 module _ (old mid new : Option (List ℕ)) {t t' t'' : Option (List WriteTold)} (a b text : List ℕ)
     (wrote : Wrote a old mid t t') (same : a ++ b ≡ text) where
   -- bytes more
-  pub puts_took : (result : Result (Unit {0}) ReplayFault) → Puts b mid new t' t'' result
+  pub puts_visited : (result : Result (Unit {0}) ReplayFault) → Puts b mid new t' t'' result
       → OnOk result (Wrote text old new t t'')
-  puts_took (Ok done) puts =
+  puts_visited (Ok done) puts =
       (same_all old new same (Appends-trans old mid new a b wrote.0 puts.text), more_more wrote.1 puts.more)
-  puts_took (Err fault) puts = tt
+  puts_visited (Err fault) puts = tt
 
   pub puts_part : (result : Result (Unit {0}) ReplayFault) → Puts b mid new t' t'' result
       → IfErr result (λ fault. WrotePart text old new t t'' fault)

@@ -39,7 +39,7 @@ IsDigestOf requests d = (d.requests ≡ length requests) × (d.sha256 ≡ digest
 abbrev pub IsDigestIn : List KeptItem → Digest → Type 0
 IsDigestIn items d = IsDigestOf (map answered_in items) d × AllByRecursion IsAnsweredRow items
 
--- the digest went on, from the one to the other, by these rows
+-- the digest after these rows, by the one before them
 pub record GoesOnBy (first last : Digest) (items : List KeptItem) : Type 0 where
   pub requests : last.requests ≡ length items + first.requests
   pub sha256 : last.sha256 ≡ digest_from first.sha256 (map answered_in items)

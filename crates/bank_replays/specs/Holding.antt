@@ -9,7 +9,7 @@ use Rattle.walked_rows.specs.Stored.{account_of, branch_of, posting_of, request_
 use Rattle.walked_rows.specs.StoredBeside.{floor_of, meta_of}
 use Rattle.sqlite.specs.Effect.{Database}
 use Rattle.posting_rules.specs.declared.fault.Rule.{Rule}
-use Rattle.bank_replays.specs.{Damaged.AreHeld, Damaged.BreaksAnswered, Handing.Bars}
+use Rattle.bank_replays.specs.{Damaged.AreHeld, Damaged.BreaksAnswered, Visiting.Bars}
 use Rattle.bank_replays.specs.Refusing.{RefusesAnswered, RefusesExport}
 use Rattle.walked_rows.specs.Requests.{IsAnsweredRow, IsRequestRow}
 
@@ -37,7 +37,7 @@ floors_held db f has = (f.floors, has.floors, λ rule h. inr (inr (inr (inr (inr
 pub references_held : AreHeld (λ db rows. HasStoredRows db reference rows) (BreaksBy listed_of)
 references_held db f has = (f.references, has.references, λ rule h. inr (inr (inr (inr (inr (inr (inr (inl h))))))))
 
--- ---- rows that are handed on
+-- ---- rows that are visited
 
 -- where others that break it are held
 module _ {X : Type 0} {HasItems : Database → List X → Type 0} {Breaks : Rule → X → Type 0}

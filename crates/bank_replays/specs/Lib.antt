@@ -8,7 +8,7 @@ pub mod NextRows
 pub mod Differences
 pub mod DifferenceText
 pub mod GivenBack
-pub mod Handing
+pub mod Visiting
 pub mod Comparing
 pub mod Damaged
 pub mod Digests

@@ -1,4 +1,4 @@
--- What holds before the first row is handed on, and of a fault of the bank.
+-- What holds before the first row is visited, and of a fault of the bank.
 use Rattle.std.specs.Prelude.{◌≡◌, ◌≤◌, ◌-◌, ◌^◌, ◌++◌, ⊤, ℕ, List, [], ◌∷◌, Option, map}
 use Rattle.std.proofs.Common.{append-nil, refl, sym, subst, arith}
 use Rattle.std.proofs.Math.Nat.{zero-add}
@@ -20,7 +20,7 @@ use Rattle.bank_replays.specs.FollowedRows.{AreRowsOf}
 use Rattle.bank_replays.specs.Following.{Follows}
 use Rattle.bank_replays.specs.Refilling.{FollowsRows, Plans}
 use Rattle.bank_replays.specs.declared.refill.{Planned.Planned, Refill.Refill}
-use Rattle.bank_replays.specs.Handing.{AreTooMany}
+use Rattle.bank_replays.specs.Visiting.{AreTooMany}
 use Rattle.bank_replays.specs.Writing.{WroteRecords, WroteSomeRecords, Wrote, WrotePart}
 use Rattle.bank_replays.specs.declared.chain.Digest.{Digest}
 use Rattle.bank_replays.specs.declared.fault.ReplayFault.{ReplayFault}
@@ -93,9 +93,9 @@ mapped_many rows many = subst (λ (n : ℕ). 2 ^ 64 - 1 ≤ n) (sym (length-map 
 pub records_end : (after : ℕ) (rows : List KeptRequest) {w w' : Option (List ℕ)} {t t' : Option (List WriteTold)}
     (fault : Fault) → (fault ≡ Memory → AreTooMany rows) → WroteRecords after (map kept_item rows) w w' t t'
     → WroteSomeRecords after (map kept_item rows) [] w w' t t' (Bank fault)
-records_end after rows fault many took = record {
-  wrote = took.wrote;
-  each = took.each;
+records_end after rows fault many visited = record {
+  wrote = visited.wrote;
+  each = visited.each;
   last = λ is. tt;
   many = λ is. mapped_many rows (many (memory_is fault is));
 }

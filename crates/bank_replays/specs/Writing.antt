@@ -17,7 +17,7 @@ use Rattle.store_rows.specs.believed.Columns.{number_at}
 use Rattle.walked_rows.specs.KeptRows.{BreaksKept, KeptItem, kept_key}
 use Rattle.walked_rows.specs.Pairs.{row_under}
 use Rattle.walked_rows.specs.declared.floors.StoredFloor.{StoredFloor}
-use Rattle.bank_replays.specs.Handing.{AreTooMany}
+use Rattle.bank_replays.specs.Visiting.{AreTooMany}
 use Rattle.posting_core.specs.believed.LogEntries.{AnsweredRequest}
 use Rattle.walked_rows.specs.Requests.{IsRequestRow, request_in}
 use Rattle.bank_replays.specs.declared.fault.ReplayFault.{ReplayFault}

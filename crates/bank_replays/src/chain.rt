@@ -4,7 +4,7 @@ ghost use Rattle.walked_rows.specs.KeptRows.{kept_item};
 ghost use Rattle.bank_replays.specs.Digests.{GoesOnBy, chained};
 
 use crate::fault::ReplayFault;
-use crate::handed::Hands;
+use crate::visitors::Visitor;
 use message_records::{Reply, Request, encode_reply, encode_request};
 use posting_rules::{Fault, Rule};
 use sha2::{Digest as Hasher, Sha256};
@@ -57,25 +57,25 @@ fn chained(before: &[u8; 32], request: &Request, reply: &Reply, moment: u64) -> 
 /// Requests are digested, one after the other.
 pub(crate) struct Chaining;
 
-impl Hands<KeptRequest, Digest> for Chaining {
+impl Visitor<KeptRequest, Digest> for Chaining {
     ghost use Rattle.bank_replays.specs.Digests.{EndsDigest};
     ghost use Rattle.bank_replays.specs.Holding.{answered_held};
     ghost use Rattle.bank_replays.specs.Prefixes.{digest_ends, none_after};
     ghost use Rattle.bank_replays.specs.Refusing.{RefusesAnswered};
 
-    ghost Took = { λ way first last rows. GoesOnBy first last (map kept_item rows) };
+    ghost Visited = { λ visitor first last rows. GoesOnBy first last (map kept_item rows) };
 
-    ghost Part = { λ way first last rows next fault. EndsDigest first rows fault };
+    ghost Part = { λ visitor first last rows next fault. EndsDigest first rows fault };
 
-    ghost Refuses = { λ way. RefusesAnswered };
+    ghost Refuses = { λ visitor. RefusesAnswered };
 
-    ghost none_yet = { λ way digest. none_after digest };
+    ghost none_yet = { λ visitor digest. none_after digest };
 
-    ghost in_part = { λ way first last rows fault many took. digest_ends first rows fault many };
+    ghost in_part = { λ visitor first last rows fault many visited. digest_ends first rows fault many };
 
-    ghost held = { λ way. answered_held };
+    ghost held = { λ visitor. answered_held };
 
-    fn hand(&self, row: KeptRequest, digest: &mut Digest) -> Result<(), ReplayFault> {
+    fn visit(&self, row: KeptRequest, digest: &mut Digest) -> Result<(), ReplayFault> {
         let Some(request) = request_of(&row) else {
             return Err(NO_REQUEST);
         };

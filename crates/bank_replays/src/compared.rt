@@ -5,14 +5,14 @@ ghost use Rattle.bank_replays.specs.Damaged.{AreHeld};
 ghost use Rattle.bank_replays.specs.NextRows.{AreFirst, HaveRisingKeys, Sets};
 
 use crate::difference::{Difference, Sides};
-use crate::handed::Handed;
+use crate::visitors::SmallRow;
 use walked_rows::{
     StoredAccount, StoredBranch, StoredFloor, StoredMeta, StoredPosting, StoredReference,
     StoredRequest, StoredTeller,
 };
 
 /// A row that is compared with the one that the rules give.
-pub(crate) trait Compared: Handed {
+pub(crate) trait Compared: SmallRow {
     ghost use Rattle.bank_replays.specs.declared.difference.Difference.{Difference};
     ghost use Rattle.bank_replays.specs.declared.difference.Sides.{Sides};
 

@@ -16,7 +16,7 @@ ghost use Rattle.bank_replays.specs.Replays.{HasAnswered};
 
 use crate::chain::{Chaining, Digest};
 use crate::fault::told;
-use crate::handed::{hand_all, hand_first};
+use crate::visitors::{visit_all, visit_first};
 use bank_store::Bank;
 use posting_rules::{Counter, Fault};
 use sqlite::Alter;
@@ -30,7 +30,7 @@ pub(crate) fn digest_all<S: Alter>(bank: &mut Bank<S>) -> Result<Digest, Fault>
     ensures why { TellsWhy S.Store (λ fault. fault) bank.old bank.new result }
 {
     let mut digest = Digest::none();
-    match hand_all::<S, KeptRequest, Digest, Chaining>(bank, &Chaining, &mut digest) {
+    match visit_all::<S, KeptRequest, Digest, Chaining>(bank, &Chaining, &mut digest) {
         Ok(()) => Ok(digest),
         Err(fault) => Err(told(fault)),
     }
@@ -45,7 +45,7 @@ fn digest_first<S: Alter>(bank: &mut Bank<S>, count: u64) -> Result<Digest, Faul
     ensures frugal { result ≢ Err Memory }
 {
     let mut digest = Digest::none();
-    match hand_first::<S, KeptRequest, Digest, Chaining>(bank, count, &Chaining, &mut digest) {
+    match visit_first::<S, KeptRequest, Digest, Chaining>(bank, count, &Chaining, &mut digest) {
         Ok(_) => Ok(digest),
         Err(fault) => Err(told(fault)),
     }

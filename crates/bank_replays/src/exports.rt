@@ -18,7 +18,7 @@ ghost use Rattle.bank_replays.specs.declared.fault.ReplayFault.TheVariants.{Bank
 
 use crate::chain::NO_REQUEST;
 use crate::fault::ReplayFault;
-use crate::handed::{Hands, hand_all};
+use crate::visitors::{Visitor, visit_all};
 use crate::writes::put_bytes;
 use bank_store::Bank;
 use message_records::encode_request;
@@ -41,27 +41,27 @@ pub(crate) struct After {
     after: u64,
 }
 
-impl<W: Sink> Hands<KeptRequest, W> for After {
-    ghost use Rattle.bank_replays.specs.Handing.{refused_of};
+impl<W: Sink> Visitor<KeptRequest, W> for After {
+    ghost use Rattle.bank_replays.specs.Visiting.{refused_of};
     ghost use Rattle.bank_replays.specs.Holding.{export_held};
     ghost use Rattle.bank_replays.specs.Prefixes.{records_end, records_none};
     ghost use Rattle.bank_replays.specs.Refusing.{RefusesExport};
 
-    ghost Took = { λ way first last rows. WroteRecords way.after (map kept_item rows)
+    ghost Visited = { λ visitor first last rows. WroteRecords visitor.after (map kept_item rows)
         (W.contents first) (W.contents last) (W.told first) (W.told last) };
 
-    ghost Part = { λ way first last rows next fault. WroteSomeRecords way.after (map kept_item rows)
+    ghost Part = { λ visitor first last rows next fault. WroteSomeRecords visitor.after (map kept_item rows)
         (refused_of kept_item next) (W.contents first) (W.contents last) (W.told first) (W.told last) fault };
 
-    ghost Refuses = { λ way. RefusesExport way.after };
+    ghost Refuses = { λ visitor. RefusesExport visitor.after };
 
-    ghost none_yet = { λ way writer. records_none way.after (W.contents writer) (W.told writer) };
+    ghost none_yet = { λ visitor writer. records_none visitor.after (W.contents writer) (W.told writer) };
 
-    ghost in_part = { λ way first last rows fault many took. records_end way.after rows fault many took };
+    ghost in_part = { λ visitor first last rows fault many visited. records_end visitor.after rows fault many visited };
 
-    ghost held = { λ way. export_held way.after };
+    ghost held = { λ visitor. export_held visitor.after };
 
-    fn hand(&self, row: KeptRequest, writer: &mut W) -> Result<(), ReplayFault> {
+    fn visit(&self, row: KeptRequest, writer: &mut W) -> Result<(), ReplayFault> {
         if !is_after(&row, self.after) {
             return Ok(());
         }
@@ -86,7 +86,7 @@ fn export_records<S: Alter, W: Sink>(
     ensures writer { LeavesWriter (W.told writer.old) (W.told writer.new) result }
     ensures why { TellsWhy S.Store fault_in bank.old bank.new result }
 {
-    hand_all::<S, KeptRequest, W, After>(bank, &After { after }, writer)?;
+    visit_all::<S, KeptRequest, W, After>(bank, &After { after }, writer)?;
     put_last(writer, "")?;
     Ok(())
 }

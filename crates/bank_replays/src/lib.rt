@@ -42,7 +42,6 @@ mod difference;
 mod digests;
 mod exports;
 mod fault;
-mod handed;
 mod laws;
 mod lines;
 mod logs;
@@ -52,6 +51,7 @@ mod ram;
 mod refill;
 mod replays;
 mod shown;
+mod visitors;
 mod watch;
 mod writes;
 

@@ -22,7 +22,7 @@ ghost use Rattle.bank_replays.specs.declared.fault.ReplayFault.TheVariants.{Bank
 use crate::chain::NO_REQUEST;
 use crate::exports::is_after;
 use crate::fault::{ReplayFault, told};
-use crate::handed::{Hands, hand_all, hand_first};
+use crate::visitors::{Visitor, visit_all, visit_first};
 use crate::writes::put_bytes;
 use bank_store::{Bank, entry_in};
 use posting_core::Sink;
@@ -37,29 +37,29 @@ pub(crate) struct EntriesAfter {
     after: u64,
 }
 
-impl<W: Sink> Hands<KeptRequest, W> for EntriesAfter {
-    ghost use Rattle.bank_replays.specs.Handing.{refused_of};
+impl<W: Sink> Visitor<KeptRequest, W> for EntriesAfter {
+    ghost use Rattle.bank_replays.specs.Visiting.{refused_of};
     ghost use Rattle.bank_replays.specs.Holding.{answered_held};
     ghost use Rattle.bank_replays.specs.Prefixes.{all_part, wrote_none};
     ghost use Rattle.bank_replays.specs.Refusing.{RefusesAnswered};
 
-    ghost Took = { λ way first last rows. Wrote (entries_after way.after (map kept_item rows))
+    ghost Visited = { λ visitor first last rows. Wrote (entries_after visitor.after (map kept_item rows))
         (W.contents first) (W.contents last) (W.told first) (W.told last) };
 
-    ghost Part = { λ way first last rows next fault.
-        WrotePart (entries_after way.after (map kept_item rows) ++ entries_after way.after (refused_of kept_item next))
+    ghost Part = { λ visitor first last rows next fault.
+        WrotePart (entries_after visitor.after (map kept_item rows) ++ entries_after visitor.after (refused_of kept_item next))
         (W.contents first) (W.contents last) (W.told first) (W.told last) fault };
 
-    ghost Refuses = { λ way. RefusesAnswered };
+    ghost Refuses = { λ visitor. RefusesAnswered };
 
-    ghost none_yet = { λ way writer. wrote_none (W.contents writer) (W.told writer) };
+    ghost none_yet = { λ visitor writer. wrote_none (W.contents writer) (W.told writer) };
 
-    ghost in_part = { λ way first last rows fault many took.
-        all_part (W.contents first) (W.contents last) _ _ took fault };
+    ghost in_part = { λ visitor first last rows fault many visited.
+        all_part (W.contents first) (W.contents last) _ _ visited fault };
 
-    ghost held = { λ way. answered_held };
+    ghost held = { λ visitor. answered_held };
 
-    fn hand(&self, row: KeptRequest, writer: &mut W) -> Result<(), ReplayFault> {
+    fn visit(&self, row: KeptRequest, writer: &mut W) -> Result<(), ReplayFault> {
         if !is_after(&row, self.after) {
             return Ok(());
         }
@@ -82,8 +82,8 @@ fn write_entries<S: Alter, W: Sink>(
         → LogsRows after all (W.contents writer.old) (W.contents writer.new) result }
     ensures writer { LeavesWriter (W.told writer.old) (W.told writer.new) (without_count result) }
 {
-    let way = EntriesAfter { after };
-    let count = hand_first::<S, KeptRequest, W, EntriesAfter>(bank, u64::MAX, &way, writer)?;
+    let visitor = EntriesAfter { after };
+    let count = visit_first::<S, KeptRequest, W, EntriesAfter>(bank, u64::MAX, &visitor, writer)?;
     if count == u64::MAX {
         // There would be no room for so many rows.
         return Err(ReplayFault::Bank(Fault::Memory));
@@ -134,25 +134,25 @@ pub fn write_log<S: Alter, W: Sink>(
 // The last row of `meta` is kept.
 struct LastMeta;
 
-impl Hands<StoredMeta, StoredMeta> for LastMeta {
+impl Visitor<StoredMeta, StoredMeta> for LastMeta {
     ghost use Rattle.std.proofs.Common.{refl};
     ghost use Rattle.walked_rows.specs.StoredBeside.{meta_entry};
     ghost use Rattle.bank_replays.specs.Holding.{bars_held, metas_held};
 
-    ghost Took = { λ way first last rows. last.decided ≡ decided_in first.decided rows };
+    ghost Visited = { λ visitor first last rows. last.decided ≡ decided_in first.decided rows };
 
-    ghost Part = { λ way first last rows next fault. ⊤ };
+    ghost Part = { λ visitor first last rows next fault. ⊤ };
 
-    ghost Refuses = { λ way rule row. ⊥ };
+    ghost Refuses = { λ visitor rule row. ⊥ };
 
-    ghost none_yet = { λ way last. refl };
+    ghost none_yet = { λ visitor last. refl };
 
-    ghost in_part = { λ way first last rows fault many took. tt };
+    ghost in_part = { λ visitor first last rows fault many visited. tt };
 
-    ghost held = { λ way. bars_held metas_held meta_entry };
+    ghost held = { λ visitor. bars_held metas_held meta_entry };
 
     #[tactic(auto, using(crate::proofs::Logged::decided_last))]
-    fn hand(&self, row: StoredMeta, last: &mut StoredMeta) -> Result<(), ReplayFault> {
+    fn visit(&self, row: StoredMeta, last: &mut StoredMeta) -> Result<(), ReplayFault> {
         *last = row;
         Ok(())
     }
@@ -176,7 +176,7 @@ fn stored_count<S: Alter>(bank: &mut Bank<S>) -> Result<u64, Fault>
         → IfOk result (λ count. pos count ≡ decided) }
 {
     let mut last = StoredMeta::default();
-    match hand_all::<S, StoredMeta, StoredMeta, LastMeta>(bank, &LastMeta, &mut last) {
+    match visit_all::<S, StoredMeta, StoredMeta, LastMeta>(bank, &LastMeta, &mut last) {
         Ok(()) => counted(&last),
         Err(fault) => Err(told(fault)),
     }

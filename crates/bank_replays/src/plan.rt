@@ -22,8 +22,8 @@ ghost use Rattle.bank_replays.specs.Writing.{line_with, lowest_of, plan_line, pl
 ghost use Rattle.bank_replays.specs.declared.fault.ReplayFault.TheVariants.{Bank as OfBank};
 
 use crate::fault::{ReplayFault, told};
-use crate::handed::{Hands, hand_all};
 use crate::lines::{LINE, Line, NUMBER, push_number};
+use crate::visitors::{Visitor, visit_all};
 use arrayvec::ArrayString;
 use bank_store::Bank;
 use posting_core::Sink;
@@ -73,23 +73,23 @@ fn floor_of(floors: &[StoredFloor], branch: u64) -> Option<i64>
 // Rows are listed.
 struct Listing;
 
-impl Hands<StoredFloor, Vec<StoredFloor>> for Listing {
+impl Visitor<StoredFloor, Vec<StoredFloor>> for Listing {
     ghost use Rattle.std.proofs.Common.{append-nil, sym};
     ghost use Rattle.bank_replays.specs.Holding.{bars_held, floors_held};
 
-    ghost Took = { λ way first last rows. last.items ≡ first.items ++ rows };
+    ghost Visited = { λ visitor first last rows. last.items ≡ first.items ++ rows };
 
-    ghost Part = { λ way first last rows next fault. ⊤ };
+    ghost Part = { λ visitor first last rows next fault. ⊤ };
 
-    ghost Refuses = { λ way rule row. ⊥ };
+    ghost Refuses = { λ visitor rule row. ⊥ };
 
-    ghost none_yet = { λ way floors. sym (append-nil floors.items) };
+    ghost none_yet = { λ visitor floors. sym (append-nil floors.items) };
 
-    ghost in_part = { λ way first last rows fault many took. tt };
+    ghost in_part = { λ visitor first last rows fault many visited. tt };
 
-    ghost held = { λ way. bars_held floors_held floor_entry };
+    ghost held = { λ visitor. bars_held floors_held floor_entry };
 
-    fn hand(&self, row: StoredFloor, floors: &mut Vec<StoredFloor>) -> Result<(), ReplayFault> {
+    fn visit(&self, row: StoredFloor, floors: &mut Vec<StoredFloor>) -> Result<(), ReplayFault> {
         match floors.push(row) {
             Ok(()) => Ok(()),
             Err(_) => Err(ReplayFault::Bank(Fault::Memory)),
@@ -97,7 +97,7 @@ impl Hands<StoredFloor, Vec<StoredFloor>> for Listing {
     }
 }
 
-/// Branches are written as lines, each with its floor of these.
+/// Writes branches as lines, each with its floor from this list.
 #[derive(Drop)]
 pub(crate) struct Lines {
     floors: Vec<StoredFloor>,
@@ -111,30 +111,30 @@ pub(crate) fn plan_line(lines: &Lines, row: &StoredBranch) -> Line
     line_of(row, floor)
 }
 
-impl<W: Sink> Hands<StoredBranch, W> for Lines {
-    ghost use Rattle.bank_replays.specs.Handing.{refused_of};
+impl<W: Sink> Visitor<StoredBranch, W> for Lines {
+    ghost use Rattle.bank_replays.specs.Visiting.{refused_of};
     ghost use Rattle.bank_replays.specs.Holding.{bars_held, branches_held};
     ghost use Rattle.bank_replays.specs.Prefixes.{all_part, wrote_none};
 
-    ghost Took = { λ way first last rows.
-        Wrote (plan_lines (map floor_entry way.floors.items) (map branch_entry rows))
+    ghost Visited = { λ visitor first last rows.
+        Wrote (plan_lines (map floor_entry visitor.floors.items) (map branch_entry rows))
         (W.contents first) (W.contents last) (W.told first) (W.told last) };
 
-    ghost Part = { λ way first last rows next fault.
-        WrotePart (plan_lines (map floor_entry way.floors.items) (map branch_entry rows)
-        ++ plan_lines (map floor_entry way.floors.items) (refused_of branch_entry next))
+    ghost Part = { λ visitor first last rows next fault.
+        WrotePart (plan_lines (map floor_entry visitor.floors.items) (map branch_entry rows)
+        ++ plan_lines (map floor_entry visitor.floors.items) (refused_of branch_entry next))
         (W.contents first) (W.contents last) (W.told first) (W.told last) fault };
 
-    ghost Refuses = { λ way rule row. ⊥ };
+    ghost Refuses = { λ visitor rule row. ⊥ };
 
-    ghost none_yet = { λ way writer. wrote_none (W.contents writer) (W.told writer) };
+    ghost none_yet = { λ visitor writer. wrote_none (W.contents writer) (W.told writer) };
 
-    ghost in_part = { λ way first last rows fault many took.
-        all_part (W.contents first) (W.contents last) _ _ took fault };
+    ghost in_part = { λ visitor first last rows fault many visited.
+        all_part (W.contents first) (W.contents last) _ _ visited fault };
 
-    ghost held = { λ way. bars_held branches_held branch_entry };
+    ghost held = { λ visitor. bars_held branches_held branch_entry };
 
-    fn hand(&self, row: StoredBranch, writer: &mut W) -> Result<(), ReplayFault> {
+    fn visit(&self, row: StoredBranch, writer: &mut W) -> Result<(), ReplayFault> {
         put(writer, plan_line(self, &row).as_str())?;
         Ok(())
     }
@@ -149,7 +149,7 @@ pub(crate) fn floors_of<S: Alter>(bank: &mut Bank<S>) -> Result<Lines, Fault>
     ensures why { TellsWhy S.Store (λ fault. fault) bank.old bank.new result }
 {
     let mut floors = Vec::new(bank.alloc());
-    match hand_all::<S, StoredFloor, Vec<StoredFloor>, Listing>(bank, &Listing, &mut floors) {
+    match visit_all::<S, StoredFloor, Vec<StoredFloor>, Listing>(bank, &Listing, &mut floors) {
         Ok(()) => Ok(Lines { floors }),
         Err(fault) => Err(told(fault)),
     }
@@ -167,7 +167,7 @@ fn write_branches<S: Alter, W: Sink>(bank: &mut Bank<S>, writer: &mut W) -> Resu
 {
     let lines = floors_of(bank)?;
     put(writer, NAMES)?;
-    hand_all::<S, StoredBranch, W, Lines>(bank, &lines, writer)?;
+    visit_all::<S, StoredBranch, W, Lines>(bank, &lines, writer)?;
     put_last(writer, "")?;
     Ok(())
 }

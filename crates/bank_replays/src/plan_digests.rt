@@ -11,8 +11,8 @@ ghost use Rattle.bank_replays.specs.Reading.{ReadsBank};
 ghost use Rattle.bank_replays.specs.Writing.{plan_lines};
 
 use crate::fault::{ReplayFault, told};
-use crate::handed::{Hands, hand_all};
 use crate::plan::{Lines, NAMES, floors_of, plan_line};
+use crate::visitors::{Visitor, visit_all};
 use bank_store::Bank;
 use posting_rules::Fault;
 use sha2::{Digest, Sha256};
@@ -25,24 +25,24 @@ struct Hashing {
     lines: Lines,
 }
 
-impl Hands<StoredBranch, Sha256> for Hashing {
+impl Visitor<StoredBranch, Sha256> for Hashing {
     ghost use Rattle.bank_replays.specs.Holding.{bars_held, branches_held};
     ghost use Rattle.bank_replays.specs.Prefixes.{hashed_none};
 
-    ghost Took = { λ way first last rows. (message : List ℕ) → Holds256 first message
-        → Holds256 last (message ++ plan_lines (map floor_entry way.lines.floors.items) (map branch_entry rows)) };
+    ghost Visited = { λ visitor first last rows. (message : List ℕ) → Holds256 first message
+        → Holds256 last (message ++ plan_lines (map floor_entry visitor.lines.floors.items) (map branch_entry rows)) };
 
-    ghost Part = { λ way first last rows next fault. ⊤ };
+    ghost Part = { λ visitor first last rows next fault. ⊤ };
 
-    ghost Refuses = { λ way rule row. ⊥ };
+    ghost Refuses = { λ visitor rule row. ⊥ };
 
-    ghost none_yet = { λ way hasher. hashed_none hasher };
+    ghost none_yet = { λ visitor hasher. hashed_none hasher };
 
-    ghost in_part = { λ way first last rows fault many took. tt };
+    ghost in_part = { λ visitor first last rows fault many visited. tt };
 
-    ghost held = { λ way. bars_held branches_held branch_entry };
+    ghost held = { λ visitor. bars_held branches_held branch_entry };
 
-    fn hand(&self, row: StoredBranch, hasher: &mut Sha256) -> Result<(), ReplayFault> {
+    fn visit(&self, row: StoredBranch, hasher: &mut Sha256) -> Result<(), ReplayFault> {
         let line = plan_line(&self.lines, &row);
         hasher.update(line.as_str());
         Ok(())
@@ -55,12 +55,12 @@ pub(crate) fn digest_plan<S: Alter>(bank: &mut Bank<S>) -> Result<[u8; 32], Faul
     ensures rows { HasCleanDisk (file_of bank.new) → IfOk result (IsPlanDigestIn (database_of S.Store bank.old)) }
     ensures why { TellsWhy S.Store (λ fault. fault) bank.old bank.new result }
 {
-    let way = Hashing {
+    let visitor = Hashing {
         lines: floors_of(bank)?,
     };
     let mut hasher = Sha256::new();
     hasher.update(NAMES);
-    match hand_all::<S, StoredBranch, Sha256, Hashing>(bank, &way, &mut hasher) {
+    match visit_all::<S, StoredBranch, Sha256, Hashing>(bank, &visitor, &mut hasher) {
         Ok(()) => Ok(hasher.finalize()),
         Err(fault) => Err(told(fault)),
     }

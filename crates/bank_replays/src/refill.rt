@@ -14,7 +14,7 @@ ghost use Rattle.bank_replays.specs.Refilling.{OpensRest, ShowsSome, planned_at}
 ghost use Rattle.bank_replays.specs.declared.fault.ReplayFault.TheVariants.{Bank as OfBank};
 
 use crate::fault::ReplayFault;
-use crate::handed::Hands;
+use crate::visitors::Visitor;
 use crate::watch::Watch;
 use arrayvec::ArrayVec;
 use bank_store::Bank;
@@ -259,26 +259,26 @@ impl<T: Alter + Drop, W: Watch + Drop> Refill<T, W> {
     }
 }
 
-impl<T: Alter + Drop, W: Watch + Drop> Hands<StoredBranch, Refill<T, W>> for Filling {
+impl<T: Alter + Drop, W: Watch + Drop> Visitor<StoredBranch, Refill<T, W>> for Filling {
     ghost use Rattle.walked_rows.specs.Stored.{branch_entry};
     ghost use Rattle.bank_replays.specs.Holding.{bars_held, branches_held};
     ghost use Rattle.bank_replays.specs.Prefixes.{plans_none};
     ghost use Rattle.bank_replays.specs.Refilling.{Plans, with_accounts};
 
-    ghost Took = { λ way first last rows. (ShowsSome T.Store first.bank → ShowsSome T.Store last.bank)
+    ghost Visited = { λ visitor first last rows. (ShowsSome T.Store first.bank → ShowsSome T.Store last.bank)
         × Plans T.Store (λ r. r.branch) with_accounts first last rows };
 
-    ghost Part = { λ way first last rows next fault. ⊤ };
+    ghost Part = { λ visitor first last rows next fault. ⊤ };
 
-    ghost Refuses = { λ way rule row. ⊥ };
+    ghost Refuses = { λ visitor rule row. ⊥ };
 
-    ghost none_yet = { λ way refill. (λ some. some, plans_none (λ r. r.branch) with_accounts refill) };
+    ghost none_yet = { λ visitor refill. (λ some. some, plans_none (λ r. r.branch) with_accounts refill) };
 
-    ghost in_part = { λ way first last rows fault many took. tt };
+    ghost in_part = { λ visitor first last rows fault many visited. tt };
 
-    ghost held = { λ way. bars_held branches_held branch_entry };
+    ghost held = { λ visitor. bars_held branches_held branch_entry };
 
-    fn hand(&self, row: StoredBranch, refill: &mut Refill<T, W>) -> Result<(), ReplayFault> {
+    fn visit(&self, row: StoredBranch, refill: &mut Refill<T, W>) -> Result<(), ReplayFault> {
         let branch = row.branch.get();
         let yet = Planned {
             accounts: row.accounts.get() as u32,
@@ -289,26 +289,26 @@ impl<T: Alter + Drop, W: Watch + Drop> Hands<StoredBranch, Refill<T, W>> for Fil
     }
 }
 
-impl<T: Alter + Drop, W: Watch + Drop> Hands<StoredFloor, Refill<T, W>> for Filling {
+impl<T: Alter + Drop, W: Watch + Drop> Visitor<StoredFloor, Refill<T, W>> for Filling {
     ghost use Rattle.walked_rows.specs.StoredBeside.{floor_entry};
     ghost use Rattle.bank_replays.specs.Holding.{bars_held, floors_held};
     ghost use Rattle.bank_replays.specs.Prefixes.{plans_none};
     ghost use Rattle.bank_replays.specs.Refilling.{Plans, with_floor};
 
-    ghost Took = { λ way first last rows. (ShowsSome T.Store first.bank → ShowsSome T.Store last.bank)
+    ghost Visited = { λ visitor first last rows. (ShowsSome T.Store first.bank → ShowsSome T.Store last.bank)
         × Plans T.Store (λ r. r.branch) with_floor first last rows };
 
-    ghost Part = { λ way first last rows next fault. ⊤ };
+    ghost Part = { λ visitor first last rows next fault. ⊤ };
 
-    ghost Refuses = { λ way rule row. ⊥ };
+    ghost Refuses = { λ visitor rule row. ⊥ };
 
-    ghost none_yet = { λ way refill. (λ some. some, plans_none (λ r. r.branch) with_floor refill) };
+    ghost none_yet = { λ visitor refill. (λ some. some, plans_none (λ r. r.branch) with_floor refill) };
 
-    ghost in_part = { λ way first last rows fault many took. tt };
+    ghost in_part = { λ visitor first last rows fault many visited. tt };
 
-    ghost held = { λ way. bars_held floors_held floor_entry };
+    ghost held = { λ visitor. bars_held floors_held floor_entry };
 
-    fn hand(&self, row: StoredFloor, refill: &mut Refill<T, W>) -> Result<(), ReplayFault> {
+    fn visit(&self, row: StoredFloor, refill: &mut Refill<T, W>) -> Result<(), ReplayFault> {
         let branch = row.branch.get();
         let yet = Planned {
             accounts: planned_at(&refill.planned, branch).accounts,
@@ -328,27 +328,27 @@ fn had_account(row: &KeptRequest) -> bool
         && outcome != i64::from(Outcome::NoAccount.code())
 }
 
-impl<T: Alter + Drop, W: Watch + Drop> Hands<KeptRequest, Refill<T, W>> for Filling {
+impl<T: Alter + Drop, W: Watch + Drop> Visitor<KeptRequest, Refill<T, W>> for Filling {
     ghost use Rattle.std.specs.Prelude.{map};
     ghost use Rattle.walked_rows.specs.KeptRows.{kept_item};
     ghost use Rattle.bank_replays.specs.Holding.{bars_held, read_held};
     ghost use Rattle.bank_replays.specs.Prefixes.{follows_none};
     ghost use Rattle.bank_replays.specs.Refilling.{FollowsRows};
 
-    ghost Took = { λ way first last rows. (ShowsSome T.Store first.bank → ShowsSome T.Store last.bank)
+    ghost Visited = { λ visitor first last rows. (ShowsSome T.Store first.bank → ShowsSome T.Store last.bank)
         × FollowsRows T.Store first last (map kept_item rows) };
 
-    ghost Part = { λ way first last rows next fault. ⊤ };
+    ghost Part = { λ visitor first last rows next fault. ⊤ };
 
-    ghost Refuses = { λ way rule row. ⊥ };
+    ghost Refuses = { λ visitor rule row. ⊥ };
 
-    ghost none_yet = { λ way refill. (λ some. some, follows_none refill) };
+    ghost none_yet = { λ visitor refill. (λ some. some, follows_none refill) };
 
-    ghost in_part = { λ way first last rows fault many took. tt };
+    ghost in_part = { λ visitor first last rows fault many visited. tt };
 
-    ghost held = { λ way. bars_held read_held kept_item };
+    ghost held = { λ visitor. bars_held read_held kept_item };
 
-    fn hand(&self, row: KeptRequest, refill: &mut Refill<T, W>) -> Result<(), ReplayFault> {
+    fn visit(&self, row: KeptRequest, refill: &mut Refill<T, W>) -> Result<(), ReplayFault> {
         refill.reach(&row);
         let Some(request) = request_of(&row) else {
             return Ok(());

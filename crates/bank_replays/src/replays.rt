@@ -22,10 +22,10 @@ use crate::comparing::compare_all;
 use crate::difference::{Agreed, Replay};
 use crate::digests::digest_all;
 use crate::fault::{ReplayFault, told};
-use crate::handed::hand_all;
 use crate::plan_digests::digest_plan;
 use crate::ram::Ram;
 use crate::refill::{Filling, Refill};
+use crate::visitors::visit_all;
 use crate::watch::Watch;
 use bank_store::{Bank, Refused, create};
 use posting_rules::Fault;
@@ -45,9 +45,9 @@ fn fill<S: Alter, T: Alter + Drop, W: Watch + Drop>(
         → ShowsLog (bank_seen T.Store refill.old.bank) []
         → OnOk result (ShowsSameRows S.Store T.Store bank.old refill.new.bank) }
 {
-    hand_all::<S, StoredBranch, Refill<T, W>, Filling>(bank, &Filling, refill)?;
-    hand_all::<S, StoredFloor, Refill<T, W>, Filling>(bank, &Filling, refill)?;
-    hand_all::<S, KeptRequest, Refill<T, W>, Filling>(bank, &Filling, refill)?;
+    visit_all::<S, StoredBranch, Refill<T, W>, Filling>(bank, &Filling, refill)?;
+    visit_all::<S, StoredFloor, Refill<T, W>, Filling>(bank, &Filling, refill)?;
+    visit_all::<S, KeptRequest, Refill<T, W>, Filling>(bank, &Filling, refill)?;
     refill.finish()
 }
 

@@ -5,10 +5,10 @@ use Rattle.bank_replays.proofs.{Begun.differs_of_all, Begun.stops_of_all, Whys.s
 use Rattle.bank_replays.proofs.comparing.compare.Goals as goal
 
 pub each_row-requires : goal.each_row-requires
-each_row-requires g c = walk_fits g.row.R g.met.R.Handed.few_bytes
+each_row-requires g c = walk_fits g.row.R g.met.R.SmallRow.few_bytes
 
 pub each_row-requires-2 : goal.each_row-requires-2
-each_row-requires-2 g c = walk_fits g.row.R g.met.R.Handed.few_bytes
+each_row-requires-2 g c = walk_fits g.row.R g.met.R.SmallRow.few_bytes
 
 pub returns : goal.returns
 returns g c = record {

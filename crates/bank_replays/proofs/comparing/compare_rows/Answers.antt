@@ -4,7 +4,7 @@ use Rattle.std.proofs.lemmas.Result.{err_from_is_err_and}
 use Rattle.posting_rules.specs.declared.fault.Fault.TheVariants.{Memory}
 use Rattle.bank_transactions.proofs.Blamed.{comes}
 use Rattle.bank_replays.proofs.Comparisons.{along_more, not_none, ok_not_err, same_end, same_step}
-use Rattle.bank_replays.proofs.Hands.{why_among, why_stopped}
+use Rattle.bank_replays.proofs.Visits.{why_among, why_stopped}
 use Rattle.bank_replays.proofs.Comparisons.{one_difference, some_not_none}
 use Rattle.bank_replays.proofs.FirstDifference.{so_far_more, so_far_same, told_first}
 use Rattle.bank_replays.specs.declared.difference.Difference.{Difference}

@@ -1,4 +1,4 @@
--- All rows were handed on to the digest of none.
+-- All rows were visited to the digest of none.
 use Rattle.std.proofs.Common.{sym}
 use Rattle.bank_replays.proofs.{Chained.digest_is, Read.read_any, Read.read_fails, Whys.why_err, Whys.why_none}
 use Rattle.bank_replays.proofs.digests.digest_all.Goals as goal
@@ -9,9 +9,9 @@ returns-in-Ok g c =
     record {
       bank = read_any it.bank _;
       rows = λ clean all has.
-          digest_is c.none-digest.result c.hand_all.new.taker _ all c.none-digest.ensures.requests
-          c.none-digest.ensures.sha256 it.hands.1 (it.hands.2 clean all has);
-      why = why_none c.hand_all.new.taker;
+          digest_is c.none-digest.result c.visit_all.new.target _ all c.none-digest.ensures.requests
+          c.none-digest.ensures.sha256 it.visits.1 (it.visits.2 clean all has);
+      why = why_none c.visit_all.new.target;
     }
 
 pub returns-in-Err : goal.returns-in-Err

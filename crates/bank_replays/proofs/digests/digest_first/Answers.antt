@@ -10,9 +10,9 @@ returns-in-Ok g c =
     record {
       bank = read_any it.bank _;
       rows = λ clean all has.
-          digest_is c.none-digest.result c.hand_first.new.taker _ _ c.none-digest.ensures.requests
-          c.none-digest.ensures.sha256 it.hands.1 (it.hands.3 clean all has);
-      why = why_none c.hand_first.new.taker;
+          digest_is c.none-digest.result c.visit_first.new.target _ _ c.none-digest.ensures.requests
+          c.none-digest.ensures.sha256 it.visits.1 (it.visits.3 clean all has);
+      why = why_none c.visit_first.new.target;
       frugal = λ is. absurd cc;
     }
 
@@ -24,6 +24,6 @@ returns-in-Err g c =
       rows = λ clean all has. tt;
       why = why_err c.in-Err.fault _ (sym c.told.ensures) it.why;
       frugal = λ is.
-          digest_frugal c.none-digest.result it.hands.0 c.args.count c.in-Err.fault (omega (arith, c.ranges.count.fits)) c.none-digest.ensures.requests
-          it.hands.2 it.hands.3 (sym c.told.ensures ∙ err_is _ _ is);
+          digest_frugal c.none-digest.result it.visits.0 c.args.count c.in-Err.fault (omega (arith, c.ranges.count.fits)) c.none-digest.ensures.requests
+          it.visits.2 it.visits.3 (sym c.told.ensures ∙ err_is _ _ is);
     }

@@ -1,4 +1,4 @@
--- The one row of `meta` was handed on.
+-- The one row of `meta` was visited.
 use Rattle.std.proofs.Common.{◌∙◌}
 use Rattle.std.proofs.lemmas.Result.{IfOk-weaker}
 use Rattle.bank_replays.proofs.{Logged.one_decided, Read.read_any, Read.read_fails}
@@ -11,7 +11,7 @@ returns-in-Ok g c =
       bank = read_any it.bank _;
       rows = λ clean version decided has.
           IfOk-weaker c.counted.result _ _
-          (λ count is. is ∙ it.hands.1 ∙ one_decided _ version decided it.hands.0 (it.hands.2 clean _ has))
+          (λ count is. is ∙ it.visits.1 ∙ one_decided _ version decided it.visits.0 (it.visits.2 clean _ has))
           c.counted.ensures;
     }
 

@@ -4,9 +4,9 @@ use Rattle.std.proofs.lemmas.List.{length-map, take-append-drop}
 use Rattle.posting_rules.specs.declared.fault.Fault.TheVariants.{Memory}
 use Rattle.walked_rows.specs.KeptRows.{KeptItem, kept_item}
 use Rattle.report_contents.proofs.Written.{later_failed, same_all, same_part, whole_part}
-use Rattle.bank_replays.specs.{Handing.refused_of, Logs.entries_after}
+use Rattle.bank_replays.specs.{Visiting.refused_of, Logs.entries_after}
 use Rattle.bank_replays.specs.declared.fault.ReplayFault.TheVariants.{Write}
-use Rattle.bank_replays.proofs.{Hands.whole, Logged.entries-append, Logged.entries_of_part}
+use Rattle.bank_replays.proofs.{Visits.whole, Logged.entries-append, Logged.entries_of_part}
 use Rattle.bank_replays.proofs.Wrote.{bank_err, end_part, end_wrote, writer_err, writer_ok}
 use Rattle.bank_replays.proofs.logs.write_entries.Goals as goal
 
@@ -14,7 +14,7 @@ pub returns-in_err-count-clause-rows : goal.returns-in_err-count-clause-rows
 returns-in_err-count-clause-rows g c clean all has =
     let fault = c.in_err-count.field-0.0 in
     let same : c.from_residual.result ≡ Err fault = search rules in
-    let it = c.in_err-count.ensures.hands in
+    let it = c.in_err-count.ensures.visits in
     let more = it.4 clean all has in
     let given = map kept_item it.0 in
     let next = refused_of kept_item it.1 in
@@ -28,11 +28,11 @@ pub returns-in_err-count-clause-writer : goal.returns-in_err-count-clause-writer
 returns-in_err-count-clause-writer g c =
     let fault = c.in_err-count.field-0.0 in
     let same : c.from_residual.result ≡ Err fault = search rules in
-    rw same (writer_err fault c.in_err-count.ensures.hands.2.1)
+    rw same (writer_err fault c.in_err-count.ensures.visits.2.1)
 
 pub returns-then-count-clause-rows : goal.returns-then-count-clause-rows
 returns-then-count-clause-rows g c clean all has =
-    let it = c.in_ok-count.ensures.hands in
+    let it = c.in_ok-count.ensures.visits in
     let most = 2 ^ 64 - 1 in
     let are = ap (λ (l : List KeptItem). l ++ drop most all) (it.3 clean all has) ∙ take-append-drop most all in
     record {
@@ -47,7 +47,7 @@ returns-then-count-clause-writer g c = bank_err Memory
 pub returns-in_err-put_last-clause-rows : goal.returns-in_err-put_last-clause-rows
 returns-in_err-put_last-clause-rows g c clean all has =
     let same : c.from_residual-in_err-put_last.result ≡ Err Write = search rules in
-    let it = c.in_ok-count.ensures.hands in
+    let it = c.in_ok-count.ensures.visits in
     let are = whole (2 ^ 64 - 1) (map kept_item it.0) all (it.3 clean all has)
     (λ is. c.if-count.false (sym (length-map it.0 kept_item ∙ it.2) ∙ is)) in
     rw same (record {
@@ -59,11 +59,11 @@ returns-in_err-put_last-clause-rows g c clean all has =
 pub returns-in_err-put_last-clause-writer : goal.returns-in_err-put_last-clause-writer
 returns-in_err-put_last-clause-writer g c =
     let same : c.from_residual-in_err-put_last.result ≡ Err Write = search rules in
-    rw same (writer_err Write (λ is. later_failed c.in_ok-count.ensures.hands.1.1 c.in_err-put_last.ensures.failed))
+    rw same (writer_err Write (λ is. later_failed c.in_ok-count.ensures.visits.1.1 c.in_err-put_last.ensures.failed))
 
 pub returns-clause-rows : goal.returns-clause-rows
 returns-clause-rows g c clean all has =
-    let it = c.in_ok-count.ensures.hands in
+    let it = c.in_ok-count.ensures.visits in
     let are = whole (2 ^ 64 - 1) (map kept_item it.0) all (it.3 clean all has)
     (λ is. c.if-count.false (sym (length-map it.0 kept_item ∙ it.2) ∙ is)) in
     record {
@@ -72,4 +72,4 @@ returns-clause-rows g c clean all has =
     }
 
 pub returns-clause-writer : goal.returns-clause-writer
-returns-clause-writer g c = writer_ok c.in_ok-count.ensures.hands.1.1 c.in_ok-put_last.ensures.flushed
+returns-clause-writer g c = writer_ok c.in_ok-count.ensures.visits.1.1 c.in_ok-put_last.ensures.flushed

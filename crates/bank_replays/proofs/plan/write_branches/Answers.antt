@@ -4,7 +4,7 @@ use Rattle.posting_core.proofs.Telling.{more_more}
 use Rattle.store_rows.specs.believed.BankTables.{branch as branch_table}
 use Rattle.walked_rows.specs.{Rows.HasStoredRows, Stored.branch_entry, StoredBeside.floor_entry}
 use Rattle.report_contents.proofs.Written.{first_part, later_failed}
-use Rattle.bank_replays.specs.{Handing.refused_of, Writing.plan_lines, Writing.plan_names}
+use Rattle.bank_replays.specs.{Visiting.refused_of, Writing.plan_lines, Writing.plan_names}
 use Rattle.bank_replays.specs.declared.fault.ReplayFault.TheVariants.{Bank, Write}
 use Rattle.bank_replays.proofs.Planned.{plan_all, plan_end, plan_part}
 use Rattle.bank_replays.proofs.{Read.clean_before, Whys.why_err, Whys.why_memory, Whys.why_none, Whys.why_then}
@@ -22,57 +22,57 @@ returns-in_err-put-clause-rows g c clean floors branches has_floors has =
     let same : c.from_residual-in_err-put.result ≡ Err Write = search rules in
     rw same (first_part _ _ plan_names (plan_lines floors branches) c.in_err-put.ensures.err)
 
-pub returns-in_err-hand_all-clause-rows : goal.returns-in_err-hand_all-clause-rows
-returns-in_err-hand_all-clause-rows g c clean floors branches has_floors has =
-    let fault = c.in_err-hand_all.field-0.0 in
-    let same : c.from_residual-in_err-hand_all.result ≡ Err fault = search rules in
+pub returns-in_err-visit_all-clause-rows : goal.returns-in_err-visit_all-clause-rows
+returns-in_err-visit_all-clause-rows g c clean floors branches has_floors has =
+    let fault = c.in_err-visit_all.field-0.0 in
+    let same : c.from_residual-in_err-visit_all.result ≡ Err fault = search rules in
     let one = c.in_ok-lines.ensures in
-    let two = c.in_err-hand_all.ensures in
+    let two = c.in_err-visit_all.ensures in
     let before = clean_before two.bank clean in
     let there = subst (λ db. HasStoredRows db branch_table branches) (sym (one.bank.still before).0) has in
-    let more = two.hands.4 clean branches there in
-    rw same (plan_part _ _ (map floor_entry c.in_ok-lines.lines.floors.items) floors (map branch_entry two.hands.0)
-    branches (one.rows before floors has_floors) c.in_ok-put.ensures.ok _ (refused_of branch_entry two.hands.1) more.0
-    more.1 two.hands.2.0)
+    let more = two.visits.4 clean branches there in
+    rw same (plan_part _ _ (map floor_entry c.in_ok-lines.lines.floors.items) floors (map branch_entry two.visits.0)
+    branches (one.rows before floors has_floors) c.in_ok-put.ensures.ok _ (refused_of branch_entry two.visits.1) more.0
+    more.1 two.visits.2.0)
 
-pub returns-in_err-hand_all-clause-writer : goal.returns-in_err-hand_all-clause-writer
-returns-in_err-hand_all-clause-writer g c =
-    let fault = c.in_err-hand_all.field-0.0 in
-    let same : c.from_residual-in_err-hand_all.result ≡ Err fault = search rules in
+pub returns-in_err-visit_all-clause-writer : goal.returns-in_err-visit_all-clause-writer
+returns-in_err-visit_all-clause-writer g c =
+    let fault = c.in_err-visit_all.field-0.0 in
+    let same : c.from_residual-in_err-visit_all.result ≡ Err fault = search rules in
     rw same (writer_err fault
-    (λ is. later_failed c.in_ok-put.ensures.more (c.in_err-hand_all.ensures.hands.2.1 is)))
+    (λ is. later_failed c.in_ok-put.ensures.more (c.in_err-visit_all.ensures.visits.2.1 is)))
 
 pub returns-in_err-put_last-clause-rows : goal.returns-in_err-put_last-clause-rows
 returns-in_err-put_last-clause-rows g c clean floors branches has_floors has =
     let same : c.from_residual-in_err-put_last.result ≡ Err Write = search rules in
     let one = c.in_ok-lines.ensures in
-    let two = c.in_ok-hand_all.ensures in
+    let two = c.in_ok-visit_all.ensures in
     let before = clean_before two.bank clean in
     let there = subst (λ db. HasStoredRows db branch_table branches) (sym (one.bank.still before).0) has in
-    rw same (plan_end _ _ (map floor_entry c.in_ok-lines.lines.floors.items) floors (map branch_entry two.hands.0)
-    branches (one.rows before floors has_floors) c.in_ok-put.ensures.ok _ _ (two.hands.2 clean branches there)
-    two.hands.1.0 c.in_err-put_last.ensures.err)
+    rw same (plan_end _ _ (map floor_entry c.in_ok-lines.lines.floors.items) floors (map branch_entry two.visits.0)
+    branches (one.rows before floors has_floors) c.in_ok-put.ensures.ok _ _ (two.visits.2 clean branches there)
+    two.visits.1.0 c.in_err-put_last.ensures.err)
 
 pub returns-in_err-put_last-clause-writer : goal.returns-in_err-put_last-clause-writer
 returns-in_err-put_last-clause-writer g c =
     let same : c.from_residual-in_err-put_last.result ≡ Err Write = search rules in
     rw same (writer_err Write (λ is.
-    later_failed (more_more c.in_ok-put.ensures.more c.in_ok-hand_all.ensures.hands.1.1)
+    later_failed (more_more c.in_ok-put.ensures.more c.in_ok-visit_all.ensures.visits.1.1)
     c.in_err-put_last.ensures.failed))
 
 pub returns-clause-rows : goal.returns-clause-rows
 returns-clause-rows g c clean floors branches has_floors has =
     let one = c.in_ok-lines.ensures in
-    let two = c.in_ok-hand_all.ensures in
+    let two = c.in_ok-visit_all.ensures in
     let before = clean_before two.bank clean in
     let there = subst (λ db. HasStoredRows db branch_table branches) (sym (one.bank.still before).0) has in
-    plan_all _ _ (map floor_entry c.in_ok-lines.lines.floors.items) floors (map branch_entry two.hands.0)
-    branches (one.rows before floors has_floors) c.in_ok-put.ensures.ok _ _ (two.hands.2 clean branches there)
-    two.hands.1.0 c.in_ok-put_last.ensures.ok
+    plan_all _ _ (map floor_entry c.in_ok-lines.lines.floors.items) floors (map branch_entry two.visits.0)
+    branches (one.rows before floors has_floors) c.in_ok-put.ensures.ok _ _ (two.visits.2 clean branches there)
+    two.visits.1.0 c.in_ok-put_last.ensures.ok
 
 pub returns-clause-writer : goal.returns-clause-writer
 returns-clause-writer g c =
-    writer_ok (more_more c.in_ok-put.ensures.more c.in_ok-hand_all.ensures.hands.1.1) c.in_ok-put_last.ensures.flushed
+    writer_ok (more_more c.in_ok-put.ensures.more c.in_ok-visit_all.ensures.visits.1.1) c.in_ok-put_last.ensures.flushed
 
 -- ---- why not all were written
 
@@ -87,11 +87,11 @@ returns-in_err-put-clause-why g c =
     let same : c.from_residual-in_err-put.result ≡ Err Write = search rules in
     rw same (why_memory Write refl)
 
-pub returns-in_err-hand_all-clause-why : goal.returns-in_err-hand_all-clause-why
-returns-in_err-hand_all-clause-why g c =
-    let fault = c.in_err-hand_all.field-0.0 in
-    let same : c.from_residual-in_err-hand_all.result ≡ Err fault = search rules in
-    rw same (why_then c.in_ok-lines.ensures.bank c.in_err-hand_all.ensures.bank c.in_err-hand_all.ensures.why)
+pub returns-in_err-visit_all-clause-why : goal.returns-in_err-visit_all-clause-why
+returns-in_err-visit_all-clause-why g c =
+    let fault = c.in_err-visit_all.field-0.0 in
+    let same : c.from_residual-in_err-visit_all.result ≡ Err fault = search rules in
+    rw same (why_then c.in_ok-lines.ensures.bank c.in_err-visit_all.ensures.bank c.in_err-visit_all.ensures.why)
 
 pub returns-in_err-put_last-clause-why : goal.returns-in_err-put_last-clause-why
 returns-in_err-put_last-clause-why g c =

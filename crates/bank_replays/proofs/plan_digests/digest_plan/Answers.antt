@@ -28,10 +28,10 @@ returns-in-Ok g c =
           let before = clean_before two.bank clean in
           let there = subst (λ db. HasStoredRows db branch_table branches) (sym (one.bank.still before).0) has in
           let are : map floor_entry c.in_ok-floors_of.field-0.floors.items ≡ floors = one.rows before floors has_floors in
-          let all : map branch_entry two.hands.0 ≡ branches = two.hands.2 clean branches there in
-          c.finalize.ensures _ (two.hands.1 _ (c.update.ensures _ c.new-hasher.ensures))
+          let all : map branch_entry two.visits.0 ≡ branches = two.visits.2 clean branches there in
+          c.finalize.ensures _ (two.visits.1 _ (c.update.ensures _ c.new-hasher.ensures))
           ∙ ap (λ (l : List ℕ). sha256 (plan_names ++ l))
-          (ap (λ l. plan_lines l (map branch_entry two.hands.0)) are ∙ ap (plan_lines floors) all);
+          (ap (λ l. plan_lines l (map branch_entry two.visits.0)) are ∙ ap (plan_lines floors) all);
       why = why_none _;
     }
 

@@ -15,36 +15,36 @@ use Rattle.bank_replays.proofs.FilledBank.{filled}
 use Rattle.bank_replays.proofs.{Read.clean_before, Read.read_any, Read.read_then, Whys.why_memories, Whys.why_then}
 use Rattle.bank_replays.proofs.replays.fill.Goals as goal
 
-pub returns-in_err-hand_all : goal.returns-in_err-hand_all
-returns-in_err-hand_all g c =
-    let same : c.from_residual.result ≡ Err c.in_err-hand_all.field-0.0 = search rules in
+pub returns-in_err-visit_all : goal.returns-in_err-visit_all
+returns-in_err-visit_all g c =
+    let same : c.from_residual.result ≡ Err c.in_err-visit_all.field-0.0 = search rules in
     record {
-      bank = rw same c.in_err-hand_all.ensures.bank;
-      why = rw same c.in_err-hand_all.ensures.why;
+      bank = rw same c.in_err-visit_all.ensures.bank;
+      why = rw same c.in_err-visit_all.ensures.why;
       shows = λ some. rw same tt;
       same = λ clean sure none new. rw same tt;
     }
 
-pub returns-in_err-hand_all-2 : goal.returns-in_err-hand_all-2
-returns-in_err-hand_all-2 g c =
-    let same : c.from_residual-in_err-hand_all-2.result ≡ Err c.in_err-hand_all-2.field-0.0 = search rules in
+pub returns-in_err-visit_all-2 : goal.returns-in_err-visit_all-2
+returns-in_err-visit_all-2 g c =
+    let same : c.from_residual-in_err-visit_all-2.result ≡ Err c.in_err-visit_all-2.field-0.0 = search rules in
     record {
-      bank = rw same (read_then c.in_ok-hand_all.ensures.bank c.in_err-hand_all-2.ensures.bank);
-      why = rw same (why_then c.in_ok-hand_all.ensures.bank c.in_err-hand_all-2.ensures.bank
-          c.in_err-hand_all-2.ensures.why);
+      bank = rw same (read_then c.in_ok-visit_all.ensures.bank c.in_err-visit_all-2.ensures.bank);
+      why = rw same (why_then c.in_ok-visit_all.ensures.bank c.in_err-visit_all-2.ensures.bank
+          c.in_err-visit_all-2.ensures.why);
       shows = λ some. rw same tt;
       same = λ clean sure none new. rw same tt;
     }
 
-pub returns-in_err-hand_all-3 : goal.returns-in_err-hand_all-3
-returns-in_err-hand_all-3 g c =
-    let same : c.from_residual-in_err-hand_all-3.result ≡ Err c.in_err-hand_all-3.field-0.0 = search rules in
+pub returns-in_err-visit_all-3 : goal.returns-in_err-visit_all-3
+returns-in_err-visit_all-3 g c =
+    let same : c.from_residual-in_err-visit_all-3.result ≡ Err c.in_err-visit_all-3.field-0.0 = search rules in
     record {
       bank =
-          rw same (read_then (read_then c.in_ok-hand_all.ensures.bank c.in_ok-hand_all-2.ensures.bank)
-          c.in_err-hand_all-3.ensures.bank);
-      why = rw same (why_then (read_then c.in_ok-hand_all.ensures.bank c.in_ok-hand_all-2.ensures.bank)
-          c.in_err-hand_all-3.ensures.bank c.in_err-hand_all-3.ensures.why);
+          rw same (read_then (read_then c.in_ok-visit_all.ensures.bank c.in_ok-visit_all-2.ensures.bank)
+          c.in_err-visit_all-3.ensures.bank);
+      why = rw same (why_then (read_then c.in_ok-visit_all.ensures.bank c.in_ok-visit_all-2.ensures.bank)
+          c.in_err-visit_all-3.ensures.bank c.in_err-visit_all-3.ensures.why);
       shows = λ some. rw same tt;
       same = λ clean sure none new. rw same tt;
     }
@@ -61,27 +61,27 @@ finished old last end (Err fault) rest then = tt
 
 pub returns : goal.returns
 returns g c =
-    let one = c.in_ok-hand_all.ensures in
-    let two = c.in_ok-hand_all-2.ensures in
-    let three = c.in_ok-hand_all-3.ensures in
+    let one = c.in_ok-visit_all.ensures in
+    let two = c.in_ok-visit_all-2.ensures in
+    let three = c.in_ok-visit_all-3.ensures in
     record {
       bank = read_any (read_then (read_then one.bank two.bank) three.bank) _;
       why = why_memories c.finish.result c.finish.ensures.memory;
-      shows = λ some. c.finish.ensures.shows (three.hands.1.0 (two.hands.1.0 (one.hands.1.0 some)));
+      shows = λ some. c.finish.ensures.shows (three.visits.1.0 (two.visits.1.0 (one.visits.1.0 some)));
       same = λ clean sure none new.
-          finished c.args.bank.now c.finish.new.self.bank c.hand_all-3.new.taker c.finish.result
+          finished c.args.bank.now c.finish.new.self.bank c.visit_all-3.new.target c.finish.result
           (c.finish.ensures.rest sure) (λ rest log s.
           let db = database_of g.S.Store c.args.bank.now in
           let clean2 = clean_before three.bank clean in
           let clean1 = clean_before two.bank clean2 in
           let t = s.tables in
           let kept = kept_of db t log s.are s.shows in
-          filled c.args.bank.now sure c.args.refill.now c.hand_all.new.taker c.hand_all-2.new.taker c.hand_all-3.new.taker none new
-          one.hands.0 two.hands.0 three.hands.0 one.hands.1.1 two.hands.1.1 three.hands.1.1 log s
-          (one.hands.2 clean1 _ (has_branches db t s.are))
-          (two.hands.2 clean2 _ (subst (λ (d : Database). HasStoredRows d floor (map floor_entry t.floors))
+          filled c.args.bank.now sure c.args.refill.now c.visit_all.new.target c.visit_all-2.new.target c.visit_all-3.new.target none new
+          one.visits.0 two.visits.0 three.visits.0 one.visits.1.1 two.visits.1.1 three.visits.1.1 log s
+          (one.visits.2 clean1 _ (has_branches db t s.are))
+          (two.visits.2 clean2 _ (subst (λ (d : Database). HasStoredRows d floor (map floor_entry t.floors))
           (sym (one.bank.still clean1).0) (has_floors db t s.are)))
-          (three.hands.2 clean kept (subst (λ (d : Database). HasKept d kept)
+          (three.visits.2 clean kept (subst (λ (d : Database). HasKept d kept)
           (sym ((read_then one.bank two.bank).still clean2).0) (has_kept db t log s.are s.shows)))
           c.finish.new.self.bank rest);
     }
