@@ -1,6 +1,6 @@
--- Of one client that is served alone, what is said of clients that are served at once says what is said of its
--- connection. Two things differ. Its records may be submitted together, so that the clock is read fewer times: of
--- the clock nothing is said here. And where its writer failed, any prefix of its answers may have been written, since
+-- Of one client that is served alone, and asks for no figures, what is said of clients that are served at once says what
+-- is said of its connection. Two things differ. Its records may be submitted together, so that the clock is read fewer
+-- times: of the clock nothing is said here. And where its writer failed, any prefix of its answers may have been written, since
 -- its next messages are answered while it takes them; so it is said here where the walk over its messages ended, and
 -- where its reader failed.
 use Rattle.std.proofs.Common.{◌≡◌, ℕ, ◌+◌, List, [], ◌∷◌, ◌++◌, length, Option, None, Result, Ok, Err}
@@ -23,7 +23,7 @@ use Rattle.counter_http.specs.declared.fault.ServeFault.{ServeFault}
 use Rattle.counter_http.specs.declared.fault.ServeFault.TheVariants as serve
 use Rattle.counter_http.specs.declared.listen_fault.ListenFault.{ListenFault}
 use Rattle.counter_http.specs.declared.parting.Parting.TheVariants as parting
-use Rattle.counter_http.proofs.Steps.{OfOne, all_answers, all_of}
+use Rattle.counter_http.proofs.Steps.{IsUntold, OfOne, all_answers, all_of}
 
 any_readings : (xs : List ℕ) → AreReadings None None xs
 any_readings [] = refl
@@ -65,7 +65,7 @@ its_visit {E = E} seen {known = known} old new v s alone =
 served_as : {C E : Type 0} (seen : C → Seen) {reason : Fault → C → C → Type 0} {known : E → Known}
     {g g' : Option (List (ClientsTold E))} {k k' : Option (List ℕ)} (old new : C) {n : ℕ} (v : Visit E)
     (result : Result ℕ ServeFault) (s : ServesTogether seen reason known g g' k k' old new n (Ok tt))
-    (alone : s.visits ≡ v ∷ []) (c : ClientIsServed v.number (known v.given) (known v.left) (seen old) (seen new)
+    (alone : s.visits ≡ v ∷ []) (untold : AllByRecursion IsUntold (steps_of s.rounds)) (c : ClientIsServed v.number (known v.given) (known v.left) (seen old) (seen new)
     (steps_of s.rounds) v.parting) → c.lost ≡ []
     → Exits seen result (HasEnded (known v.left).reader (known v.given).reads (known v.left).reads) old new new
     (turns_of (steps_of s.rounds)) [] c.rest c.last
@@ -73,7 +73,7 @@ served_as : {C E : Type 0} (seen : C → Seen) {reason : Fault → C → C → T
     → AnswersAreWritten result c.written (joined (answers_at v.number log (steps_of s.rounds) ++ c.last)))
     → ServesConnection seen (known v.given).reader (known v.left).reader (known v.given).reads (known v.left).reads
     (known v.given).writer (known v.left).writer None None old new result
-served_as {C} seen {known = known} old new v result s alone c none exits answers =
+served_as {C} seen {known = known} old new v result s alone untold c none exits answers =
     let steps = steps_of s.rounds in
     let ts = turns_of steps in
     let own = its_own seen old new v s alone in
@@ -99,7 +99,7 @@ served_as {C} seen {known = known} old new v result s alone c none exits answers
       takes = subst (λ (x : C). Takes (seen old) (seen x) (commands_of ts)) (sym same) s.takes;
       exits = exits;
       answers = λ h log shown. subst (λ (xs : List (List ℕ)). AnswersAreWritten result c.written (joined (xs ++ c.last)))
-          (all_answers v.number log steps own) (answers h log shown);
+          (all_answers v.number log steps own untold) (answers h log shown);
       survives = λ h log stood. subst (λ (cs : List Command). LeavesOnly (seen new)
           (ShowsPrefix log cs (length (commands_of ts)))) nothing (s.survives h log stood);
       idle = s.idle;
@@ -110,9 +110,10 @@ pub served_alone : {C E : Type 0} (seen : C → Seen) {reason : Fault → C → 
     {g g' : Option (List (ClientsTold E))} {k k' : Option (List ℕ)} (old new : C) {n : ℕ} (given left : E) (number : ℕ)
     (s : ServesTogether seen reason known g g' k k' old new n (Ok tt))
     → s.visits ≡ record { number = number; given = given; left = left; parting = parting.Served } ∷ []
+    → AllByRecursion IsUntold (steps_of s.rounds)
     → (count : ℕ) × ServesConnection seen (known given).reader (known left).reader (known given).reads (known left).reads
     (known given).writer (known left).writer None None old new (Ok count)
-served_alone {E = E} seen {known = known} old new given left number s alone =
+served_alone {E = E} seen {known = known} old new given left number s alone untold =
     let v : Visit E = record { number = number; given = given; left = left; parting = parting.Served } in
     let c = its_visit seen old new v s alone in
     let own = its_own seen old new v s alone in
@@ -124,7 +125,7 @@ served_alone {E = E} seen {known = known} old new given left number s alone =
     (subst (λ (us : List Turn). IsWalked (HasEnded (known left).reader (known given).reads (known left).reads)
     (of_client number (steps_of s.rounds)) us c.rest c.last) none c.parts) in (
       length (turns_of (steps_of s.rounds)) + length c.last,
-      served_as seen old new v (Ok (length (turns_of (steps_of s.rounds)) + length c.last)) s alone c none
+      served_as seen old new v (Ok (length (turns_of (steps_of s.rounds)) + length c.last)) s alone untold c none
           (walked, refl, refl) c.answers,
     )
 
@@ -133,9 +134,10 @@ pub cut_off_alone : {C E : Type 0} (seen : C → Seen) {reason : Fault → C →
     {g g' : Option (List (ClientsTold E))} {k k' : Option (List ℕ)} (old new : C) {n : ℕ} (given left : E) (number : ℕ)
     (s : ServesTogether seen reason known g g' k k' old new n (Ok tt))
     → s.visits ≡ record { number = number; given = given; left = left; parting = parting.Read } ∷ []
+    → AllByRecursion IsUntold (steps_of s.rounds)
     → ServesConnection seen (known given).reader (known left).reader (known given).reads (known left).reads
     (known given).writer (known left).writer None None old new (Err serve.Read)
-cut_off_alone {E = E} seen {known = known} old new given left number s alone =
+cut_off_alone {E = E} seen {known = known} old new given left number s alone untold =
     let v : Visit E = record { number = number; given = given; left = left; parting = parting.Read } in
     let c = its_visit seen old new v s alone in
     let own = its_own seen old new v s alone in
@@ -143,4 +145,4 @@ cut_off_alone {E = E} seen {known = known} old new given left number s alone =
     let cut : ServingIsCutOff (turns_of (steps_of s.rounds)) [] c.rest c.last =
     subst (λ (us : List Turn). ServingIsCutOff us [] c.rest c.last) (all_of number (steps_of s.rounds) own)
     (subst (λ (us : List Turn). ServingIsCutOff (of_client number (steps_of s.rounds)) us c.rest c.last) none c.parts) in
-    served_as seen old new v (Err serve.Read) s alone c none (cut, refl) c.answers
+    served_as seen old new v (Err serve.Read) s alone untold c none (cut, refl) c.answers

@@ -11,10 +11,12 @@ use Rattle.posting_rules.proofs.CounterCalls.{call_refused_after, refused_after,
 use Rattle.posting_core.specs.{Clock.IsReading, believed.Clock.AreReadings, Stream.IsOfCall, Told.WriteTold}
 use Rattle.counter_http.specs.{declared.fault.ServeFault.ServeFault, declared.routes.Route.Route, Ends.SendsAs}
 use Rattle.counter_http.specs.declared.fault.ServeFault.TheVariants as told
+use Rattle.counter_http.specs.Figures.{asks_figures, asks_on}
 use Rattle.counter_http.specs.believed.Answers.{octets, status_words, bare, is_record, submits}
 use Rattle.counter_http.specs.believed.Answers.{answer_on, Asked, Answer, answer_to, answer_text, shows, unavailable}
 use Rattle.counter_http.specs.believed.Answers.{is_posting}
-use Rattle.counter_http.specs.declared.routes.Route.TheVariants.{Posting, Account, Teller, Branches, Health, Log, Plan}
+use Rattle.counter_http.specs.declared.routes.Route.TheVariants.{Posting, Account, Teller, Branches, Health, Log, Metrics}
+use Rattle.counter_http.specs.declared.routes.Route.TheVariants.{Plan}
 use Rattle.counter_http.specs.believed.Paths.{route_of, path_of}
 use Rattle.counter_http.proofs.PartsWritten.{bare_of, front_of}
 use Rattle.counter_http.specs.believed.Turns.{commands_if, commands_for, readings_if, readings_for}
@@ -168,6 +170,7 @@ posting_on log a (Some Branches) e = cc e
 posting_on log a (Some Health) e = cc e
 posting_on log a (Some Log) e = cc e
 posting_on log a (Some Plan) e = cc e
+posting_on log a (Some Metrics) e = cc e
 
 pub posting_answer : (log : List Command) (a : Asked) → is_posting a ≡ true
     → answer_to log a ≡ octets (reply_spelling (reply log a.body))
@@ -201,6 +204,10 @@ not_found = refl
 pub submits_as : (a : Asked) (b : Bool) → submits (route_of (path_of a.target)) a ≡ b → is_posting a ≡ b
 unfolding is_posting
 submits_as a b is = is
+
+pub asks_as : (a : Asked) (b : Bool) → asks_on (route_of (path_of a.target)) a ≡ b → asks_figures a ≡ b
+unfolding asks_figures
+asks_as a b is = is
 
 pub answers_as : (a : Asked) (log : List Command) (x : Answer)
     → answer_on log (route_of (path_of a.target)) a ≡ x → answer_to log a ≡ x

@@ -1,6 +1,6 @@
 -- A client of whom something is read, or whose message is answered.
 use Rattle.std.proofs.Common.{◌≡◌, ℕ, List, [], ◌∷◌, ◌++◌, Option, Bool, Result}
-use Rattle.std.proofs.Common.{arith, codes, true, false, refl, sym, ap, subst, ◌∙◌, append_assoc, append-nil, inl, inr}
+use Rattle.std.proofs.Common.{None, arith, codes, true, false, refl, sym, ap, subst, ◌∙◌, append_assoc, append-nil, inl, inr}
 use Rattle.std.specs.{List.AllByRecursion, Io.KnownBytes.Appends, Io.KnownBytes.Consumes}
 use Rattle.std.specs.declared.io.Error.{Error}
 use Rattle.std.proofs.{KnownBytes.Consumes-trans}
@@ -15,7 +15,9 @@ use Rattle.counter_http.specs.Connections.{Known}
 use Rattle.counter_http.specs.Next.{IsUnfinished}
 use Rattle.counter_http.specs.together.Standing.{IsGoing, IsParted, IsRefused}
 use Rattle.counter_http.specs.together.Serving.{AnswersBeforeItsReads}
-use Rattle.counter_http.specs.believed.Answers.{answer_of, asked_by, refusal, unavailable}
+use Rattle.counter_http.specs.Figures.{answer_told}
+use Rattle.counter_http.specs.believed.Answers.{asked_by, refusal, unavailable}
+use Rattle.counter_http.specs.declared.figures.Figures.{Figures}
 use Rattle.counter_http.specs.believed.Ends.{HasEnded}
 use Rattle.counter_http.specs.believed.Messages.{Closed, Finished, Message, No_body, No_head, Walks, closes, message_text, IsMessage}
 use Rattle.counter_http.specs.believed.Serving.{BeginsWithNoMessage, IsBrokenOff, IsWalked, KeepsConnection}
@@ -25,28 +27,32 @@ use Rattle.counter_http.specs.declared.parting.Parting.TheVariants as parting
 use Rattle.counter_http.proofs.Beside.{one_read_more, reads_further}
 use Rattle.counter_http.proofs.ConnectionLoop.{read_one_more, stays_one_more, texts_one_more, unfinished_none}
 use Rattle.counter_http.proofs.Prompts.{HasRead}
-use Rattle.counter_http.proofs.Steps.{all_answers, all_of, answers_at-append, of_client-append}
+use Rattle.counter_http.proofs.Steps.{all_of, answers_at-append, of_client-append, one_answer}
 use Rattle.counter_http.proofs.Walking.{walks_after, walks_closed, walks_end}
 
 -- ---- a message of its own
 
+abbrev pub step_told : Option Figures → ℕ → ℕ → Message → Step
+step_told told i moment m = record { client = i; turn = record { message = m; moment = moment }; told = told }
+
+-- no figures are told
 abbrev pub step_of : ℕ → ℕ → Message → Step
-step_of i moment m = record { client = i; turn = record { message = m; moment = moment } }
+step_of i moment m = step_told None i moment m
 
-own_more : (i : ℕ) (steps : List Step) (moment : ℕ) (m : Message)
+own_more : (told : Option Figures) (i : ℕ) (steps : List Step) (moment : ℕ) (m : Message)
     → of_client i steps ++ record { message = m; moment = moment } ∷ []
-    ≡ of_client i (steps ++ step_of i moment m ∷ [])
-own_more i steps moment m =
-    sym (of_client-append i steps (step_of i moment m ∷ [])
-    ∙ ap (λ (x : List Turn). of_client i steps ++ x) (all_of i (step_of i moment m ∷ []) (refl, tt)))
+    ≡ of_client i (steps ++ step_told told i moment m ∷ [])
+own_more told i steps moment m =
+    sym (of_client-append i steps (step_told told i moment m ∷ [])
+    ∙ ap (λ (x : List Turn). of_client i steps ++ x) (all_of i (step_told told i moment m ∷ []) (refl, tt)))
 
-answers_more : (i : ℕ) (log : List Command) (steps : List Step) (moment : ℕ) (m : Message)
-    → answers_at i log steps ++ answer_of (followed_by log (submitted_by steps)) (asked_by m) ∷ []
-    ≡ answers_at i log (steps ++ step_of i moment m ∷ [])
-answers_more i log steps moment m =
-    sym (answers_at-append i log steps (step_of i moment m ∷ [])
+answers_more : (told : Option Figures) (i : ℕ) (log : List Command) (steps : List Step) (moment : ℕ) (m : Message)
+    → answers_at i log steps ++ answer_told told (followed_by log (submitted_by steps)) (asked_by m) ∷ []
+    ≡ answers_at i log (steps ++ step_told told i moment m ∷ [])
+answers_more told i log steps moment m =
+    sym (answers_at-append i log steps (step_told told i moment m ∷ [])
     ∙ ap (λ (x : List (List ℕ)). answers_at i log steps ++ x)
-    (all_answers i (followed_by log (submitted_by steps)) (step_of i moment m ∷ []) (refl, tt)))
+    (one_answer i (followed_by log (submitted_by steps)) (step_told told i moment m) refl))
 
 -- one text more
 text_more : (written pending text : List ℕ) (texts : List (List ℕ)) (answer : List ℕ)
@@ -87,17 +93,17 @@ unfinished_nothing false = record {
 
 -- and the connection goes on
 pub answered_on : {i : ℕ} {k l : Known} {c c' c'' : Seen} {steps : List Step} {has_more shown : Bool}
-    {buf pending : List ℕ} (moment : ℕ) (m : Message) (rest text : List ℕ)
+    {buf pending : List ℕ} (told : Option Figures) (moment : ℕ) (m : Message) (rest text : List ℕ)
     → IsMessage m → closes m.head ≡ false → buf ≡ message_text m ++ rest → (c''.honest → c'.honest)
     → (c''.honest → (log : List Command) → ShowsLog c log
-    → text ≡ answer_of (followed_by log (submitted_by steps)) (asked_by m))
+    → text ≡ answer_told told (followed_by log (submitted_by steps)) (asked_by m))
     → (more : Bool) → (more ≡ false → rest ≡ [])
     → IsGoing i k l c c' steps has_more shown buf pending
-    → IsGoing i k l c c'' (steps ++ step_of i moment m ∷ []) more shown rest (pending ++ text)
-answered_on {i} {k} {l} {c} {c'} {c''} {steps} {shown = shown} {buf = buf} {pending = pending} moment m rest text whole
+    → IsGoing i k l c c'' (steps ++ step_told told i moment m ∷ []) more shown rest (pending ++ text)
+answered_on {i} {k} {l} {c} {c'} {c''} {steps} {shown = shown} {buf = buf} {pending = pending} told moment m rest text whole
     stays front honest is more none g =
     let t : Turn = record { message = m; moment = moment } in
-    let own = own_more i steps moment m in
+    let own = own_more told i steps moment m in
     record {
       read = subst (λ (ts : List Turn). Consumes k.reader l.reader (texts_of ts ++ rest)) own
           (read_one_more k.reader l.reader (of_client i steps) t buf rest g.read front);
@@ -107,10 +113,10 @@ answered_on {i} {k} {l} {c} {c'} {c''} {steps} {shown = shown} {buf = buf} {pend
       written = g.written;
       wrote = g.wrote;
       answers = λ h log s. text_more g.written pending text (answers_at i log steps) _
-          (g.answers (honest h) log s) (is h log s) ∙ ap joined (answers_more i log steps moment m);
+          (g.answers (honest h) log s) (is h log s) ∙ ap joined (answers_more told i log steps moment m);
       more = g.more;
       through = λ e. g.through (none_left pending text e);
-      prompt = reads_further (step_of i moment m ∷ []) honest
+      prompt = reads_further (step_told told i moment m ∷ []) honest
           (input_more (of_client i steps) t buf rest front ∙ ap (λ (ts : List Turn). texts_of ts ++ rest) own)
           g.prompt;
     }
@@ -136,17 +142,17 @@ walked_closed ts t rest stays whole closed =
 
 -- and the connection ends
 pub answered_last : {i : ℕ} {k l : Known} {c c' c'' : Seen} {steps : List Step} {has_more shown : Bool}
-    {buf pending : List ℕ} (moment : ℕ) (m : Message) (rest text : List ℕ)
+    {buf pending : List ℕ} (told : Option Figures) (moment : ℕ) (m : Message) (rest text : List ℕ)
     → IsMessage m → closes m.head ≡ true → buf ≡ message_text m ++ rest → (c''.honest → c'.honest)
     → (c''.honest → (log : List Command) → ShowsLog c log
-    → text ≡ answer_of (followed_by log (submitted_by steps)) (asked_by m))
+    → text ≡ answer_told told (followed_by log (submitted_by steps)) (asked_by m))
     → IsGoing i k l c c' steps has_more shown buf pending
-    → IsParted i k l c c'' (steps ++ step_of i moment m ∷ []) (pending ++ text) parting.Served
-answered_last {i} {k} {l} {c} {c'} {c''} {steps} {buf = buf} {pending = pending} moment m rest text whole last front
+    → IsParted i k l c c'' (steps ++ step_told told i moment m ∷ []) (pending ++ text) parting.Served
+answered_last {i} {k} {l} {c} {c'} {c''} {steps} {buf = buf} {pending = pending} told moment m rest text whole last front
     honest is g =
     let t : Turn = record { message = m; moment = moment } in
-    let own = own_more i steps moment m in
-    let none = append-nil (of_client i (steps ++ step_of i moment m ∷ [])) in
+    let own = own_more told i steps moment m in
+    let none = append-nil (of_client i (steps ++ step_told told i moment m ∷ [])) in
     record {
       lost = [];
       rest = rest;
@@ -159,11 +165,11 @@ answered_last {i} {k} {l} {c} {c'} {c''} {steps} {buf = buf} {pending = pending}
           (walked_closed (of_client i steps) t rest g.stays whole last);
       answers = λ h log s. text_more g.written pending text (answers_at i log steps) _
           (g.answers (honest h) log s) (is h log s)
-          ∙ ap joined (answers_more i log steps moment m ∙ sym (append-nil _));
+          ∙ ap joined (answers_more told i log steps moment m ∙ sym (append-nil _));
       more = g.more;
       left = tt;
       ends = λ e. g.through (none_left pending text e);
-      prompt = reads_further (step_of i moment m ∷ []) honest
+      prompt = reads_further (step_told told i moment m ∷ []) honest
           (input_more (of_client i steps) t buf rest front
           ∙ ap (λ (ts : List Turn). texts_of ts ++ rest) (own ∙ sym none)) g.prompt;
     }

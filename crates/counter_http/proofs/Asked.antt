@@ -15,7 +15,8 @@ use Rattle.counter_http.specs.Connections.{Known}
 use Rattle.counter_http.specs.together.Standing.{IsAnswered, StandsHere}
 use Rattle.counter_http.specs.Turns.{IsAsked, IsRefusedAt}
 use Rattle.counter_http.specs.believed.Answers.{asked_by}
-use Rattle.counter_http.specs.together.Order.{Step, asks_to_read, submitted_by}
+use Rattle.counter_http.specs.together.Order.{Step, is_read_under, submitted_by}
+use Rattle.counter_http.specs.declared.figures.Figures.{Figures}
 use Rattle.counter_http.specs.declared.client.Client.{Client}
 use Rattle.counter_http.proofs.AnsweredTurns.{idle_commands, refused_first, why_first}
 use Rattle.counter_http.proofs.Steps.{submitted-append}
@@ -161,18 +162,19 @@ asked_then seen {reason} old mid new (Err f) a b = record {
 
 -- ---- a client
 
-pub reads_submit_none : (ss : List Step) → AllByRecursion asks_to_read ss → submitted_by ss ≡ []
-reads_submit_none [] all = refl
-reads_submit_none (s ∷ ss) all =
-    ap (λ (x : List Command). x ++ submitted_by ss) (idle_commands (asked_by s.turn.message) s.turn.moment all.0)
-    ∙ reads_submit_none ss all.1
+pub reads_submit_none : (figures : Figures) (ss : List Step) → AllByRecursion (is_read_under figures) ss → submitted_by ss ≡ []
+reads_submit_none figures [] all = refl
+reads_submit_none figures (s ∷ ss) all =
+    ap (λ (x : List Command). x ++ submitted_by ss) (idle_commands (asked_by s.turn.message) s.turn.moment all.0.0)
+    ∙ reads_submit_none figures ss all.1
 
-pub takes_reads : (c c' c'' : Seen) (steps more : List Step) → AllByRecursion asks_to_read more
+pub takes_reads : (figures : Figures) (c c' c'' : Seen) (steps more : List Step)
+    → AllByRecursion (is_read_under figures) more
     → (c''.honest → c'.honest) → Takes c c' (submitted_by steps) → Takes c' c'' []
     → Takes c c'' (submitted_by (steps ++ more))
-takes_reads c c' c'' steps more reads honest a b =
+takes_reads figures c c' c'' steps more reads honest a b =
     subst (λ (x : List Command). Takes c c'' x)
-    (ap (λ (x : List Command). submitted_by steps ++ x) (sym (reads_submit_none more reads))
+    (ap (λ (x : List Command). submitted_by steps ++ x) (sym (reads_submit_none figures more reads))
     ∙ sym (submitted-append steps more))
     (Takes-append c c' c'' (submitted_by steps) [] a b honest)
 
@@ -182,12 +184,12 @@ owned_by m n [] e all = tt
 owned_by m n (s ∷ ss) e all = (all.0 ∙ e, owned_by m n ss e all.1)
 
 -- nothing was answered
-pub answered_nothing : {C R W X : Type 0} (seen : C → Seen) {reason : Fault → C → C → Type 0} {known : R × W → Known}
+pub answered_nothing : {C R W X : Type 0} (seen : C → Seen) {reason : Fault → C → C → Type 0} {known : R × W → Known} {figures : Figures}
     (bank new : C) (old after : Client R W) (result : Result X Fault) → IsAsked seen reason bank new result
     → after.number ≡ old.number
     → ((k : Known) (c : Seen) (steps : List Step) → StandsHere known k c (seen bank) steps old
     → StandsHere known k c (seen new) steps after)
-    → IsAnswered seen reason known bank new old after result
+    → IsAnswered seen reason known figures bank new old after result
 answered_nothing seen {known = known} bank new old after result asked number stands = record {
   more = [];
   reads = tt;
@@ -198,13 +200,13 @@ answered_nothing seen {known = known} bank new old after result asked number sta
       (sym (append-nil steps)) (stands k (seen first) steps is);
 }
 
-pub answered_then : {C R W X Y : Type 0} (seen : C → Seen) {reason : Fault → C → C → Type 0} {known : R × W → Known}
+pub answered_then : {C R W X Y : Type 0} (seen : C → Seen) {reason : Fault → C → C → Type 0} {known : R × W → Known} {figures : Figures}
     (bank mid new : C) (one two three : Client R W) {x : X} (result : Result Y Fault)
-    → IsAnswered seen reason known bank mid one two (Ok x) → IsAnswered seen reason known mid new two three result
-    → IsAnswered seen reason known bank new one three result
-answered_then seen {reason} {known} bank mid new one two three result a b = record {
+    → IsAnswered seen reason known figures bank mid one two (Ok x) → IsAnswered seen reason known figures mid new two three result
+    → IsAnswered seen reason known figures bank new one three result
+answered_then seen {reason} {known} {figures} bank mid new one two three result a b = record {
   more = a.more ++ b.more;
-  reads = all_more asks_to_read a.more b.more a.reads b.reads;
+  reads = all_more (is_read_under figures) a.more b.more a.reads b.reads;
   own = all_more (λ (s : Step). s.client ≡ one.number) a.more b.more a.own
       (owned_by one.number two.number b.more a.number b.own);
   asked = asked_then seen bank mid new result a.asked b.asked;
@@ -212,14 +214,14 @@ answered_then seen {reason} {known} bank mid new one two three result a b = reco
   stands = λ k first steps takes is.
       subst (λ (ss : List Step). StandsHere known k (seen first) (seen new) ss three) (append_assoc steps a.more b.more)
       (b.stands k first (steps ++ a.more)
-      (takes_reads (seen first) (seen bank) (seen mid) steps a.more a.reads a.asked.honest takes a.asked.done)
+      (takes_reads figures (seen first) (seen bank) (seen mid) steps a.more a.reads a.asked.honest takes a.asked.done)
       (a.stands k first steps takes is));
 }
 
 -- the result stands for another
-pub answered_as : {C R W X Y : Type 0} {seen : C → Seen} {reason : Fault → C → C → Type 0} {known : R × W → Known}
-    {bank new : C} {old after : Client R W} {x : X} (y : Y) → IsAnswered seen reason known bank new old after (Ok x)
-    → IsAnswered seen reason known bank new old after (Ok y)
+pub answered_as : {C R W X Y : Type 0} {seen : C → Seen} {reason : Fault → C → C → Type 0} {known : R × W → Known} {figures : Figures}
+    {bank new : C} {old after : Client R W} {x : X} (y : Y) → IsAnswered seen reason known figures bank new old after (Ok x)
+    → IsAnswered seen reason known figures bank new old after (Ok y)
 answered_as y a = record {
   more = a.more;
   reads = a.reads;
@@ -229,10 +231,10 @@ answered_as y a = record {
   stands = a.stands;
 }
 
-pub answered_err : {C R W X Y : Type 0} {seen : C → Seen} {reason : Fault → C → C → Type 0} {known : R × W → Known}
+pub answered_err : {C R W X Y : Type 0} {seen : C → Seen} {reason : Fault → C → C → Type 0} {known : R × W → Known} {figures : Figures}
     {bank new : C} {old after : Client R W} {f : Fault}
-    → IsAnswered {X = X} seen reason known bank new old after (Err f)
-    → IsAnswered {X = Y} seen reason known bank new old after (Err f)
+    → IsAnswered {X = X} seen reason known figures bank new old after (Err f)
+    → IsAnswered {X = Y} seen reason known figures bank new old after (Err f)
 answered_err a = record {
   more = a.more;
   reads = a.reads;

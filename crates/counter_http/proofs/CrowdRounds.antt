@@ -11,7 +11,7 @@ use Rattle.std.proofs.lemmas.List.Kept.{AllPairs-cons}
 use Rattle.posting_rules.specs.declared.fault.Fault.{Fault}
 use Rattle.posting_rules.specs.declared.fault.Fault.TheVariants.{Memory}
 use Rattle.posting_rules.specs.believed.Commands.{AreCommands, Command}
-use Rattle.posting_rules.specs.believed.Counter.{LeavesOnly, Seen, ShowsPrefix, Takes}
+use Rattle.posting_rules.specs.believed.Counter.{LeavesOnly, Seen, ShowsLog, ShowsPrefix, Takes}
 use Rattle.posting_rules.specs.believed.Runs.{followed_by}
 use Rattle.posting_rules.specs.believed.Tables.{AreTablesOf}
 use Rattle.posting_rules.proofs.CounterCalls.{idle_after, refused_after, takes_none, unchanged_seen}
@@ -25,15 +25,20 @@ use Rattle.counter_http.specs.Clients.{ClientsTold, Gave}
 use Rattle.counter_http.specs.Connections.{Known}
 use Rattle.counter_http.specs.together.Crowd.{Differ, GoesOn, HasLeft, HaveCome, HaveMoved, IsCrowd, IsHere, Scene, ServesRounds}
 use Rattle.counter_http.specs.together.Crowd.{WereRefused, all_numbers, fault_of_bank}
-use Rattle.counter_http.specs.together.Order.{IsRound, Round, Step, readings_in, readings_of, steps_in, steps_of, submitted_by}
+use Rattle.counter_http.specs.together.Order.{AreFigured, CountsRounds, IsRound, Round, Step, readings_in, readings_of, steps_in}
+use Rattle.counter_http.specs.together.Order.{steps_of, submitted_by}
 use Rattle.counter_http.specs.together.Rounds.{AnswersRound, IsOfOneOf, fault_in, numbers}
 use Rattle.counter_http.specs.together.Standing.{AreRefused, IsUpToDate, StandsHere, Writes, unread}
 use Rattle.counter_http.specs.together.Serving.{ClientIsRefused, EndsTogether, HasRefused, IfBank, IsCutOff, IsOfVisit, IsToldTo}
 use Rattle.counter_http.specs.together.Serving.{IsVisited, IsWhyRefused, OfOthers, ServesTogether, Visit, number_of}
+use Rattle.counter_http.specs.Figures.{nothing}
 use Rattle.counter_http.specs.declared.client.Client.{Client}
+use Rattle.counter_http.specs.declared.figures.Figures.{Figures}
+use Rattle.counter_http.specs.declared.figures.Tally.{Tally}
 use Rattle.counter_http.specs.declared.listen_fault.ListenFault.{ListenFault}
 use Rattle.counter_http.specs.declared.listen_fault.ListenFault.TheVariants.{Network, Bank}
 use Rattle.counter_http.proofs.Beside.{served_beside}
+use Rattle.counter_http.proofs.Counted.{counts_none, figured_more, rounds_then}
 use Rattle.counter_http.proofs.Crowds.{all_first, all_last, all_stay, crowd_moved, each_weaker, moved_grows}
 use Rattle.counter_http.proofs.Crowds.{pairs_differ, refused_first, refused_last}
 use Rattle.counter_http.proofs.ConnectionLoop.{unfinished_none}
@@ -239,10 +244,10 @@ zip_places M (x ∷ xs) (y ∷ ys) same at = (
 
 pub crowd_round : {C R W : Type 0} (seen : C → Seen) {reason : Fault → C → C → Type 0} {known : R × W → Known}
     {k k' : Option (List ℕ)} {g t : Option (List (ClientsTold (R × W)))} {X : Type 0} (first old new : C)
-    (steps : List Step) {came : ℕ} (here here' : List (Client R W)) (result : Result X Fault)
+    (steps : List Step) {came seconds : ℕ} {u u' : Tally} (here here' : List (Client R W)) (result : Result X Fault)
     → IsCrowd known g (seen first) (seen old) steps None [] (record { told = t; came = came; here = here })
     → Takes (seen first) (seen old) (submitted_by steps)
-    → (r : AnswersRound seen reason known k k' old new here here' result)
+    → (r : AnswersRound seen reason known k k' old new here here' u u' seconds result)
     → IsCrowd known g (seen first) (seen new) (steps ++ steps_in r.round) (fault_in result) r.refused
     (record { told = t; came = came; here = here' })
 crowd_round {C} {R} {W} seen {known = known} first old new steps {came = came} here here' result crowd takes r =
@@ -282,8 +287,11 @@ crowd_round {C} {R} {W} seen {known = known} first old new steps {came = came} h
 
 -- where the loop over rounds stands
 pub record Rounding {C R W : Type 0} (seen : C → Seen) (known : R × W → Known) (g t : Option (List (ClientsTold (R × W))))
-    (k k' : Option (List ℕ)) (old now : C) (n came : ℕ) (here : List (Client R W)) (turns : ℕ) : Type 0 where
+    (k k' : Option (List ℕ)) (old now : C) (n came : ℕ) (here : List (Client R W)) (tally : Tally) (turns : ℕ)
+    : Type 0 where
   pub rounds : List Round
+  pub counted : (seen now).honest → (log : List Command) → ShowsLog (seen old) log → CountsRounds log rounds tally
+  pub figured : (seen now).honest → (log : List Command) → ShowsLog (seen old) log → AreFigured log [] rounds
   pub many : length rounds ≡ turns
   pub are_rounds : AllByRecursion IsRound rounds
   pub clock : AreReadings k k' (readings_of rounds)
@@ -295,10 +303,12 @@ pub record Rounding {C R W : Type 0} (seen : C → Seen) (known : R × W → Kno
   pub crowd : IsCrowd known g (seen old) (seen now) (steps_of rounds) None [] (record { told = t; came = came; here = here })
 
 pub rounding_none : {C R W : Type 0} (seen : C → Seen) {known : R × W → Known} (g : Option (List (ClientsTold (R × W))))
-    (k : Option (List ℕ)) (old : C) (n : ℕ) (here : List (Client R W)) → here ≡ []
-    → Rounding seen known g g k k old old n 0 here 0
-rounding_none {C} {R} {W} seen {known} g k old n here none = record {
+    (k : Option (List ℕ)) (old : C) (n : ℕ) (here : List (Client R W)) (tally : Tally) → here ≡ [] → tally ≡ nothing
+    → Rounding seen known g g k k old old n 0 here tally 0
+rounding_none {C} {R} {W} seen {known} g k old n here tally none zero = record {
   rounds = [];
+  counted = λ h log shown. subst (λ (t : Tally). CountsRounds log [] t) (sym zero) (counts_none nothing);
+  figured = λ h log shown. tt;
   many = refl;
   are_rounds = tt;
   clock = refl;
@@ -324,12 +334,14 @@ rounding_none {C} {R} {W} seen {known} g k old n here none = record {
 
 -- clients come, go on and leave
 pub rounding_on : {C R W : Type 0} {seen : C → Seen} {known : R × W → Known} {g t t' : Option (List (ClientsTold (R × W)))}
-    {k k' : Option (List ℕ)} {old now : C} {n came came' turns : ℕ} {here here' : List (Client R W)}
-    (s : Rounding seen known g t k k' old now n came here turns)
+    {k k' : Option (List ℕ)} {old now : C} {n came came' turns : ℕ} {here here' : List (Client R W)} {tally : Tally}
+    (s : Rounding seen known g t k k' old now n came here tally turns)
     → IsCrowd known g (seen old) (seen now) (steps_of s.rounds) None [] (record { told = t'; came = came'; here = here' })
-    → came' ≤ n → Rounding seen known g t' k k' old now n came' here' turns
+    → came' ≤ n → Rounding seen known g t' k k' old now n came' here' tally turns
 rounding_on s crowd few = record {
   rounds = s.rounds;
+  counted = s.counted;
+  figured = s.figured;
   many = s.many;
   are_rounds = s.are_rounds;
   clock = s.clock;
@@ -360,19 +372,36 @@ takes_one_more c c' c'' rs r honest a b =
     (sym (submitted-append (steps_of rs) (steps_in r)) ∙ ap submitted_by (steps_one_more rs r))
     (takes_more c c' c'' (submitted_by (steps_of rs)) (submitted_by (steps_in r)) honest a b)
 
+-- the figures of a round more are those that stood before it
+figured_then : {C R W X : Type 0} (seen : C → Seen) {reason : Fault → C → C → Type 0} {known : R × W → Known}
+    {g t : Option (List (ClientsTold (R × W)))} {k k' k'' : Option (List ℕ)} {old : C} (now new : C)
+    {n came seconds turns : ℕ} {here here' : List (Client R W)} {u u' : Tally} {result : Result X Fault}
+    (s : Rounding seen known g t k k' old now n came here u turns)
+    (r : AnswersRound seen reason known k' k'' now new here here' u u' seconds result) → (seen now).honest
+    → (log : List Command) → ShowsLog (seen old) log → AreFigured log [] (s.rounds ++ r.round ∷ [])
+figured_then seen now new s r honest log shown =
+    figured_more log [] s.rounds r.round (s.figured honest log shown)
+    (subst (λ (f : Figures). CountsRounds log s.rounds f.tally) (sym r.figured) (s.counted honest log shown))
+
 -- a round was answered
 pub rounding_next : {C R W X : Type 0} (seen : C → Seen) {reason : Fault → C → C → Type 0} {known : R × W → Known}
-    {g t t' : Option (List (ClientsTold (R × W)))} {k k' k'' : Option (List ℕ)} (old now new : C) {n came came' turns : ℕ}
-    {here here' here'' : List (Client R W)} {x : X} (s : Rounding seen known g t k k' old now n came here turns)
-    (r : AnswersRound seen reason known k' k'' now new here here' (Ok x))
+    {g t t' : Option (List (ClientsTold (R × W)))} {k k' k'' : Option (List ℕ)} (old now new : C)
+    {n came came' seconds turns : ℕ} {here here' here'' : List (Client R W)} {u u' : Tally} {x : X}
+    (s : Rounding seen known g t k k' old now n came here u turns)
+    (r : AnswersRound seen reason known k' k'' now new here here' u u' seconds (Ok x))
     → IsCrowd known g (seen old) (seen new) (steps_of s.rounds ++ steps_in r.round) None r.refused
     (record { told = t'; came = came'; here = here'' })
-    → came' ≤ n → Rounding seen known g t' k k'' old new n came' here'' (turns + 1)
+    → came' ≤ n → Rounding seen known g t' k k'' old new n came' here'' u' (turns + 1)
 rounding_next seen {known = known} {g = g} {t' = t'} {k} {k'} {k''} old now new {came' = came'} {here'' = here''} s r crowd
     few =
     let same : new ≡ r.stood = r.ends.1 in
     record {
       rounds = s.rounds ++ r.round ∷ [];
+      counted = λ h log shown.
+          let before = r.honest_first (r.honest h) in
+          rounds_then log s.rounds r.round (s.counted before log shown)
+          (r.counts h (followed_by log (submitted_by (steps_of s.rounds))) (s.takes.shows before log shown));
+      figured = λ h log shown. figured_then seen now new s r (r.honest_first (r.honest h)) log shown;
       many = length-append s.rounds (r.round ∷ []) ∙ ap (λ (m : ℕ). m + 1) s.many;
       are_rounds = all_more IsRound s.rounds (r.round ∷ []) s.are_rounds (r.is_round, tt);
       clock = clock_one_more k k' k'' s.rounds r.round s.clock r.clock;
@@ -406,10 +435,10 @@ waited_still waited crowd = crowd_moved (all_stay (record {
 
 pub before_round : {C R W : Type 0} {seen : C → Seen} {known : R × W → Known}
     {g t t' t'' : Option (List (ClientsTold (R × W)))} {k k' : Option (List ℕ)} {old now : C} {n came came' turns : ℕ}
-    (here viewed gone here' here'' : List (Client R W)) → viewed ≡ here → here' ≡ gone
-    → Rounding seen known g t k k' old now n came here turns → GrowsBy t t' [] → AllZip (GoesOn known) viewed gone
+    {tally : Tally} (here viewed gone here' here'' : List (Client R W)) → viewed ≡ here → here' ≡ gone
+    → Rounding seen known g t k k' old now n came here tally turns → GrowsBy t t' [] → AllZip (GoesOn known) viewed gone
     → HaveMoved (record { told = t'; came = came; here = here' }) (record { told = t''; came = came'; here = here'' })
-    → came' ≤ n → Rounding seen known g t'' k k' old now n came' here'' turns
+    → came' ≤ n → Rounding seen known g t'' k k' old now n came' here'' tally turns
 before_round {known = known} here viewed gone here' here'' old new s waited goes moved few =
     let all : AllZip (GoesOn known) here here' =
     subst (λ (xs : List (Client _ _)). AllZip (GoesOn known) xs here') old
@@ -417,10 +446,11 @@ before_round {known = known} here viewed gone here' here'' old new s waited goes
     rounding_on s (crowd_moved moved (crowd_goes here here' all (waited_still waited s.crowd))) few
 
 pub after_round : {C R W X : Type 0} (seen : C → Seen) {reason : Fault → C → C → Type 0} {known : R × W → Known}
-    {g t t' : Option (List (ClientsTold (R × W)))} {k k' k'' : Option (List ℕ)} (old now new : C) {n came turns : ℕ}
-    (here here' viewed gone here'' left : List (Client R W)) (result : Result X Fault) → viewed ≡ here' → here'' ≡ gone
-    → (s : Rounding seen known g t k k' old now n came here turns)
-    (r : AnswersRound seen reason known k' k'' now new here here' result) → AllZip (Writes known) viewed gone
+    {g t t' : Option (List (ClientsTold (R × W)))} {k k' k'' : Option (List ℕ)} (old now new : C)
+    {n came seconds turns : ℕ} {u u' : Tally} (here here' viewed gone here'' left : List (Client R W))
+    (result : Result X Fault) → viewed ≡ here' → here'' ≡ gone
+    → (s : Rounding seen known g t k k' old now n came here u turns)
+    (r : AnswersRound seen reason known k' k'' now new here here' u u' seconds result) → AllZip (Writes known) viewed gone
     → ((came : ℕ) → HaveMoved (record { told = t; came = came; here = here'' })
     (record { told = t'; came = came; here = left }))
     → IsCrowd known g (seen old) (seen new) (steps_of s.rounds ++ steps_in r.round) (fault_in result) r.refused
@@ -456,13 +486,14 @@ stop_more c log cs ds es n m e long stop = leaves_weaker c (ShowsPrefix (followe
 -- the bank took all that it was given
 pub rounds_end : {C R W : Type 0} (seen : C → Seen) {reason : Fault → C → C → Type 0} {known : R × W → Known}
     {g t : Option (List (ClientsTold (R × W)))} {k k' : Option (List ℕ)} (old new : C) {n came turns : ℕ}
-    {here : List (Client R W)} (result : Result (Unit {0}) ListenFault)
+    {here : List (Client R W)} {tally : Tally} (result : Result (Unit {0}) ListenFault)
     → EndsTogether seen result new new [] → IfErr result (λ fault. IfBank fault (IsOfCall seen reason old new))
     → OnOk result (came ≡ n) → fault_of_bank result ≡ None
-    → (s : Rounding seen known g t k k' old new n came here turns) → IsCutOff g t result s.rounds
+    → (s : Rounding seen known g t k k' old new n came here tally turns) → IsCutOff g t result s.rounds
     → ServesRounds seen reason known g t k k' old new n here result
 rounds_end seen {known = known} {g} {t} old new {came = came} {here = here} result ends why done none s network = record {
   rounds = s.rounds;
+  figured = s.figured;
   are_rounds = s.are_rounds;
   refused = [];
   clock = s.clock;
@@ -493,9 +524,10 @@ why_now seen reason old now new cs takes honest idle fault (inr own) = inr own
 
 -- the bank refused a message, or a batch
 pub rounds_broken : {C R W X : Type 0} (seen : C → Seen) {reason : Fault → C → C → Type 0} {known : R × W → Known}
-    {g t t' : Option (List (ClientsTold (R × W)))} {k k' k'' : Option (List ℕ)} (old now new : C) {n came came' turns : ℕ}
-    {here here' here'' : List (Client R W)} (fault : Fault) (s : Rounding seen known g t k k' old now n came here turns)
-    (r : AnswersRound {X = X} seen reason known k' k'' now new here here' (Err fault))
+    {g t t' : Option (List (ClientsTold (R × W)))} {k k' k'' : Option (List ℕ)} (old now new : C)
+    {n came came' seconds turns : ℕ} {here here' here'' : List (Client R W)} {u u' : Tally} (fault : Fault)
+    (s : Rounding seen known g t k k' old now n came here u turns)
+    (r : AnswersRound {X = X} seen reason known k' k'' now new here here' u u' seconds (Err fault))
     → IsCrowd known g (seen old) (seen new) (steps_of s.rounds ++ steps_in r.round) (Some fault) r.refused
     (record { told = t'; came = came'; here = here'' })
     → came' ≤ n → ServesRounds seen reason known g t' k k'' old new n here'' (Err (Bank fault))
@@ -513,6 +545,7 @@ rounds_broken seen {reason} {known} {g = g} {t' = t'} {k} {k'} {k''} old now new
     ∙ submitted-append (steps_of s.rounds) (steps_in r.round ++ r.refused) in
     record {
       rounds = rounds;
+      figured = λ h log shown. figured_then seen now new s r (r.honest_first (r.honest h)) log shown;
       are_rounds = all_more IsRound s.rounds (r.round ∷ []) s.are_rounds (r.is_round, tt);
       refused = r.refused;
       clock = clock_one_more k k' k'' s.rounds r.round s.clock r.clock;
@@ -632,6 +665,7 @@ serves_together {C} {R} {W} seen {reason} {known} {g} {t} {t'} old new here here
     record {
       rounds = s.rounds;
       are_rounds = s.are_rounds;
+      figured = s.figured;
       refused = s.refused;
       clock = s.clock;
       stood = s.stood;
@@ -684,6 +718,7 @@ pub nobody_came : {C R W : Type 0} (seen : C → Seen) {reason : Fault → C →
     → ServesTogether seen reason known g g k k old old n (Err (Bank Memory))
 nobody_came seen g k old n = record {
   rounds = [];
+  figured = λ h log shown. tt;
   are_rounds = tt;
   refused = [];
   clock = refl;
@@ -712,7 +747,8 @@ nobody_came seen g k old n = record {
 -- an opening was refused in a round
 pub cut_off_by : {C R W : Type 0} {seen : C → Seen} {known : R × W → Known}
     {g t t' t'' : Option (List (ClientsTold (R × W)))} {k k' : Option (List ℕ)} {old now : C} {n came turns : ℕ}
-    {here : List (Client R W)} → Rounding seen known g t k k' old now n came here turns → GrowsBy t t' [] → HasRefused t' t''
+    {here : List (Client R W)} {tally : Tally} → Rounding seen known g t k k' old now n came here tally turns
+    → GrowsBy t t' [] → HasRefused t' t''
     → HasRefused g t''
 cut_off_by {g = g} {t} {t'} {t''} s waited refused =
     refused_last g t' t'' (more_more (record { calls = s.crowd.calls; made = s.crowd.told })

@@ -13,15 +13,17 @@ use Rattle.counter_http.specs.together.Standing.{AnswersRecord, HasAnswered, Has
 use Rattle.counter_http.specs.together.Standing.{IsParted, IsRecordIn, StandsAs, StandsBy, StandsHere, parting_after}
 use Rattle.counter_http.specs.together.Standing.{pending, unread}
 use Rattle.counter_http.specs.together.Serving.{PartingIsOfItsEnd}
+use Rattle.counter_http.specs.Figures.{answer_told}
 use Rattle.counter_http.specs.believed.Answers.{Answer, answer_of, answer_text, asked_by, octets, shows}
 use Rattle.counter_http.specs.believed.Answers.{bare}
+use Rattle.counter_http.specs.declared.figures.Figures.{Figures}
 use Rattle.counter_http.specs.believed.Messages.{Message, closes, message_text}
 use Rattle.counter_http.specs.together.Order.{Step, submitted_by}
 use Rattle.counter_http.specs.declared.client.Client.{Client}
 use Rattle.counter_http.specs.declared.client.Head.{Head}
 use Rattle.counter_http.specs.declared.parting.Parting.{Parting}
 use Rattle.counter_http.specs.declared.parting.Parting.TheVariants as parting
-use Rattle.counter_http.proofs.Answering.{answered_last, answered_on, answered_unavailable, step_of}
+use Rattle.counter_http.proofs.Answering.{answered_last, answered_on, answered_unavailable, step_of, step_told}
 use Rattle.counter_http.proofs.AnsweredTurns.{posting_answer}
 use Rattle.counter_http.proofs.Beside.{stands_beside}
 use Rattle.counter_http.proofs.Stood.{IsLeft, IsLoss, left_as, lost_as}
@@ -101,18 +103,18 @@ gone_here old new lost is = lost_here old new parting.Memory tt lost tt (left_as
 
 -- after which it goes on, or not
 answered_as : {i : ℕ} {k l : Known} {c c' c'' : Seen} {steps : List Step} {has_more shown : Bool}
-    {buf left : List ℕ} (ends : Bool) (moment : ℕ) (m : Message) (head : Head) (text : List ℕ) → IsHeadOf head buf m
+    {buf left : List ℕ} (ends : Bool) (told : Option Figures) (moment : ℕ) (m : Message) (head : Head) (text : List ℕ) → IsHeadOf head buf m
     → head.closes ≡ ends → (c''.honest → c'.honest)
     → (c''.honest → (log : List Command) → ShowsLog c log
-    → text ≡ answer_of (followed_by log (submitted_by steps)) (asked_by m))
+    → text ≡ answer_told told (followed_by log (submitted_by steps)) (asked_by m))
     → (more : Bool) → (more ≡ false → drop head.length buf ≡ [])
     → IsGoing i k l c c' steps has_more shown buf left
-    → StandsAs (parting_after ends None) i k l c c'' (steps ++ step_of i moment m ∷ []) more shown
+    → StandsAs (parting_after ends None) i k l c c'' (steps ++ step_told told i moment m ∷ []) more shown
     (drop head.length buf) (left ++ text)
-answered_as {buf = buf} true moment m head text is e honest says more none g =
-    record { is = answered_last moment m (drop head.length buf) text is.whole (sym is.closes_is ∙ e) is.front honest says g }
-answered_as {buf = buf} false moment m head text is e honest says more none g = record {
-  is = answered_on moment m (drop head.length buf) text is.whole (sym is.closes_is ∙ e) is.front honest says more none g;
+answered_as {buf = buf} true told moment m head text is e honest says more none g =
+    record { is = answered_last told moment m (drop head.length buf) text is.whole (sym is.closes_is ∙ e) is.front honest says g }
+answered_as {buf = buf} false told moment m head text is e honest says more none g = record {
+  is = answered_on told moment m (drop head.length buf) text is.whole (sym is.closes_is ∙ e) is.front honest says more none g;
 }
 
 shows_then : {i : ℕ} {k l : Known} {c c' : Seen} {steps : List Step} {has_more : Bool} {rest left : List ℕ}
@@ -122,18 +124,18 @@ shows_then {i} {k} {l} {c} {c'} {steps} {has_more} {rest} {left} p shown shown' 
     subst (λ (b : Bool). StandsAs p i k l c c' steps has_more b rest left) (sym e) is
 
 pub answered_here : {R W : Type 0} {known : R × W → Known} {k : Known} {c c' c'' : Seen} {steps : List Step}
-    (old new : Client R W) (moment : ℕ) (m : Message) (head : Head) (text : List ℕ) → old.parting ≡ None
+    (old new : Client R W) (told : Option Figures) (moment : ℕ) (m : Message) (head : Head) (text : List ℕ) → old.parting ≡ None
     → IsHeadOf head (unread old) m → HasAnswered old new text head → (c''.honest → c'.honest)
     → (c''.honest → (log : List Command) → ShowsLog c log
-    → text ≡ answer_of (followed_by log (submitted_by steps)) (asked_by m))
+    → text ≡ answer_told told (followed_by log (submitted_by steps)) (asked_by m))
     → StandsHere known k c c' steps old
-    → StandsHere known k c c'' (steps ++ step_of old.number moment m ∷ []) new
-answered_here {R} {W} {known} {k} {c} {c'} {c''} {steps} old new moment m head text going is did honest says stands =
+    → StandsHere known k c c'' (steps ++ step_told told old.number moment m ∷ []) new
+answered_here {R} {W} {known} {k} {c} {c'} {c''} {steps} old new told moment m head text going is did honest says stands =
     let l = known (old.reader, old.writer) in
-    let next = steps ++ step_of old.number moment m ∷ [] in
+    let next = steps ++ step_told told old.number moment m ∷ [] in
     let after : StandsAs (parting_after head.closes None) old.number k l c c'' next new.has_more old.shows_body
     (drop head.length (unread old)) (pending old ++ text) =
-    answered_as head.closes moment m head text is refl honest says new.has_more (λ e. sym did.rest ∙ did.more e)
+    answered_as head.closes told moment m head text is refl honest says new.has_more (λ e. sym did.rest ∙ did.more e)
     (going_of old going stands) in
     let kept = shows_then (parting_after head.closes None) old.shows_body new.shows_body did.shows after in
     let why : new.parting ≡ parting_after head.closes None =
@@ -162,7 +164,7 @@ pub unanswered_here : {R W : Type 0} {known : R × W → Known} {k : Known} {c c
 unanswered_here {R} {W} {known} {k} {c} {c'} {steps} old new moment m head text going is lost says stands =
     lost_here old new parting.Memory tt lost tt
     (left_as (parting_after head.closes None)
-    (answered_as head.closes moment m head text is refl (λ h. h) says true (λ e. cc e) (going_of old going stands)))
+    (answered_as head.closes None moment m head text is refl (λ h. h) says true (λ e. cc e) (going_of old going stands)))
 
 -- ---- a record
 
@@ -203,7 +205,7 @@ pub record_step : {R W : Type 0} {known : R × W → Known} {k : Known} {c c' : 
     → AnswersRecord old new head text → StandsHere known k c c' steps old
     → StandsHere known k c c' (steps ++ step_of old.number moment is.message ∷ []) new
 record_step {steps = steps} old new moment head text bytes going is says (inl did) stands =
-    answered_here old new moment is.message head (answer_text (octets text) head.shows_body head.closes) going is.is did
+    answered_here old new None moment is.message head (answer_text (octets text) head.shows_body head.closes) going is.is did
     (λ h. h) (λ h log shown. record_text (followed_by log (submitted_by steps)) head is text (says h log shown)) stands
 record_step {steps = steps} old new moment head text bytes going is says (inr (inl lost)) stands =
     unanswered_here old new moment is.message head (answer_text (octets text) head.shows_body head.closes) going is.is

@@ -8,7 +8,8 @@ use Rattle.posting_rules.specs.believed.{Commands.Command, Counter.Seen, Counter
 use Rattle.posting_rules.proofs.Totals.{all_follow}
 use Rattle.posting_core.proofs.StreamedBatches.{all_more}
 use Rattle.counter_http.specs.Connections.{Known}
-use Rattle.counter_http.specs.together.Order.{Step, asks_to_read, submitted_by}
+use Rattle.counter_http.specs.together.Order.{Step, is_read_under, submitted_by}
+use Rattle.counter_http.specs.declared.figures.Figures.{Figures}
 use Rattle.counter_http.specs.together.Rounds.{AllDiffer, numbers}
 use Rattle.counter_http.specs.together.Standing.{GivesRecord, IsAnswered}
 use Rattle.counter_http.specs.together.Submitting.{AddsIfRoom, AreApart, AreGiven, Gathers, GivesAt, IsAdded, IsBatchOf, IsElsewhere, IsFrom}
@@ -184,14 +185,15 @@ all_from from place to ss all = all_follow (IsPassed from place to) (IsFrom from
 
 -- ---- messages that are answered
 
-pub takes_reads : {C : Type 0} (seen : C → Seen) (old mid : C) (reads : List Step) → AllByRecursion asks_to_read reads
+pub takes_reads : {C : Type 0} (seen : C → Seen) (figures : Figures) (old mid : C) (reads : List Step)
+    → AllByRecursion (is_read_under figures) reads
     → Takes (seen old) (seen mid) [] → Takes (seen old) (seen mid) (submitted_by reads)
-takes_reads seen old mid reads all takes =
-    subst (λ (cs : List Command). Takes (seen old) (seen mid) cs) (sym (reads_submit_none reads all)) takes
+takes_reads seen figures old mid reads all takes =
+    subst (λ (cs : List Command). Takes (seen old) (seen mid) cs) (sym (reads_submit_none figures reads all)) takes
 
-pub gathers_nothing : {C R W : Type 0} (seen : C → Seen) {reason : Fault → C → C → Type 0} {known : R × W → Known}
+pub gathers_nothing : {C R W : Type 0} (seen : C → Seen) {reason : Fault → C → C → Type 0} {known : R × W → Known} {figures : Figures}
     (bank : C) (here : List (Client R W)) (batch : Batch) → IsBatchOf here batch
-    → Gathers {X = Unit {0}} seen reason known bank bank here here batch (Ok tt)
+    → Gathers {X = Unit {0}} seen reason known figures bank bank here here batch (Ok tt)
 gathers_nothing seen bank here batch gives = record {
   reads = [];
   are_reads = tt;
@@ -202,24 +204,24 @@ gathers_nothing seen bank here batch gives = record {
 
 -- some, and then others
 pub gathers_then : {C R W X Y : Type 0} (seen : C → Seen) {reason : Fault → C → C → Type 0}
-    {known : R × W → Known} (old mid new : C) (here one two : List (Client R W)) (b b' : Batch) {x : X}
-    (result : Result Y Fault) → Gathers seen reason known old mid here one b (Ok x)
-    → Gathers seen reason known mid new one two b' result → Gathers seen reason known old new here two b' result
-gathers_then seen old mid new here one two b b' result p q = record {
+    {known : R × W → Known} {figures : Figures} (old mid new : C) (here one two : List (Client R W)) (b b' : Batch) {x : X}
+    (result : Result Y Fault) → Gathers seen reason known figures old mid here one b (Ok x)
+    → Gathers seen reason known figures mid new one two b' result → Gathers seen reason known figures old new here two b' result
+gathers_then seen {figures = figures} old mid new here one two b b' result p q = record {
   reads = p.reads ++ q.reads;
-  are_reads = all_more asks_to_read p.reads q.reads p.are_reads q.are_reads;
+  are_reads = all_more (is_read_under figures) p.reads q.reads p.are_reads q.are_reads;
   asked = asked_then seen old mid new result p.asked q.asked;
   beside = beside_then seen old mid new here one two p.reads q.reads
-      (takes_reads seen old mid p.reads p.are_reads p.asked.done) p.asked.honest p.beside q.beside;
+      (takes_reads seen figures old mid p.reads p.are_reads p.asked.done) p.asked.honest p.beside q.beside;
   gives = q.gives;
 }
 
 -- the messages of the client at a place
-pub gathers_at : {C R W X : Type 0} (seen : C → Seen) {reason : Fault → C → C → Type 0} {known : R × W → Known}
+pub gathers_at : {C R W X : Type 0} (seen : C → Seen) {reason : Fault → C → C → Type 0} {known : R × W → Known} {figures : Figures}
     (old new : C) (here : List (Client R W)) (p : ℕ) (client client' : Client R W) (batch : Batch)
     (result : Result X Fault) → AllDiffer (numbers here) → slice_get here p ≡ Some client
-    → IsAnswered seen reason known old new client client' result → IsBatchOf (slice_set here p client') batch
-    → Gathers seen reason known old new here (slice_set here p client') batch result
+    → IsAnswered seen reason known figures old new client client' result → IsBatchOf (slice_set here p client') batch
+    → Gathers seen reason known figures old new here (slice_set here p client') batch result
 gathers_at seen old new here p client client' batch result all at a gives = record {
   reads = a.more;
   are_reads = a.reads;
@@ -229,10 +231,10 @@ gathers_at seen old new here p client client' batch result all at a gives = reco
 }
 
 -- the result stands for another
-pub gathers_as : {C R W X Y : Type 0} {seen : C → Seen} {reason : Fault → C → C → Type 0} {known : R × W → Known}
+pub gathers_as : {C R W X Y : Type 0} {seen : C → Seen} {reason : Fault → C → C → Type 0} {known : R × W → Known} {figures : Figures}
     {old new : C} {here here' : List (Client R W)} {batch : Batch} {x : X} (y : Y)
-    → Gathers seen reason known old new here here' batch (Ok x)
-    → Gathers seen reason known old new here here' batch (Ok y)
+    → Gathers seen reason known figures old new here here' batch (Ok x)
+    → Gathers seen reason known figures old new here here' batch (Ok y)
 gathers_as y g = record {
   reads = g.reads;
   are_reads = g.are_reads;
@@ -241,10 +243,10 @@ gathers_as y g = record {
   gives = g.gives;
 }
 
-pub gathers_err : {C R W X Y : Type 0} {seen : C → Seen} {reason : Fault → C → C → Type 0} {known : R × W → Known}
+pub gathers_err : {C R W X Y : Type 0} {seen : C → Seen} {reason : Fault → C → C → Type 0} {known : R × W → Known} {figures : Figures}
     {old new : C} {here here' : List (Client R W)} {batch : Batch} {f : Fault}
-    → Gathers {X = X} seen reason known old new here here' batch (Err f)
-    → Gathers {X = Y} seen reason known old new here here' batch (Err f)
+    → Gathers {X = X} seen reason known figures old new here here' batch (Err f)
+    → Gathers {X = Y} seen reason known figures old new here here' batch (Err f)
 gathers_err g = record {
   reads = g.reads;
   are_reads = g.are_reads;

@@ -12,6 +12,7 @@ pub none_served : {C : Type 0} (seen : C → Seen) (reason : Fault → C → C �
     (n : ℕ) → ServesListener seen reason k k c c n (Err Network)
 none_served seen reason k c n = record {
   rounds = [];
+  figured = λ h log shown. tt;
   are_rounds = tt;
   refused = [];
   clock = refl;

@@ -11,7 +11,8 @@ use Rattle.posting_rules.specs.believed.Entries.{decided, reply_given, reply, ba
 use Rattle.posting_core.specs.believed.Tills.{teller_after}
 use Rattle.posting_core.proofs.Timeless.{zeroed, sum_zeroed, reply_zeroed, record_zeroed}
 use Rattle.counter_http.specs.{declared.routes.Route.Route, Momentless.AsksNoLog}
-use Rattle.counter_http.specs.declared.routes.Route.TheVariants.{Posting, Account, Teller, Branches, Health, Log, Plan}
+use Rattle.counter_http.specs.declared.routes.Route.TheVariants.{Posting, Account, Teller, Branches, Health, Log, Metrics}
+use Rattle.counter_http.specs.declared.routes.Route.TheVariants.{Plan}
 use Rattle.counter_http.specs.believed.Messages.{Message}
 use Rattle.counter_http.specs.believed.Paths.{account_in, path_of, route_of, teller_in}
 use Rattle.counter_http.specs.believed.Answers.{Asked, Answer, asked_by, account_answer, account_line, account_named, answer_of}
@@ -119,6 +120,7 @@ on_alike a b (Some Branches) asked other h =
     (branches_alike a b h)
 on_alike a b (Some Health) asked other h = refl
 on_alike a b (Some Log) asked other h = absurd (other refl)
+on_alike a b (Some Metrics) asked other h = refl
 on_alike a b (Some Plan) asked other h =
     ap (λ (x : List ℕ). cond (is_reading asked.method) (csv x) (not_allowed (codes "GET, HEAD"))) (plan_alike a b h)
 

@@ -1,21 +1,26 @@
 -- A round: messages that were answered while records were gathered, and those records.
-use Rattle.std.proofs.Common.{ℕ, List, [], ◌++◌, length, Option, Result, Ok, Err, refl, sym, ap, subst}
+use Rattle.std.proofs.Common.{◌≡◌, ℕ, List, [], ◌++◌, length, Option, Result, Ok, Err, refl, sym, ap, subst}
 use Rattle.std.proofs.Common.{◌∙◌, append_assoc, append-nil, arith}
 use Rattle.std.specs.{List.AllByRecursion, Prelude.OnOk}
 use Rattle.posting_rules.specs.declared.fault.Fault.{Fault}
 use Rattle.posting_rules.specs.believed.Commands.{Command}
 use Rattle.posting_rules.specs.believed.Counter.{LeavesOnly, Seen, ShowsPrefix, StandsAt, Takes}
-use Rattle.posting_rules.specs.believed.Runs.{followed_by}
+use Rattle.posting_rules.specs.believed.Runs.{followed_by, replies_to}
 use Rattle.posting_rules.proofs.CounterCalls.{idle_after, Takes-append}
 use Rattle.posting_core.proofs.Stops.{refused_stop, stop_all, stop_part}
 use Rattle.posting_core.proofs.StreamedBatches.{all_more}
 use Rattle.counter_http.specs.Connections.{Known}
-use Rattle.counter_http.specs.together.Order.{Step, submitted_by}
+use Rattle.counter_http.specs.together.Order.{Step, is_read_under, submitted_by}
 use Rattle.counter_http.specs.together.Rounds.{AllMoveOn, AnswersRound, EndsRound, IsOfOneOf, fault_in, numbers}
 use Rattle.counter_http.specs.together.Standing.{AreRefused, StandsHere}
 use Rattle.counter_http.specs.together.Submitting.{Gathers, SubmitsBatch}
+use Rattle.counter_http.specs.Figures.{Counts}
 use Rattle.counter_http.specs.declared.batch.Batch.{Batch}
+use Rattle.counter_http.specs.declared.figures.Figures.{Figures}
+use Rattle.counter_http.specs.declared.figures.Tally.{Tally}
 use Rattle.counter_http.specs.declared.client.Client.{Client}
+use Rattle.counter_http.proofs.Asked.{reads_submit_none}
+use Rattle.counter_http.proofs.Counted.{counts_none}
 use Rattle.counter_http.proofs.Gathering.{takes_reads}
 use Rattle.counter_http.proofs.Placed.{beside_then, found_too, takes_then}
 use Rattle.counter_http.proofs.Steps.{submitted-append}
@@ -38,24 +43,61 @@ survives_round seen old stood new steps refused (Err f) takes honest ends h log 
     (refused_stop f (seen stood) (seen new) (followed_by log (submitted_by steps)) (submitted_by refused) ends h
     (takes.stands (honest h) log stands))
 
+-- what is told while clients are here
+abbrev pub figures_at : {R W : Type 0} → List (Client R W) → Tally → ℕ → Figures
+figures_at here t seconds = record { tally = t; connections = length here; seconds = seconds }
+
+pub figured_by : {C R W X : Type 0} {seen : C → Seen} {reason : Fault → C → C → Type 0} {known : R × W → Known}
+    {old new : C} {here one : List (Client R W)} {t : Tally} {seconds : ℕ} {batch : Batch} {result : Result X Fault}
+    (count : ℕ) → count ≡ length here
+    → Gathers seen reason known (record { tally = t; connections = count; seconds = seconds }) old new here one batch result
+    → Gathers seen reason known (figures_at here t seconds) old new here one batch result
+figured_by {seen = seen} {reason} {known} {old} {new} {here} {one} {t} {seconds} {batch} {result} count same g =
+    subst (λ (n : ℕ). Gathers seen reason known (record { tally = t; connections = n; seconds = seconds }) old new here one
+    batch result) same g
+
+-- only the records of a round are submitted
+only_posts : (figures : Figures) (reads posts : List Step) → AllByRecursion (is_read_under figures) reads
+    → submitted_by (reads ++ posts) ≡ submitted_by posts
+only_posts figures reads posts all =
+    submitted-append reads posts
+    ∙ ap (λ (cs : List Command). cs ++ submitted_by posts) (reads_submit_none figures reads all)
+
 -- the records were submitted
 pub round_submitted : {C R W X Y : Type 0} (seen : C → Seen) {reason : Fault → C → C → Type 0} {known : R × W → Known}
-    {k k' : Option (List ℕ)} (old mid new : C) (here one two : List (Client R W)) (batch : Batch) {x : X}
-    (result : Result Y Fault) → Gathers seen reason known old mid here one batch (Ok x)
-    → (s : SubmitsBatch seen reason known k k' mid new one two (length batch.records.items) result)
+    {k k' : Option (List ℕ)} (old mid new : C) (here one two : List (Client R W)) {t t' : Tally} (seconds : ℕ)
+    (batch : Batch) {x : X} (result : Result Y Fault)
+    → (g : Gathers seen reason known (figures_at here t seconds) old mid here one batch (Ok x))
+    → (s : SubmitsBatch seen reason known k k' mid new one two t t' (length batch.records.items) result)
     → OnOk result (AllMoveOn here two s.did.posts)
-    → AnswersRound seen reason known k k' old new here two result
-round_submitted seen {reason} {known} old mid new here one two batch result g s moves =
+    → AnswersRound seen reason known k k' old new here two t t' seconds result
+round_submitted seen {reason} {known} old mid new here one two {t} {t'} seconds batch result g s moves =
     let d = s.did in
-    let took = takes_reads seen old mid g.reads g.are_reads g.asked.done in
+    let took = takes_reads seen (figures_at here t seconds) old mid g.reads g.are_reads g.asked.done in
     let both = beside_then seen old mid new here one two g.reads d.posts took g.asked.honest g.beside d.beside in
     let takes : Takes (seen old) (seen d.stood) (submitted_by (g.reads ++ d.posts)) =
     subst (λ (cs : List Command). Takes (seen old) (seen d.stood) cs) (sym (submitted-append g.reads d.posts))
     (Takes-append (seen old) (seen mid) (seen d.stood) (submitted_by g.reads) (submitted_by d.posts) took d.takes
     d.honest_first) in
     record {
-      round = record { reads = g.reads; readings = s.readings; posts = d.posts };
-      is_round = record { reads = g.are_reads; once = s.once; together = d.together; few = omega (arith, d.few, s.few) };
+      round = record {
+        figures = figures_at here t seconds;
+        reads = g.reads;
+        readings = s.readings;
+        posts = d.posts;
+        commits = d.commits;
+      };
+      is_round = record {
+        reads = g.are_reads;
+        once = s.once;
+        together = d.together;
+        few = omega (arith, d.few, s.few);
+        commits = d.are_commits;
+      };
+      figured = refl;
+      counts = λ h log shown. subst (λ (cs : List Command). Counts t t' (replies_to log cs) d.commits)
+          (sym (only_posts (figures_at here t seconds) g.reads d.posts g.are_reads))
+          (d.counts h log (g.asked.done.shows (d.honest_first (d.honest h)) log shown));
       moves = moves;
       refused = d.refused;
       whose = both.whose;
@@ -83,17 +125,26 @@ round_submitted seen {reason} {known} old mid new here one two batch result g s 
 
 -- the bank refused one of the messages before
 pub round_refused : {C R W X Y : Type 0} (seen : C → Seen) {reason : Fault → C → C → Type 0} {known : R × W → Known}
-    {k : Option (List ℕ)} (old new : C) (here one : List (Client R W)) (batch : Batch) (why : Fault)
-    → Gathers {X = X} seen reason known old new here one batch (Err why)
-    → AnswersRound {X = Y} seen reason known k k old new here one (Err why)
-round_refused {Y = Y} seen {reason} {known} old new here one batch why g =
+    {k : Option (List ℕ)} (old new : C) (here one : List (Client R W)) (t : Tally) (seconds : ℕ) (batch : Batch)
+    (why : Fault) → Gathers {X = X} seen reason known (figures_at here t seconds) old new here one batch (Err why)
+    → AnswersRound {X = Y} seen reason known k k old new here one t t seconds (Err why)
+round_refused {Y = Y} seen {reason} {known} old new here one t seconds batch why g =
     let f = g.asked.fault in
     let takes : Takes (seen old) (seen f.stood) (submitted_by (g.reads ++ [])) =
     subst (λ (ss : List Step). Takes (seen old) (seen f.stood) (submitted_by ss)) (sym (append-nil g.reads))
-    (takes_reads seen old f.stood g.reads g.are_reads f.takes) in
+    (takes_reads seen (figures_at here t seconds) old f.stood g.reads g.are_reads f.takes) in
     record {
-      round = record { reads = g.reads; readings = []; posts = [] };
-      is_round = record { reads = g.are_reads; once = omega arith; together = tt; few = omega arith };
+      round = record { figures = figures_at here t seconds; reads = g.reads; readings = []; posts = []; commits = 0 };
+      is_round = record {
+        reads = g.are_reads;
+        once = omega arith;
+        together = tt;
+        few = omega arith;
+        commits = record { few = omega arith; some = λ given. given };
+      };
+      figured = refl;
+      counts = λ h log shown. subst (λ (cs : List Command). Counts t t (replies_to log cs) 0)
+          (sym (only_posts (figures_at here t seconds) g.reads [] g.are_reads)) (counts_none t);
       moves = tt;
       refused = [];
       whose = all_more (IsOfOneOf (numbers here)) g.reads [] g.beside.whose tt;
@@ -117,12 +168,14 @@ round_refused {Y = Y} seen {reason} {known} old new here one batch why g =
 
 -- the result stands for another
 pub round_as : {C R W X Y : Type 0} {seen : C → Seen} {reason : Fault → C → C → Type 0} {known : R × W → Known}
-    {k k' : Option (List ℕ)} {old new : C} {here two : List (Client R W)} {x : X} (y : Y)
-    → AnswersRound seen reason known k k' old new here two (Ok x)
-    → AnswersRound seen reason known k k' old new here two (Ok y)
+    {k k' : Option (List ℕ)} {old new : C} {here two : List (Client R W)} {t t' : Tally} {seconds : ℕ} {x : X} (y : Y)
+    → AnswersRound seen reason known k k' old new here two t t' seconds (Ok x)
+    → AnswersRound seen reason known k k' old new here two t t' seconds (Ok y)
 round_as y a = record {
   round = a.round;
   is_round = a.is_round;
+  figured = a.figured;
+  counts = a.counts;
   refused = a.refused;
   whose = a.whose;
   whose_refused = a.whose_refused;
@@ -143,12 +196,14 @@ round_as y a = record {
 }
 
 pub round_err : {C R W X Y : Type 0} {seen : C → Seen} {reason : Fault → C → C → Type 0} {known : R × W → Known}
-    {k k' : Option (List ℕ)} {old new : C} {here two : List (Client R W)} {f : Fault}
-    → AnswersRound {X = X} seen reason known k k' old new here two (Err f)
-    → AnswersRound {X = Y} seen reason known k k' old new here two (Err f)
+    {k k' : Option (List ℕ)} {old new : C} {here two : List (Client R W)} {t t' : Tally} {seconds : ℕ} {f : Fault}
+    → AnswersRound {X = X} seen reason known k k' old new here two t t' seconds (Err f)
+    → AnswersRound {X = Y} seen reason known k k' old new here two t t' seconds (Err f)
 round_err a = record {
   round = a.round;
   is_round = a.is_round;
+  figured = a.figured;
+  counts = a.counts;
   refused = a.refused;
   whose = a.whose;
   whose_refused = a.whose_refused;

@@ -62,7 +62,7 @@ pub steps_posted : {R W : Type 0} (moment : ℕ) (here : List (Client R W)) (ss 
 steps_posted moment here [] rs g = tt
 steps_posted moment here (s ∷ ss) [] g = tt
 steps_posted moment here (s ∷ ss) (r ∷ rs) g =
-    ((g.0.gives.is.posting, refl), steps_posted moment here ss rs g.1)
+    ((g.0.gives.is.posting, refl, refl), steps_posted moment here ss rs g.1)
 
 pub steps_whose : {R W : Type 0} (moment : ℕ) (here : List (Client R W)) (ss : List Sender) (rs : List (List ℕ))
     (g : AreGiven here ss rs) → AllByRecursion (IsOfOneOf (numbers here)) (steps_at moment here ss rs g)

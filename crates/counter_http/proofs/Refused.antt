@@ -1,6 +1,6 @@
 -- Where a client stands whose message the bank refused.
 use Rattle.std.proofs.Common.{◌≡◌, ℕ, List, [], ◌∷◌, ◌++◌, drop, take, Option, None, Some, Bool, true, refl, sym, ap, subst, ◌∙◌}
-use Rattle.std.proofs.Common.{append-nil, inl, inr}
+use Rattle.std.proofs.Common.{inl, inr}
 use Rattle.std.specs.Prelude.{◌≢◌}
 use Rattle.std.specs.Io.KnownBytes.{Appends}
 use Rattle.posting_rules.specs.declared.fault.Fault.{Fault}
@@ -11,9 +11,9 @@ use Rattle.posting_core.proofs.Telling.{more_failed}
 use Rattle.counter_http.specs.Connections.{Known}
 use Rattle.counter_http.specs.together.Order.{Step, of_client}
 use Rattle.counter_http.specs.together.Standing.{HasEndedWith, IsHeadOf, IsParting, IsRefused, StandsHere, StandsRefused}
-use Rattle.counter_http.specs.together.Standing.{Writes, WritesLast, WritesSome, pending, unread}
+use Rattle.counter_http.specs.together.Standing.{Writes, pending, unread}
 use Rattle.counter_http.specs.together.Serving.{ClientIsRefused, IsOfRefusal, PartingIsOfItsEnd}
-use Rattle.counter_http.specs.believed.Answers.{answer_text, asked_by, bare, unavailable}
+use Rattle.counter_http.specs.believed.Answers.{answer_text, bare}
 use Rattle.counter_http.specs.believed.Messages.{Message}
 use Rattle.counter_http.specs.believed.Serving.{IsBrokenOff}
 use Rattle.counter_http.specs.believed.Turns.{Turn}

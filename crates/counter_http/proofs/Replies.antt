@@ -1,5 +1,5 @@
 -- What is done for the front of what was read from a client, and where it stands then.
-use Rattle.std.proofs.Common.{◌≡◌, ℕ, List, [], ◌∷◌, ◌++◌, drop, None, Bool, Result, Ok, Err}
+use Rattle.std.proofs.Common.{◌≡◌, ℕ, List, [], ◌∷◌, ◌++◌, drop, None, Option, Bool, Result, Ok, Err}
 use Rattle.std.proofs.Common.{true, false, refl, sym, ap, subst, ◌∙◌, append-nil, inl, inr}
 use Rattle.std.specs.Prelude.{IfOk}
 use Rattle.std.specs.{Borrow.Bor, List.AllByRecursion}
@@ -15,8 +15,10 @@ use Rattle.counter_http.specs.together.Standing.{HasEndedWith, IsAnswered, IsHea
 use Rattle.counter_http.specs.together.Standing.{SaysSo, StandsHere, pending, unread}
 use Rattle.counter_http.specs.Tasks.{IsTaskOf}
 use Rattle.counter_http.specs.Turns.{IsAsked}
-use Rattle.counter_http.specs.believed.Answers.{Answer, Asked, answer_text, answer_to, asked_by, bare, is_posting, refusal}
-use Rattle.counter_http.specs.believed.Answers.{shows}
+use Rattle.counter_http.specs.Figures.{answer_with, asks_figures, figures_answer, told_to}
+use Rattle.counter_http.specs.believed.Answers.{Answer, Asked, answer_text, answer_to, asked_by, bare}
+use Rattle.counter_http.specs.believed.Answers.{is_posting, refusal, shows}
+use Rattle.counter_http.specs.declared.figures.Figures.{Figures}
 use Rattle.counter_http.specs.believed.Messages.{EndsWalk, Message, message_text}
 use Rattle.counter_http.specs.believed.Serving.{IsWalked, KeepsConnection}
 use Rattle.counter_http.specs.together.Order.{Step, of_client, submitted_by}
@@ -29,7 +31,7 @@ use Rattle.counter_http.specs.declared.client.Head.{Head}
 use Rattle.counter_http.specs.declared.next.Whole.{Whole}
 use Rattle.counter_http.specs.declared.parting.Parting.TheVariants as parting
 use Rattle.counter_http.specs.declared.tasks.Task.TheVariants.{Submit}
-use Rattle.counter_http.proofs.Answering.{answered_refusal, step_of, waits_so}
+use Rattle.counter_http.proofs.Answering.{answered_refusal, step_told, waits_so}
 use Rattle.counter_http.proofs.AnsweredTurns.{submits_as}
 use Rattle.counter_http.proofs.Asked.{answered_nothing, asked_as, asked_err, asked_full}
 use Rattle.counter_http.proofs.Fronts.{answered_here, ends_by, going_here, going_of, gone_here, parted_here}
@@ -60,35 +62,53 @@ record_of head is bytes of task = record {
 -- ---- it is answered
 
 pub says_answered : {C R W X : Type 0} (seen : C → Seen) {reason : Fault → C → C → Type 0} {known : R × W → Known}
-    (bank new : C) (old after : Client R W) (m : Message) (head : Head) (answer : Answer) (done : Front)
+    (figures : Figures) (bank new : C) (old after : Client R W) (m : Message) (head : Head) (answer : Answer) (done : Front)
     (result : Result X Fault) → SaysSo old after answer head done → IsHeadOf head (unread old) m
     → old.parting ≡ None → is_posting (asked_by m) ≡ false → IsAsked seen reason bank new result
-    → ((seen new).honest → (log : List Command) → ShowsLog (seen bank) log → answer ≡ answer_to log (asked_by m))
-    → IsAnswered seen reason known bank new old after result
-says_answered seen {known = known} bank new old after m head answer front.Answered result did is going reads asked says =
+    → ((seen new).honest → (log : List Command) → ShowsLog (seen bank) log
+    → answer ≡ answer_with (told_to figures (asked_by m)) log (asked_by m))
+    → IsAnswered seen reason known figures bank new old after result
+says_answered seen {known = known} figures bank new old after m head answer front.Answered result did is going reads asked
+    says =
+    let told = told_to figures (asked_by m) in
     record {
-      more = step_of old.number 0 m ∷ [];
-      reads = (reads, tt);
+      more = step_told told old.number 0 m ∷ [];
+      reads = ((reads, refl), tt);
       own = (refl, tt);
       asked = asked;
       number = did.same.number;
       stands = λ k first steps takes stands.
-          answered_here old after 0 m head (answer_text answer head.shows_body head.closes) going is did asked.honest
+          answered_here old after told 0 m head (answer_text answer head.shows_body head.closes) going is did asked.honest
           (λ h log s. ap (λ (b : Bool). answer_text answer b head.closes) is.shows_is
           ∙ ap (λ (b : Bool). answer_text answer (shows (asked_by m)) b) is.closes_is
           ∙ ap (λ (a : Answer). answer_text a (shows (asked_by m)) (asked_by m).closes)
           (says h (followed_by log (submitted_by steps)) (takes.shows (asked.honest h) log s))) stands;
     }
-says_answered seen bank new old after m head answer front.Nothing result lost is going reads asked says =
+says_answered seen figures bank new old after m head answer front.Nothing result lost is going reads asked says =
     answered_nothing seen bank new old after result asked lost.number
     (λ k c steps stands. gone_here old after lost (stands_after old asked.honest stands))
-says_answered seen bank new old after m head answer (front.Record r) result did is going reads asked says = absurd did
+says_answered seen figures bank new old after m head answer (front.Record r) result did is going reads asked says =
+    absurd did
+
+-- what is asked for is no figures
+pub untold : (figures : Figures) (a : Asked) → asks_figures a ≡ false → told_to figures a ≡ None
+untold figures a none = rw none refl
+
+pub as_untold : (figures : Figures) (a : Asked) (log : List Command) (answer : Answer) → asks_figures a ≡ false
+    → answer ≡ answer_to log a → answer ≡ answer_with (told_to figures a) log a
+as_untold figures a log answer none is =
+    is ∙ ap (λ (told : Option Figures). answer_with told log a) (sym (untold figures a none))
+
+-- and here it is figures
+pub as_told : (figures : Figures) (a : Asked) (log : List Command) → asks_figures a ≡ true
+    → figures_answer figures ≡ answer_with (told_to figures a) log a
+as_told figures a log asks = rw asks refl
 
 told_answered : {C R W X : Type 0} (seen : C → Seen) {reason : Fault → C → C → Type 0} {known : R × W → Known}
-    (bank new : C) (old after : Client R W) (m : Message) (head : Head) (why : Fault) (result : Result X Fault)
+    {figures : Figures} (bank new : C) (old after : Client R W) (m : Message) (head : Head) (why : Fault) (result : Result X Fault)
     → HasEndedWith old after (answer_text (bare 503) head.shows_body true) (parting.Bank why)
     → IsHeadOf head (unread old) m → old.parting ≡ None → IsAsked seen reason bank new result
-    → IsAnswered seen reason known bank new old after result
+    → IsAnswered seen reason known figures bank new old after result
 told_answered seen bank new old after m head why result told is going asked =
     answered_nothing seen bank new old after result asked (number_ended old after told)
     (λ k c steps stands. refused_here old after m head why going is told asked.honest stands)
@@ -106,16 +126,19 @@ refusal_asked seen {reason} bank new (fault.Damaged rule) result told asked =
     subst (λ (r : Result Front Fault). IsAsked seen reason bank new r) (sym told) (asked_err asked)
 
 pub read_answered : {C R W : Type 0} (seen : C → Seen) {reason : Fault → C → C → Type 0} {known : R × W → Known}
-    (bank new : C) (old after : Client R W) (m : Message) (head : Head) (read : Result Reading Fault)
+    (figures : Figures) (bank new : C) (old after : Client R W) (m : Message) (head : Head) (read : Result Reading Fault)
     (result : Result Front Fault) → ReadsAnswer old after read head result → IsHeadOf head (unread old) m
-    → old.parting ≡ None → is_posting (asked_by m) ≡ false → IsAsked seen reason bank new read
+    → old.parting ≡ None → is_posting (asked_by m) ≡ false → asks_figures (asked_by m) ≡ false
+    → IsAsked seen reason bank new read
     → IfOk read (λ reading. (seen new).honest → (log : List Command) → ShowsLog (seen bank) log
     → said_in reading ≡ answer_to log (asked_by m))
-    → IsAnswered seen reason known bank new old after result
-read_answered seen {reason} {known} bank new old after m head (Ok reading) result did is going reads asked says =
-    says_answered seen bank new old after m head (said_in reading) did.0 result did.2 is going reads
-    (subst (λ (r : Result Front Fault). IsAsked seen reason bank new r) (sym did.1) (asked_as did.0 asked)) says
-read_answered seen bank new old after m head (Err why) result did is going reads asked says =
+    → IsAnswered seen reason known figures bank new old after result
+read_answered seen {reason} {known} figures bank new old after m head (Ok reading) result did is going reads none asked
+    says =
+    says_answered seen figures bank new old after m head (said_in reading) did.0 result did.2 is going reads
+    (subst (λ (r : Result Front Fault). IsAsked seen reason bank new r) (sym did.1) (asked_as did.0 asked))
+    (λ h log s. as_untold figures (asked_by m) log (said_in reading) none (says h log s))
+read_answered seen figures bank new old after m head (Err why) result did is going reads none asked says =
     told_answered seen bank new old after m head why result did.0 is going
     (refusal_asked seen bank new why result did.1 asked)
 

@@ -10,7 +10,7 @@ use Rattle.std.proofs.lemmas.Bool.{cases_Bool, cases_eq, cases_lt, le-ltb, ne_eq
 use Rattle.posting_rules.proofs.RowChanges.{eqb-flip}
 use Rattle.matchit.specs.{Rows.RowsOf, Router.RouteOf}
 use Rattle.counter_http.specs.declared.routes.Route.{Route, TheVariants.Posting, TheVariants.Branches, TheVariants.Health}
-use Rattle.counter_http.specs.declared.routes.Route.TheVariants.{Plan}
+use Rattle.counter_http.specs.declared.routes.Route.TheVariants.{Metrics, Plan}
 use Rattle.matchit.specs.Seek.{step, or_else, param_step, seek, first, has_slash}
 use Rattle.counter_http.specs.believed.Paths.{is_slash, route_named, route_of}
 use Rattle.counter_http.specs.Rows.{fixed, account_row, all_routes, log_row, teller_row}
@@ -155,6 +155,7 @@ after_slash = (codes "account/" ++ 256 ∷ [], account_row.1)
     ∷ (codes "branches", (fixed (codes "/branches") Branches).1)
     ∷ (codes "health", (fixed (codes "/health") Health).1)
     ∷ (codes "log/" ++ 256 ∷ [], log_row.1)
+    ∷ (codes "metrics", (fixed (codes "/metrics") Metrics).1)
     ∷ (codes "plan", (fixed (codes "/plan") Plan).1)
     ∷ (codes "post", (fixed (codes "/post") Posting).1)
     ∷ (codes "teller/" ++ 256 ∷ [], teller_row.1) ∷ []
@@ -201,6 +202,14 @@ second_log q bytes =
     ap (option_map value_in) (literal_step after_slash 108 q refl refl
     ∙ seek_account (codes "og/") log_row.1 q (lit< tt, (lit< tt, (lit< tt, tt))) bytes)
     ∙ mapped (leads (codes "og/") q) log_row.1 ∙ (rw ltb_five refl)
+
+second_metrics : (q : List ℕ)
+    → option_map value_in (seek 0 after_slash (109 ∷ q)) ≡ route_named (47 ∷ 109 ∷ q)
+second_metrics q =
+    ap (option_map value_in) (literal_step after_slash 109 q refl refl
+    ∙ seek_row (codes "etrics") (fixed (codes "/metrics") Metrics).1 q
+    (lit< tt, (lit< tt, (lit< tt, (lit< tt, (lit< tt, (lit< tt, tt)))))))
+    ∙ mapped (bytes_eq q (codes "etrics")) (fixed (codes "/metrics") Metrics).1
 
 second_teller : (q : List ℕ) → AreBytes q
     → option_map value_in (seek 0 after_slash (116 ∷ q)) ≡ route_named (47 ∷ 116 ∷ q)
@@ -249,19 +258,20 @@ second_p : (q : List ℕ) → option_map value_in (seek 0 after_slash (112 ∷ q
 second_p q = ap (option_map value_in) (literal_step after_slash 112 q refl refl) ∙ third q
 
 second_other : (c : ℕ) (q : List ℕ) → eqb c 97 ≡ false → eqb c 98 ≡ false → eqb c 104 ≡ false → eqb c 108 ≡ false
-    → eqb c 112 ≡ false → eqb c 116 ≡ false
+    → eqb c 109 ≡ false → eqb c 112 ≡ false → eqb c 116 ≡ false
     → option_map value_in (seek 0 after_slash (c ∷ q)) ≡ route_named (47 ∷ c ∷ q)
-second_other c q a b h l p t =
+second_other c q a b h l m p t =
     let a' : eqb 97 c ≡ false = eqb-flip 97 c ∙ a in
     let b' : eqb 98 c ≡ false = eqb-flip 98 c ∙ b in
     let h' : eqb 104 c ≡ false = eqb-flip 104 c ∙ h in
     let l' : eqb 108 c ≡ false = eqb-flip 108 c ∙ l in
+    let m' : eqb 109 c ≡ false = eqb-flip 109 c ∙ m in
     let p' : eqb 112 c ≡ false = eqb-flip 112 c ∙ p in
     let t' : eqb 116 c ≡ false = eqb-flip 116 c ∙ t in
-    let none : step c after_slash ≡ no_rows = rw (a', b', h', l', p', t') refl in
+    let none : step c after_slash ≡ no_rows = rw (a', b', h', l', m', p', t') refl in
     ap (option_map value_in) (literal_step after_slash c q refl refl ∙ ap (λ (rs : Rs). seek 0 rs q) none
     ∙ seek_none 0 q)
-    ∙ (rw (a, b, h, l, p, t) refl)
+    ∙ (rw (a, b, h, l, m, p, t) refl)
 
 second : (p : List ℕ) → AreBytes p → option_map value_in (seek 0 after_slash p) ≡ route_named (47 ∷ p)
 unfolding seek
@@ -278,14 +288,18 @@ second (c ∷ q) bytes = elim (cases_eq c 97) [
       | inr h ↦ elim (cases_eq c 108) [
         | inl e ↦ subst (λ (x : ℕ). option_map value_in (seek 0 after_slash (x ∷ q))
             ≡ route_named (47 ∷ x ∷ q)) (sym e) (second_log q bytes.1)
-        | inr l ↦ elim (cases_eq c 112) [
+        | inr l ↦ elim (cases_eq c 109) [
           | inl e ↦ subst (λ (x : ℕ). option_map value_in (seek 0 after_slash (x ∷ q))
-              ≡ route_named (47 ∷ x ∷ q)) (sym e) (second_p q)
-          | inr p ↦ elim (cases_eq c 116) [
+              ≡ route_named (47 ∷ x ∷ q)) (sym e) (second_metrics q)
+          | inr m ↦ elim (cases_eq c 112) [
             | inl e ↦ subst (λ (x : ℕ). option_map value_in (seek 0 after_slash (x ∷ q))
-                ≡ route_named (47 ∷ x ∷ q)) (sym e) (second_teller q bytes.1)
-            | inr t ↦ second_other c q (ne_eqb c 97 a) (ne_eqb c 98 b) (ne_eqb c 104 h) (ne_eqb c 108 l)
-                (ne_eqb c 112 p) (ne_eqb c 116 t)
+                ≡ route_named (47 ∷ x ∷ q)) (sym e) (second_p q)
+            | inr p ↦ elim (cases_eq c 116) [
+              | inl e ↦ subst (λ (x : ℕ). option_map value_in (seek 0 after_slash (x ∷ q))
+                  ≡ route_named (47 ∷ x ∷ q)) (sym e) (second_teller q bytes.1)
+              | inr t ↦ second_other c q (ne_eqb c 97 a) (ne_eqb c 98 b) (ne_eqb c 104 h) (ne_eqb c 108 l)
+                  (ne_eqb c 109 m) (ne_eqb c 112 p) (ne_eqb c 116 t)
+            ]
           ]
         ]
       ]

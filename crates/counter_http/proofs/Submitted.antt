@@ -1,6 +1,6 @@
 -- Calls of a counter that was given records of clients, one call after another.
 use Rattle.std.proofs.Common.{◌≡◌, ℕ, ◌+◌, ◌<◌, ◌≤◌, List, [], ◌∷◌, ◌++◌, length, Some, Result, Ok, Err}
-use Rattle.std.proofs.Common.{refl, sym, subst, append_assoc, append-nil, arith, inl, inr}
+use Rattle.std.proofs.Common.{refl, sym, ap, subst, ◌∙◌, append_assoc, append-nil, arith, inl, inr}
 use Rattle.std.proofs.lemmas.List.{length-append}
 use Rattle.std.specs.{List.AllByRecursion, List.slice_get, Prelude.◌⊎◌, Prelude.IfErr, Prelude.OnOk}
 use Rattle.posting_rules.specs.declared.fault.Fault.{Fault}
@@ -9,10 +9,13 @@ use Rattle.posting_rules.specs.believed.{Commands.Command}
 use Rattle.posting_rules.specs.believed.Counter.{IsCounterCall, Refuses, Seen, ShowsLog, Takes}
 use Rattle.posting_rules.specs.believed.Runs.{followed_by, posts, replies_to}
 use Rattle.posting_rules.proofs.CounterCalls.{idle_after, refused_after, takes_none, Takes-append}
+use Rattle.posting_rules.proofs.Sequence.{replies_to-append}
 use Rattle.posting_core.specs.Stream.{IsOfCall}
 use Rattle.posting_core.proofs.StreamedBatches.{all_more}
 use Rattle.counter_http.specs.Connections.{Known}
-use Rattle.counter_http.specs.together.Order.{Step, is_posted_under, submitted_by}
+use Rattle.counter_http.specs.together.Order.{AreCommits, Step, is_posted_under, submitted_by}
+use Rattle.counter_http.specs.Figures.{Counts}
+use Rattle.counter_http.specs.declared.figures.Tally.{Tally}
 use Rattle.counter_http.specs.together.Rounds.{AllDiffer, IsOfOneOf, LacksMemory, fault_in, numbers}
 use Rattle.counter_http.specs.together.Standing.{AreRefused, StandsHere}
 use Rattle.counter_http.specs.together.Submitting.{AnswersEach, AreApart, AreGiven, AreSubmitted}
@@ -20,6 +23,7 @@ use Rattle.counter_http.specs.together.Submitting.{RefusesEach}
 use Rattle.counter_http.specs.declared.batch.Sender.{Sender}
 use Rattle.counter_http.specs.declared.client.Client.{Client}
 use Rattle.counter_http.proofs.AnsweredTurns.{why_first}
+use Rattle.counter_http.proofs.Counted.{commits_then, counts_none, counts_then}
 use Rattle.counter_http.proofs.Asked.{unchanged_takes}
 use Rattle.counter_http.proofs.Fronts.{stands_after}
 use Rattle.counter_http.proofs.Placed.{beside_none, beside_then, found_too, takes_then}
@@ -29,11 +33,17 @@ use Rattle.counter_http.proofs.Steps.{submitted-append}
 
 -- ---- no record
 
+no_commit : AreCommits 0 0
+no_commit = record { few = omega arith; some = λ given. given }
+
 pub submitted_nothing : {C R W : Type 0} (seen : C → Seen) {reason : Fault → C → C → Type 0} {known : R × W → Known}
-    (readings : List ℕ) (bank : C) (here : List (Client R W))
-    → AreSubmitted {X = Unit {0}} seen reason known readings bank bank here here 0 (Ok tt)
-submitted_nothing seen readings bank here = record {
+    (readings : List ℕ) (bank : C) (here : List (Client R W)) (t : Tally)
+    → AreSubmitted {X = Unit {0}} seen reason known readings bank bank here here t t 0 (Ok tt)
+submitted_nothing seen readings bank here t = record {
   posts = [];
+  commits = 0;
+  are_commits = no_commit;
+  counts = λ h log shown. counts_none t;
   refused = [];
   together = tt;
   few = omega arith;
@@ -54,13 +64,16 @@ submitted_nothing seen readings bank here = record {
 -- memory was refused for a call, and no client was told
 pub spared_all : {C K R W X : Type 0} (seen : C → Seen) (contents : C → K) (reason : Fault → C → C → Type 0)
     {known : R × W → Known} (readings : List ℕ) (old new : C) (here : List (Client R W)) (cs : List Command)
-    (why : Fault) → why ≡ fault.Memory → IsCounterCall {X = X} seen contents reason old new cs (Err why)
-    → AreSubmitted {X = Unit {0}} seen reason known readings old new here here 0 (Ok tt)
-spared_all {X = X} seen contents reason readings old new here cs why e it =
+    (t : Tally) (why : Fault) → why ≡ fault.Memory → IsCounterCall {X = X} seen contents reason old new cs (Err why)
+    → AreSubmitted {X = Unit {0}} seen reason known readings old new here here t t 0 (Ok tt)
+spared_all {X = X} seen contents reason readings old new here cs t why e it =
     let call : IsCounterCall {X = X} seen contents reason old new cs (Err fault.Memory) =
     subst (λ (f : Fault). IsCounterCall {X = X} seen contents reason old new cs (Err f)) e it in
     record {
       posts = [];
+      commits = 0;
+      are_commits = no_commit;
+      counts = λ h log shown. counts_none t;
       refused = [];
       together = tt;
       few = omega arith;
@@ -91,16 +104,23 @@ refused_beside seen {known} old new here here' ss rs g apart why honest chain p 
     (refused_each here here' ss rs why g apart chain p y y' at at' before (stands_after y honest is))
 
 module _ {C K R W X : Type 0} (seen : C → Seen) (contents : C → K) (reason : Fault → C → C → Type 0)
-    {known : R × W → Known} (moment : ℕ) (old new : C) (here here' : List (Client R W)) (ss : List Sender)
+    {known : R × W → Known} (moment : ℕ) (old new : C) (here here' : List (Client R W)) (t t' : Tally) (ss : List Sender)
     (rs : List (List ℕ)) (g : AreGiven here ss rs) (apart : AreApart ss) where
   -- the bank took it, and each sender was answered
   pub taken_all : (qs : List (List ℕ)) (x : X) → AllDiffer (numbers here)
       → IsCounterCall seen contents reason old new (posts moment rs) (Ok x)
       → ((seen new).honest → (log : List Command) → ShowsLog (seen old) log → qs ≡ replies_to log (posts moment rs))
-      → AnswersEach here here' ss qs
-      → AreSubmitted {X = Unit {0}} seen reason known (moment ∷ []) old new here here' (length rs) (Ok tt)
-  taken_all qs x all call says chain = record {
+      → AnswersEach here here' ss qs → Counts t t' qs 1 → 0 < length rs
+      → AreSubmitted {X = Unit {0}} seen reason known (moment ∷ []) old new here here' t t' (length rs) (Ok tt)
+  taken_all qs x all call says chain counted some = record {
     posts = steps_at moment here ss rs g;
+    commits = 1;
+    are_commits = record {
+      few = omega (arith, steps_long moment here ss rs g, some);
+      some = λ given. omega arith;
+    };
+    counts = λ h log shown. subst (λ (xs : List (List ℕ)). Counts t t' xs 1)
+        (says h log shown ∙ ap (replies_to log) (sym (steps_submit moment here ss rs g))) counted;
     refused = [];
     together = steps_posted moment here ss rs g;
     few = omega (arith, steps_long moment here ss rs g);
@@ -129,9 +149,12 @@ module _ {C K R W X : Type 0} (seen : C → Seen) (contents : C → K) (reason :
   pub refused_all : (why : Fault) → AllDiffer (numbers here)
       → IsCounterCall {X = X} seen contents reason old new (posts moment rs) (Err why)
       → RefusesEach here here' ss why
-      → AreSubmitted {X = Unit {0}} seen reason known (moment ∷ []) old new here here' (length rs) (Err why)
+      → AreSubmitted {X = Unit {0}} seen reason known (moment ∷ []) old new here here' t t (length rs) (Err why)
   refused_all why all call chain = record {
     posts = [];
+    commits = 0;
+    are_commits = no_commit;
+    counts = λ h log shown. counts_none t;
     refused = steps_at moment here ss rs g;
     together = tt;
     few = omega arith;
@@ -161,12 +184,15 @@ module _ {C K R W X : Type 0} (seen : C → Seen) (contents : C → K) (reason :
   pub spared_each : (why : Fault) → why ≡ fault.Memory
       → IsCounterCall {X = X} seen contents reason old new (posts moment rs) (Err why)
       → RefusesEach here here' ss why
-      → AreSubmitted {X = Unit {0}} seen reason known (moment ∷ []) old new here here' (length rs) (Ok tt)
+      → AreSubmitted {X = Unit {0}} seen reason known (moment ∷ []) old new here here' t t (length rs) (Ok tt)
   spared_each why e it chain =
       let call : IsCounterCall {X = X} seen contents reason old new (posts moment rs) (Err fault.Memory) =
       subst (λ (f : Fault). IsCounterCall {X = X} seen contents reason old new (posts moment rs) (Err f)) e it in
       record {
         posts = [];
+        commits = 0;
+        are_commits = no_commit;
+        counts = λ h log shown. counts_none t;
         refused = [];
         together = tt;
         few = omega arith;
@@ -207,11 +233,11 @@ more_posted here ss ts (Ok x) (inr lacks) = inr lacks
 more_posted here ss ts (Err f) none = tt
 
 pub submitted_then : {C R W X Y : Type 0} (seen : C → Seen) {reason : Fault → C → C → Type 0} {known : R × W → Known}
-    (readings : List ℕ) (old mid new : C) (here one two : List (Client R W)) (n m : ℕ) {x : X} (result : Result Y Fault)
-    → AreSubmitted seen reason known readings old mid here one n (Ok x)
-    → AreSubmitted seen reason known readings mid new one two m result → (0 < n + m → 0 < m)
-    → AreSubmitted seen reason known readings old new here two (n + m) result
-submitted_then {C = C} seen {reason} {known} readings old mid new here one two n m result a b some =
+    (readings : List ℕ) (old mid new : C) (here one two : List (Client R W)) {t u v : Tally} (n m : ℕ) {x : X}
+    (result : Result Y Fault) → AreSubmitted seen reason known readings old mid here one t u n (Ok x)
+    → AreSubmitted seen reason known readings mid new one two u v m result → (0 < n + m → 0 < m)
+    → AreSubmitted seen reason known readings old new here two t v (n + m) result
+submitted_then {C = C} seen {reason} {known} readings old mid new here one two {t} {u} {v} n m result a b some =
     let took : Takes (seen old) (seen mid) (submitted_by a.posts) =
     subst (λ (c : C). Takes (seen old) (seen c) (submitted_by a.posts)) (sym a.ends.1) a.takes in
     let honest : (seen mid).honest → (seen old).honest = λ h. a.honest_first (a.honest h) in
@@ -219,6 +245,18 @@ submitted_then {C = C} seen {reason} {known} readings old mid new here one two n
     subst (λ (c : C). (seen c).is_down → (seen old).is_down) (sym a.ends.1) a.up in
     record {
       posts = a.posts ++ b.posts;
+      commits = a.commits + b.commits;
+      are_commits = subst (λ (k : ℕ). AreCommits (a.commits + b.commits) k) (sym (length-append a.posts b.posts))
+          (commits_then a.commits b.commits (length a.posts) (length b.posts) a.are_commits b.are_commits);
+      counts = λ h log shown.
+          let before = b.honest_first (b.honest h) in
+          subst (λ (xs : List (List ℕ)). Counts t v xs (a.commits + b.commits))
+          (sym (ap (replies_to log) (submitted-append a.posts b.posts)
+          ∙ replies_to-append log (submitted_by a.posts) (submitted_by b.posts)))
+          (counts_then (replies_to log (submitted_by a.posts))
+          (replies_to (followed_by log (submitted_by a.posts)) (submitted_by b.posts)) a.commits b.commits
+          (a.counts before log shown)
+          (b.counts h (followed_by log (submitted_by a.posts)) (took.shows before log shown)));
       refused = b.refused;
       together = all_more (is_posted_under readings) a.posts b.posts a.together b.together;
       few = omega (arith, length-append a.posts b.posts, a.few, b.few);
@@ -246,22 +284,25 @@ submitted_then {C = C} seen {reason} {known} readings old mid new here one two n
 
 -- none were submitted before
 pub submitted_after : {C R W X Y : Type 0} (seen : C → Seen) {reason : Fault → C → C → Type 0} {known : R × W → Known}
-    (readings : List ℕ) (old mid new : C) (here one two : List (Client R W)) (m : ℕ) {x : X} (result : Result Y Fault)
-    → AreSubmitted seen reason known readings old mid here one 0 (Ok x)
-    → AreSubmitted seen reason known readings mid new one two m result
-    → AreSubmitted seen reason known readings old new here two m result
-submitted_after seen {reason} {known} readings old mid new here one two m result a b =
+    (readings : List ℕ) (old mid new : C) (here one two : List (Client R W)) {t u v : Tally} (m : ℕ) {x : X}
+    (result : Result Y Fault) → AreSubmitted seen reason known readings old mid here one t u 0 (Ok x)
+    → AreSubmitted seen reason known readings mid new one two u v m result
+    → AreSubmitted seen reason known readings old new here two t v m result
+submitted_after seen {reason} {known} readings old mid new here one two {t} {u} {v} m result a b =
     let same : 0 + m ≡ m = omega arith in
-    subst (λ (n : ℕ). AreSubmitted seen reason known readings old new here two n result) same
+    subst (λ (n : ℕ). AreSubmitted seen reason known readings old new here two t v n result) same
     (submitted_then seen readings old mid new here one two 0 m result a b (λ some. omega (arith, some)))
 
 -- fewer are no more, where one was refused
 pub submitted_few : {C R W X : Type 0} {seen : C → Seen} {reason : Fault → C → C → Type 0} {known : R × W → Known}
-    {readings : List ℕ} {old new : C} {here here' : List (Client R W)} {f : Fault} (n m : ℕ) → n ≤ m
-    → AreSubmitted {X = X} seen reason known readings old new here here' n (Err f)
-    → AreSubmitted {X = X} seen reason known readings old new here here' m (Err f)
+    {readings : List ℕ} {old new : C} {here here' : List (Client R W)} {t t' : Tally} {f : Fault} (n m : ℕ) → n ≤ m
+    → AreSubmitted {X = X} seen reason known readings old new here here' t t' n (Err f)
+    → AreSubmitted {X = X} seen reason known readings old new here here' t t' m (Err f)
 submitted_few n m le a = record {
   posts = a.posts;
+  commits = a.commits;
+  are_commits = a.are_commits;
+  counts = a.counts;
   refused = a.refused;
   together = a.together;
   few = omega (arith, a.few, le);

@@ -1,6 +1,6 @@
 pub mod believed
 pub mod together
-pub mod Faults
+pub mod ConnectionFaults
 pub mod Ends
 pub mod Messages
 pub mod Next
@@ -18,3 +18,4 @@ pub mod Tasks
 pub mod Asking
 pub mod Listing
 pub mod Momentless
+pub mod Figures

@@ -262,5 +262,6 @@ pub(crate) fn answer_message<W: Sink, K: Clock, C: Followed>(
             let read = read_entries(after, bank);
             answer_reading(message, read, writer)
         }
+        Task::Metrics => say(message, &not_found(), writer),
     }
 }

@@ -7,6 +7,7 @@ ghost use Rattle.counter_http.specs.together.Submitting.{AddsIfRoom, AnswersAt, 
 ghost use Rattle.counter_http.specs.together.Submitting.{ChangesAt, GivesAt, IsBatchOf, IsNextPlace, RefusesAt, RefusesEach, SubmitsBatch};
 
 use crate::client::{Client, Head, Record};
+use crate::figures::Tally;
 use arrayvec::ArrayVec;
 use message_records::{Moment, REPLY_BYTES, REQUEST_BYTES};
 use posting_core::{Clock, Counter, Fault, RECORDS_PER_BATCH, Sink, Source};
@@ -49,10 +50,11 @@ fn refuse_at<R: Source + Drop, W: Sink + Drop>(
     here[sender.place].refuse_record(sender.head, fault);
 }
 
-// Submits the record of one sender, and answers that one. Where the bank has no memory for it the sender is
-// told so, and that is no fault.
+// Submits the record of one sender, answers that one, and counts the reply. Where the bank has no memory for it the
+// sender is told so, and that is no fault.
 fn submit_one<R: Source + Drop, W: Sink + Drop, C: Counter>(
     here: &mut Vec<Client<R, W>>,
+    tally: &mut Tally,
     sender: Sender,
     moment: Moment,
     bytes: &[u8; REQUEST_BYTES],
@@ -61,13 +63,14 @@ fn submit_one<R: Source + Drop, W: Sink + Drop, C: Counter>(
     requires others { AllDiffer (numbers here.old.items) }
     requires gives { GivesAt here.old.items sender bytes.now }
     ensures submits { AreSubmitted C.seen C.reason (known_ends R.remaining R.told R.beside W.contents W.told)
-        (moment ∷ []) bank.old bank.new here.old.items here.new.items 1 result }
+        (moment ∷ []) bank.old bank.new here.old.items here.new.items tally.old tally.new 1 result }
     ensures only { ChangesAt here.old.items here.new.items sender.place }
     ensures spares { C.spares bank.old bank.new }
 {
     match bank.submit(moment, bytes) {
         Ok(reply) => {
             answer_at(here, sender, &reply);
+            tally.count_commit(&[reply]);
             Ok(())
         }
         Err(fault) => {
@@ -120,12 +123,13 @@ impl Batch {
         });
     }
 
-    /// Submits the records in one call, under one reading of the clock, and answers each sender. Where the bank
-    /// has no memory for them together, they are submitted one by one. Where it refuses them otherwise, each
-    /// sender is answered a 503.
+    /// Submits the records in one call, under one reading of the clock, answers each sender, and counts the replies.
+    /// Where the bank has no memory for them together, they are submitted one by one. Where it refuses them
+    /// otherwise, each sender is answered a 503.
     pub fn submit<R: Source + Drop, W: Sink + Drop, K: Clock, C: Counter>(
         &self,
         here: &mut Vec<Client<R, W>>,
+        tally: &mut Tally,
         clock: &mut K,
         bank: &mut C,
     ) -> Result<(), Fault>
@@ -133,7 +137,7 @@ impl Batch {
         requires gives { IsBatchOf here.old.items self.now }
         ensures submits { SubmitsBatch C.seen C.reason (known_ends R.remaining R.told R.beside W.contents W.told)
             (K.readings clock.old) (K.readings clock.new) bank.old bank.new here.old.items here.new.items
-            (length self.now.records.items) result }
+            tally.old tally.new (length self.now.records.items) result }
         ensures none { length self.now.records.items ≡ 0 → here.new.items ≡ here.old.items }
         ensures spares { C.spares bank.old bank.new }
     {
@@ -145,9 +149,10 @@ impl Batch {
         match bank.submit_all(moment, records) {
             Ok(replies) => {
                 self.answer(here, &replies);
+                tally.count_commit(&replies);
                 Ok(())
             }
-            Err(Fault::Memory) => self.submit_each(here, moment, bank),
+            Err(Fault::Memory) => self.submit_each(here, tally, moment, bank),
             Err(fault) => {
                 self.refuse(here, fault);
                 Err(fault)
@@ -181,22 +186,24 @@ impl Batch {
         }
     }
 
-    // Submits the records one by one, and answers each sender at once.
+    // Submits the records one by one, answers each sender at once, and counts the replies.
     fn submit_each<R: Source + Drop, W: Sink + Drop, C: Counter>(
         &self,
         here: &mut Vec<Client<R, W>>,
+        tally: &mut Tally,
         moment: Moment,
         bank: &mut C,
     ) -> Result<(), Fault>
         requires others { AllDiffer (numbers here.old.items) }
         requires gives { IsBatchOf here.old.items self.now }
         ensures submits { AreSubmitted C.seen C.reason (known_ends R.remaining R.told R.beside W.contents W.told)
-            (moment ∷ []) bank.old bank.new here.old.items here.new.items (length self.now.records.items) result }
+            (moment ∷ []) bank.old bank.new here.old.items here.new.items tally.old tally.new
+            (length self.now.records.items) result }
         ensures spares { C.spares bank.old bank.new }
     {
         let senders = self.senders.as_slice();
         for (i, bytes) in self.records.as_slice().iter().enumerate() {
-            submit_one(here, senders[i], moment, bytes, bank)?;
+            submit_one(here, tally, senders[i], moment, bytes, bank)?;
         }
         Ok(())
     }

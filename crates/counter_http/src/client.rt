@@ -3,8 +3,10 @@
 ghost use Rattle.std.specs.Prelude.{◌≡◌, ◌≤◌, length};
 
 use crate::answers::{Reading, read_balance, read_branches, read_entries};
+use crate::figures::Figures;
 use crate::fixed::{bad_request, unavailable};
 use crate::limits::BUFFER;
+use crate::metrics::text_of;
 use crate::next::{Next, is_head, next_message};
 use crate::parting::Parting;
 use crate::routes::Routes;
@@ -83,6 +85,7 @@ impl<R: Source + Drop, W: Sink + Drop> Client<R, W> {
     ghost use Rattle.counter_http.specs.together.Standing.{ReadsAnswer, SaysSo, pending};
     ghost use Rattle.counter_http.specs.together.Reading.{Reads};
     ghost use Rattle.counter_http.specs.Telling.{said};
+    ghost use Rattle.counter_http.specs.Figures.{figures_answer};
     ghost use Rattle.counter_http.specs.believed.Answers.{answer_text, bare};
 
     /// A client that sent nothing yet. Where memory is refused, it is parted from.
@@ -280,6 +283,24 @@ impl<R: Source + Drop, W: Sink + Drop> Client<R, W> {
         }
     }
 
+    // Answers the message at the front with the figures.
+    fn say_figures(&mut self, alloc: Global, figures: &Figures, head: Head) -> Front
+        requires { head.length ≤ self.old.filled }
+        ensures { SaysSo self.old self.new (figures_answer figures.now) head result }
+    {
+        let Ok(text) = text_of(alloc, figures) else {
+            self.lose(Parting::Memory);
+            return Front::Nothing;
+        };
+        let response = Response {
+            status: StatusCode::OK,
+            media: b"text/plain; version=0.0.4",
+            allow: None,
+            body: text.as_bytes(),
+        };
+        self.say(&response, head)
+    }
+
     // Answers the message at the front with what was read for it, or tells that the bank refused that.
     fn answer_reading(&mut self, read: Result<Reading, Fault>, head: Head) -> Result<Front, Fault>
         requires { head.length ≤ self.old.filled }
@@ -303,10 +324,11 @@ impl<R: Source + Drop, W: Sink + Drop> Client<R, W> {
         &mut self,
         alloc: Global,
         routes: &Routes,
+        figures: &Figures,
         bank: &mut C,
     ) -> Result<Front, Fault>
         ensures answers { IsAnswered C.seen C.reason (known_ends R.remaining R.told R.beside W.contents W.told)
-            bank.old bank.new self.old self.new result }
+            figures.now bank.old bank.new self.old self.new result }
         ensures record { IfOk result (GivesFront self.new) }
         ensures rests { IfOk result (LooksDone self.old self.new) }
         ensures spares { C.spares bank.old bank.new }
@@ -339,6 +361,7 @@ impl<R: Source + Drop, W: Sink + Drop> Client<R, W> {
                         let read = read_entries(after, bank);
                         self.answer_reading(read, head)
                     }
+                    Task::Metrics => Ok(self.say_figures(alloc, figures, head)),
                 }
             }
             Next::Unfinished(shows) => {
@@ -363,10 +386,11 @@ impl<R: Source + Drop, W: Sink + Drop> Client<R, W> {
         &mut self,
         alloc: Global,
         routes: &Routes,
+        figures: &Figures,
         bank: &mut C,
     ) -> Result<Option<Record>, Fault>
         ensures answers { IsAnswered C.seen C.reason (known_ends R.remaining R.told R.beside W.contents W.told)
-            bank.old bank.new self.old self.new result }
+            figures.now bank.old bank.new self.old self.new result }
         ensures record { IfOk result (λ found. IfSome found (GivesRecord self.new)) }
         ensures rests { IfOk result (λ found. found ≡ None → MovesOn self.old self.new) }
         ensures spares { C.spares bank.old bank.new }
@@ -375,7 +399,7 @@ impl<R: Source + Drop, W: Sink + Drop> Client<R, W> {
             if self.untaken() > UNTAKEN {
                 return Ok(None);
             }
-            match self.answer_front(alloc, routes, bank)? {
+            match self.answer_front(alloc, routes, figures, bank)? {
                 Front::Nothing => return Ok(None),
                 Front::Answered => {}
                 Front::Record(record) => return Ok(Some(record)),

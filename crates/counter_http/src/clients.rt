@@ -47,6 +47,12 @@ pub trait Clients {
     fn open(&mut self, number: u64) -> io::Result<Option<(Self::Reader, Self::Writer)>>
         ensures { GrowsBy (told self.old) (told self.new) (opened_told number result) };
 
+    /// For how many seconds clients have been served. It is told to who asks for the figures, and no clause speaks of
+    /// it.
+    fn seconds(&self) -> u64 {
+        0
+    }
+
     /// So many postings were done in a round.
     fn posted(&mut self, _count: usize)
         ensures { GrowsBy (told self.old) (told self.new) [] }

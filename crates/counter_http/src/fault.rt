@@ -19,7 +19,7 @@ pub enum ServeFault {
 /// A text of a line. A fault of the bank has its own.
 impl fmt::Display for ServeFault {
     ghost use Rattle.std.specs.Prelude.{Some};
-    ghost use Rattle.counter_http.specs.Faults.{fault_text};
+    ghost use Rattle.counter_http.specs.ConnectionFaults.{fault_text};
 
     ghost output = { λ fault. Some (fault_text fault) };
 

@@ -3,7 +3,7 @@
 //! bytes of its reply come back. `GET /account/1` answers the line `account 1 balance 500`,
 //! `GET /teller/1` so that of a teller, and `GET /branches` a line for each open branch, with its number, its count
 //! of accounts and its balance. Another bank follows by `GET /log/0`, entries of the log after so many, and
-//! `GET /plan`, the branches as a plan. The
+//! `GET /plan`, the branches as a plan. Of who serves many, `GET /metrics` says how it goes. The
 //! function `first_message` of `http_tests`, which a test runs, posts a record, and gives what is answered:
 //!
 //! ```rust
@@ -51,12 +51,14 @@ mod connection;
 mod connections;
 mod fault;
 mod fields;
+mod figures;
 mod fixed;
 mod holders;
 mod laws;
 mod limits;
 mod lines;
 mod listen_fault;
+mod metrics;
 mod next;
 mod parting;
 pub mod patience;

@@ -24,6 +24,8 @@ pub(crate) enum Route {
     Log,
     /// `/plan`: the open branches are read as a plan.
     Plan,
+    /// `/metrics`: what the counter says of itself is read.
+    Metrics,
 }
 
 /// The routes.
@@ -62,6 +64,7 @@ fn insert_all(router: &mut Router<Route>) -> Result<(), InsertError>
     router.insert("/log/{after}", Route::Log)?;
     router.insert("/plan", Route::Plan)?;
     router.insert("/teller/{id}", Route::Teller)?;
+    router.insert("/metrics", Route::Metrics)?;
     Ok(())
 }
 

@@ -27,6 +27,8 @@ pub(crate) enum Task<'b> {
     Branches(Listing),
     /// The entries of the log after so many are read.
     Entries(u64),
+    /// The figures of the counter are told.
+    Metrics,
 }
 
 // A method that submits.
@@ -131,6 +133,17 @@ fn plan_task<'b>(message: &Whole<'b>) -> Task<'b>
     }
 }
 
+// Where the figures are asked for.
+fn metrics_task<'b>(message: &Whole<'b>) -> Task<'b>
+    ensures { IsTaskOn (Some Route.Metrics) (asked message.now) result }
+{
+    if is_reading(message.method) {
+        Task::Metrics
+    } else {
+        Task::Say(not_taken(b"GET, HEAD"))
+    }
+}
+
 /// What is to be done for a message.
 pub(crate) fn task_of<'b>(message: &Whole<'b>, routes: &Routes) -> Task<'b>
     ensures { IsTaskOf (asked message.now) result }
@@ -145,5 +158,6 @@ pub(crate) fn task_of<'b>(message: &Whole<'b>, routes: &Routes) -> Task<'b>
         Some(Route::Health) => health_task(message),
         Some(Route::Log) => log_task(message, path),
         Some(Route::Plan) => plan_task(message),
+        Some(Route::Metrics) => metrics_task(message),
     }
 }

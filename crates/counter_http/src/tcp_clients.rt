@@ -43,6 +43,9 @@ pub struct TcpClients<'l, T, V: Drop> {
     asked: Vec<pollfd>,
     // When all clients were looked at last.
     looked: Option<Instant>,
+    // When the first were waited for, and when the last.
+    began: Option<Instant>,
+    now: Option<Instant>,
 }
 
 type TcpClient = Client<StreamReader<TcpStream>, StreamWriter<TcpStream>>;
@@ -97,6 +100,8 @@ impl<'l, T: Clock, V: ServeWatch + Drop> TcpClients<'l, T, V> {
             places: Vec::new(alloc),
             asked: Vec::new(alloc),
             looked: None,
+            began: None,
+            now: None,
         })
     }
 
@@ -350,6 +355,10 @@ impl<'l, T: Clock, V: ServeWatch + Drop> Clients for TcpClients<'l, T, V> {
         let Ok(now) = Instant::now(self.time) else {
             return;
         };
+        self.now = Some(now);
+        if self.began.is_none() {
+            self.began = self.now;
+        }
         self.watch.look(clients.len(), now);
         match self.until_all(now) {
             Some(left) => self.look_at_some(clients, awaits_more, left, readiness),
@@ -368,6 +377,13 @@ impl<'l, T: Clock, V: ServeWatch + Drop> Clients for TcpClients<'l, T, V> {
         };
         let _ = stream.set_nodelay(true);
         ends_of(stream)
+    }
+
+    fn seconds(&self) -> u64 {
+        match (self.began, self.now) {
+            (Some(began), Some(now)) => now.duration_since(began).as_secs(),
+            _ => 0,
+        }
     }
 
     fn posted(&mut self, count: usize) {

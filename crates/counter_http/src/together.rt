@@ -13,6 +13,7 @@ ghost use Rattle.counter_http.specs.together.Serving.{HasRefused, ServesTogether
 use crate::batch::Batch;
 use crate::client::Client;
 use crate::clients::{Clients, Readiness};
+use crate::figures::{Figures, Tally};
 use crate::listen_fault::ListenFault;
 use crate::parting::Parting;
 use crate::routes::Routes;
@@ -101,6 +102,7 @@ fn go_on<R: Source + Drop, W: Sink + Drop>(here: &mut [Client<R, W>], readiness:
 fn gather_at<R: Source + Drop, W: Sink + Drop, C: Followed>(
     alloc: Global,
     routes: &Routes,
+    figures: &Figures,
     here: &mut Vec<Client<R, W>>,
     place: usize,
     batch: &mut Batch,
@@ -111,7 +113,7 @@ fn gather_at<R: Source + Drop, W: Sink + Drop, C: Followed>(
     requires gives { IsBatchOf here.old.items batch.old }
     requires elsewhere { AllByRecursion (IsElsewhere place) batch.old.senders.items }
     ensures gathers { Gathers C.seen C.reason (known_ends R.remaining R.told R.beside W.contents W.told)
-        bank.old bank.new here.old.items here.new.items batch.new result }
+        figures.now bank.old bank.new here.old.items here.new.items batch.new result }
     ensures adds { MayAdd batch.old batch.new place }
     ensures looks { OnOk result (LooksAt here.old.items here.new.items place batch.new) }
     ensures spares { C.spares bank.old bank.new }
@@ -119,7 +121,7 @@ fn gather_at<R: Source + Drop, W: Sink + Drop, C: Followed>(
     if here[place].is_idle() {
         return Ok(());
     }
-    match here[place].next_record(alloc, routes, bank)? {
+    match here[place].next_record(alloc, routes, figures, bank)? {
         Some(found) => {
             batch.add(place, &found);
             Ok(())
@@ -132,6 +134,7 @@ fn gather_at<R: Source + Drop, W: Sink + Drop, C: Followed>(
 fn gather<R: Source + Drop, W: Sink + Drop, C: Followed>(
     alloc: Global,
     routes: &Routes,
+    figures: &Figures,
     here: &mut Vec<Client<R, W>>,
     from: usize,
     to: usize,
@@ -144,37 +147,48 @@ fn gather<R: Source + Drop, W: Sink + Drop, C: Followed>(
     requires gives { IsBatchOf here.old.items batch.old }
     requires beyond { AllByRecursion (IsFrom to) batch.old.senders.items }
     ensures gathers { Gathers C.seen C.reason (known_ends R.remaining R.told R.beside W.contents W.told)
-        bank.old bank.new here.old.items here.new.items batch.new result }
+        figures.now bank.old bank.new here.old.items here.new.items batch.new result }
     ensures places { OnOk result (AllByRecursion (IsFrom from) batch.new.senders.items) }
     ensures looks { OnOk result (LooksOver here.old.items here.new.items from to batch.old batch.new) }
     ensures spares { C.spares bank.old bank.new }
 {
     for place in from..to {
-        gather_at(alloc, routes, here, place, batch, bank)?;
+        gather_at(alloc, routes, figures, here, place, batch, bank)?;
     }
     Ok(())
 }
 
-// Answers messages of each client: their records together, those of the clients from a place on first.
+// Answers messages of each client: their records together, those of the clients from a place on first. Clients have been
+// served for so many seconds.
 fn answer<R: Source + Drop, W: Sink + Drop, K: Clock, C: Followed>(
     alloc: Global,
     routes: &Routes,
     here: &mut Vec<Client<R, W>>,
     first: usize,
+    tally: &mut Tally,
+    seconds: u64,
     clock: &mut K,
     bank: &mut C,
 ) -> Result<Answered, Fault>
     requires others { AllDiffer (numbers here.old.items) }
     ensures answers { AnswersRound C.seen C.reason (known_ends R.remaining R.told R.beside W.contents W.told)
-        (K.readings clock.old) (K.readings clock.new) bank.old bank.new here.old.items here.new.items result }
+        (K.readings clock.old) (K.readings clock.new) bank.old bank.new here.old.items here.new.items tally.old
+        tally.new seconds result }
     ensures spares { C.spares bank.old bank.new }
 {
     let mut batch = Batch::new();
     let count = here.len();
+    let figures = Figures {
+        tally: *tally,
+        connections: count as u64,
+        seconds,
+    };
     let first = first.min(count);
-    gather(alloc, routes, here, first, count, &mut batch, bank)?;
-    gather(alloc, routes, here, 0, first, &mut batch, bank)?;
-    batch.submit(here, clock, bank)?;
+    gather(
+        alloc, routes, &figures, here, first, count, &mut batch, bank,
+    )?;
+    gather(alloc, routes, &figures, here, 0, first, &mut batch, bank)?;
+    batch.submit(here, tally, clock, bank)?;
     Ok(Answered {
         next: batch.next(),
         postings: batch.count(),
@@ -235,6 +249,7 @@ fn serve_rounds<D: Clients, K: Clock, C: Followed>(
     ensures spares { C.spares bank.old bank.new }
 {
     let mut readiness = Vec::new(alloc);
+    let mut tally = Tally::new();
     let mut came = 0;
     let mut first = 0;
     'rounds: for _ in 0..u64::MAX {
@@ -244,7 +259,8 @@ fn serve_rounds<D: Clients, K: Clock, C: Followed>(
         door.wait(here, came < connections, &mut readiness);
         go_on(here, &readiness);
         take_in(alloc, door, &mut came, connections, here)?;
-        let answered = answer(alloc, routes, here, first, clock, bank);
+        let seconds = door.seconds();
+        let answered = answer(alloc, routes, here, first, &mut tally, seconds, clock, bank);
         write(here);
         part(door, here);
         match answered {

@@ -120,6 +120,18 @@ const CASES: &[(&[u8], u128, &[u8])] = &[
         1,
         b"HTTP/1.1 404 Not Found\r\nContent-Type: text/plain\r\nContent-Length: 14\r\n\r\n404 Not Found\n",
     ),
+    // A connection that is served by itself has no figures.
+    (
+        b"GET /metrics HTTP/1.1\r\n\r\n",
+        1,
+        b"HTTP/1.1 404 Not Found\r\nContent-Type: text/plain\r\nContent-Length: 14\r\n\r\n404 Not Found\n",
+    ),
+    (
+        b"PUT /metrics HTTP/1.1\r\n\r\n",
+        1,
+        b"HTTP/1.1 405 Method Not Allowed\r\nContent-Type: text/plain\r\nContent-Length: 23\r\n\
+              Allow: GET, HEAD\r\n\r\n405 Method Not Allowed\n",
+    ),
     (
         b"GET /post HTTP/1.1\r\n\r\n",
         1,

@@ -92,6 +92,40 @@ pub const LAST_HEALTH_ANSWER: &[u8] =
     b"HTTP/1.1 200 OK\r\nContent-Type: text/plain\r\nContent-Length: 3\r\n\
     Connection: close\r\n\r\nok\n";
 
+/// A record, and a message that asks for the figures.
+pub const POSTS_AND_WATCHES: &[u8] = b"POST /post HTTP/1.1\r\nContent-Length: 100\r\n\r\n\
+    DC01000000000001000000010000010000000001+0000000500                                                 \
+    GET /metrics HTTP/1.1\r\n\r\n";
+
+/// The figures after it and a record that was refused, which were taken together, while two are connected.
+pub const FIGURES_ANSWER: &[u8] =
+    b"HTTP/1.1 200 OK\r\nContent-Type: text/plain; version=0.0.4\r\nContent-Length: 1040\r\n\r\n\
+    # HELP bank_postings_total Records replied to with outcome 00; one that is sent again counts again.\n\
+    # TYPE bank_postings_total counter\n\
+    bank_postings_total 1\n\
+    # HELP bank_refusals_total Records replied to with another outcome; one that is sent again counts again.\n\
+    # TYPE bank_refusals_total counter\n\
+    bank_refusals_total{outcome=\"11\"} 0\n\
+    bank_refusals_total{outcome=\"12\"} 0\n\
+    bank_refusals_total{outcome=\"13\"} 1\n\
+    bank_refusals_total{outcome=\"14\"} 0\n\
+    bank_refusals_total{outcome=\"15\"} 0\n\
+    bank_refusals_total{outcome=\"16\"} 0\n\
+    bank_refusals_total{outcome=\"17\"} 0\n\
+    bank_refusals_total{outcome=\"90\"} 0\n\
+    # HELP bank_records_total Records replied to.\n\
+    # TYPE bank_records_total counter\n\
+    bank_records_total 2\n\
+    # HELP bank_commits_total Transactions by which those records were taken.\n\
+    # TYPE bank_commits_total counter\n\
+    bank_commits_total 1\n\
+    # HELP bank_connections Clients that are connected.\n\
+    # TYPE bank_connections gauge\n\
+    bank_connections 2\n\
+    # HELP bank_uptime_seconds Seconds since the counter began to serve.\n\
+    # TYPE bank_uptime_seconds gauge\n\
+    bank_uptime_seconds 0\n";
+
 /// The texts, one after another.
 pub fn joined(rt: &impl Alloc<A = Global>, texts: &[&[u8]]) -> Result<Vec<u8>, Fail> {
     let mut all = Vec::new(rt.alloc());

@@ -3,9 +3,9 @@
 use crate::bank::balances;
 use crate::crowd::{Closed, Teller, serve};
 use crate::texts::{
-    BAD, BALANCE_ANSWER, CLOSES, FIRST_AND_REMOTE, FIRST_ANSWER, FIRST_TWICE, HEALTH_ANSWER,
-    IS_REFUSED, LAST_HEALTH_ANSWER, NO_ACCOUNT_ANSWER, OTHER_ANSWER, OTHER_LAST_ANSWER, OTHER_TWO,
-    READS_BETWEEN, REMOTE_ANSWER, UNAVAILABLE,
+    BAD, BALANCE_ANSWER, CLOSES, FIGURES_ANSWER, FIRST_AND_REMOTE, FIRST_ANSWER, FIRST_TWICE,
+    HEALTH_ANSWER, IS_REFUSED, LAST_HEALTH_ANSWER, NO_ACCOUNT_ANSWER, OTHER_ANSWER,
+    OTHER_LAST_ANSWER, OTHER_TWO, POSTS_AND_WATCHES, READS_BETWEEN, REMOTE_ANSWER, UNAVAILABLE,
 };
 use counter_http::ListenFault;
 use failing_ends::{Failing, FailingBank, open_both};
@@ -111,6 +111,24 @@ fn records_that_wait_are_one_call(rt: HostRuntime) {
     assert_eq!(rt; play(&rt, &[teller; 2], &serving), 1);
     assert_eq!(rt; play(&rt, &[teller; 64], &serving), 1);
     assert_eq!(rt; play(&rt, &[teller; 65], &serving), 2);
+}
+
+// The figures count what was replied before, and who is connected.
+#[test]
+fn figures_of_what_was_replied(rt: HostRuntime) {
+    let refused = [NO_ACCOUNT_ANSWER, HEALTH_ANSWER, OTHER_ANSWER];
+    let tellers = [
+        Teller {
+            most: 2_000,
+            ..Teller::new(POSTS_AND_WATCHES, [FIRST_ANSWER, FIGURES_ANSWER, b""])
+        },
+        Teller::new(IS_REFUSED, refused),
+    ];
+    let serving = Serving {
+        balances: (500, 0),
+        ..WELL
+    };
+    play(&rt, &tellers, &serving);
 }
 
 // A client that reads between its records, one whose record is refused, and one with the first record twice.

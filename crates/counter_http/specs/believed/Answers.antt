@@ -17,7 +17,8 @@ use Rattle.posting_core.specs.believed.LogEntries.{entries_given}
 use Rattle.posting_core.specs.believed.Tills.{teller_after}
 use Rattle.counter_http.specs.declared.limits.TheConstants.{ACCOUNT_DIGITS, PLACE_DIGITS, TELLER_DIGITS}
 use Rattle.counter_http.specs.declared.routes.Route.{Route}
-use Rattle.counter_http.specs.declared.routes.Route.TheVariants.{Posting, Account, Teller, Branches, Health, Log, Plan}
+use Rattle.counter_http.specs.declared.routes.Route.TheVariants.{Posting, Account, Teller, Branches, Health, Log, Metrics}
+use Rattle.counter_http.specs.declared.routes.Route.TheVariants.{Plan}
 use Rattle.counter_http.specs.believed.Paths.{path_of, account_in, place_in, route_of, teller_in}
 use Rattle.counter_http.specs.believed.Messages.{Message, closes, Ending, Finished, Closed, No_head, No_body}
 use Rattle.counter_http.specs.believed.Messages.{is_head_request}
@@ -184,6 +185,8 @@ answer_on log (Some Log) asked =
     else not_allowed (codes "GET, HEAD")
 answer_on log (Some Plan) asked =
     if is_reading asked.method then csv (plan_lines log) else not_allowed (codes "GET, HEAD")
+-- a connection that is served by itself has no figures
+answer_on log (Some Metrics) asked = if is_reading asked.method then bare 404 else not_allowed (codes "GET, HEAD")
 
 unfoldable pub answer_to : List Command → Asked → Answer
 answer_to log asked = answer_on log (route_of (path_of asked.target)) asked

@@ -4,7 +4,8 @@ use Rattle.std.specs.Prelude.{codes, bytes_eq, if◌then◌else◌}
 use Rattle.std.specs.List.{list_any, before_first}
 use Rattle.std.specs.Str.{is_utf8}
 use Rattle.counter_http.specs.declared.routes.Route.{Route}
-use Rattle.counter_http.specs.declared.routes.Route.TheVariants.{Posting, Account, Teller, Branches, Health, Log, Plan}
+use Rattle.counter_http.specs.declared.routes.Route.TheVariants.{Posting, Account, Teller, Branches, Health, Log, Metrics}
+use Rattle.counter_http.specs.declared.routes.Route.TheVariants.{Plan}
 
 abbrev pub path_of : List ℕ → List ℕ
 path_of target = before_first (λ b. b == 63) target
@@ -44,10 +45,11 @@ route_named path =
     if bytes_eq path (codes "/post") then Some Posting
     else (if bytes_eq path (codes "/branches") then Some Branches
     else (if bytes_eq path (codes "/health") then Some Health
+    else (if bytes_eq path (codes "/metrics") then Some Metrics
     else (if bytes_eq path (codes "/plan") then Some Plan
     else (if is_account_path path then Some Account
     else (if is_log_path path then Some Log
-    else (if is_teller_path path then Some Teller else None))))))
+    else (if is_teller_path path then Some Teller else None)))))))
 
 unfoldable pub route_of : List ℕ → Option Route
 route_of path = if is_utf8 path then route_named path else None

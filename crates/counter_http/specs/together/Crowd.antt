@@ -6,13 +6,13 @@ use Rattle.std.specs.Prelude.{Err, IfErr, None, OnOk, Some}
 use Rattle.std.specs.List.{AllByRecursion}
 use Rattle.posting_rules.specs.declared.fault.Fault.{Fault}
 use Rattle.posting_rules.specs.believed.Commands.{Command}
-use Rattle.posting_rules.specs.believed.Counter.{Seen, StandsAt, LeavesOnly, ShowsPrefix, Takes}
+use Rattle.posting_rules.specs.believed.Counter.{Seen, ShowsLog, StandsAt, LeavesOnly, ShowsPrefix, Takes}
 use Rattle.posting_core.specs.Stream.{IsOfCall}
 use Rattle.posting_core.specs.believed.Clock.{AreReadings}
 use Rattle.posting_core.specs.believed.Told.{GrowsBy}
 use Rattle.counter_http.specs.Clients.{ClientsTold, Gave, Closed}
 use Rattle.counter_http.specs.Connections.{Known}
-use Rattle.counter_http.specs.together.Order.{Step, Round, IsRound, steps_of, readings_of, submitted_by}
+use Rattle.counter_http.specs.together.Order.{AreFigured, Step, Round, IsRound, steps_of, readings_of, submitted_by}
 use Rattle.counter_http.specs.together.Reading.{Reads}
 use Rattle.counter_http.specs.together.Rounds.{IsOfOneOf, numbers}
 use Rattle.counter_http.specs.together.Standing.{AreRefused, IsLost, IsNew, IsParting, StandsHere, Writes}
@@ -145,6 +145,7 @@ pub record ServesRounds {C R W : Type 0} (seen : C → Seen) (reason : Fault →
     (here : List (Client R W)) (result : Result (Unit {0}) ListenFault) : Type 0 where
   pub rounds : List Round
   pub are_rounds : AllByRecursion IsRound rounds
+  pub figured : (seen new).honest → (log : List Command) → ShowsLog (seen old) log → AreFigured log [] rounds
   pub refused : List Step
   pub clock : AreReadings k k' (readings_of rounds)
   pub stood : C

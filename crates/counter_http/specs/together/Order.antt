@@ -1,20 +1,26 @@
 -- Clients that are served at once: there is one order of all their messages, in which the bank takes the
 -- records, and each client has its answers in it. The bank is old before and new after, and seen says what is
 -- seen of it. The ends of a client are known before as k and after as l.
-use Rattle.std.specs.Prelude.{◌≡◌, ◌≤◌, ℕ, ◌==◌, List, [], ◌∷◌, ◌++◌, length, map, Bool, true, false}
+use Rattle.std.specs.Prelude.{◌≡◌, ◌<◌, ◌≤◌, ◌+◌, ℕ, ◌==◌, List, [], ◌∷◌, ◌++◌, length, map, Bool, true, false, Option, None}
+use Rattle.std.specs.Prelude.{⊤}
 use Rattle.std.specs.List.{AllByRecursion, flat_map}
 use Rattle.posting_rules.specs.declared.limits.TheConstants.{RECORDS_PER_BATCH}
 use Rattle.posting_rules.specs.believed.Commands.{Command}
-use Rattle.posting_rules.specs.believed.Runs.{followed_by}
-use Rattle.counter_http.specs.believed.Answers.{asked_by, answer_of, is_posting}
+use Rattle.posting_rules.specs.believed.Runs.{followed_by, replies_to}
+use Rattle.counter_http.specs.believed.Answers.{asked_by, is_posting}
+use Rattle.counter_http.specs.Figures.{Counts, answer_told, nothing, told_to}
+use Rattle.counter_http.specs.declared.figures.Figures.{Figures}
+use Rattle.counter_http.specs.declared.figures.Tally.{Tally}
 use Rattle.counter_http.specs.believed.Turns.{Turn, commands_in, commands_of}
 
 -- ---- one order of all messages
 
--- a message that a client has its answer to: how many clients came before that one, and the message in its turn
+-- a message that a client has its answer to: how many clients came before that one, the message in its turn, and the
+-- figures, if it was told them
 pub record Step : Type 0 where
   pub client : ℕ
   pub turn : Turn
+  pub told : Option Figures
 
 abbrev pub turn_in : Step → Turn
 turn_in s = s.turn
@@ -38,30 +44,39 @@ of_client i (s ∷ ss) = if_own (s.client == i) s.turn (of_client i ss)
 abbrev pub answers_at : ℕ → List Command → List Step → List (List ℕ)
 answers_at i log [] = []
 answers_at i log (s ∷ ss) =
-    if_own (s.client == i) (answer_of log (asked_by s.turn.message))
+    if_own (s.client == i) (answer_told s.told log (asked_by s.turn.message))
     (answers_at i (followed_by log (commands_in s.turn)) ss)
 
 -- ---- rounds
 
--- first messages that submit nothing, and then the records that were submitted together, if there were any,
--- under one reading of the clock
+-- first messages that submit nothing, of which those that ask for the figures are told these, and then the records that
+-- were submitted together, if there were any, under one reading of the clock, and by how many commits
 pub record Round : Type 0 where
+  pub figures : Figures
   pub reads : List Step
   pub readings : List ℕ
   pub posts : List Step
+  pub commits : ℕ
 
-abbrev pub asks_to_read : Step → Type 0
-asks_to_read s = is_posting (asked_by s.turn.message) ≡ false
+abbrev pub is_read_under : Figures → Step → Type 0
+is_read_under figures s =
+    (is_posting (asked_by s.turn.message) ≡ false) × (s.told ≡ told_to figures (asked_by s.turn.message))
 
 abbrev pub is_posted_under : List ℕ → Step → Type 0
 is_posted_under readings s =
-    (is_posting (asked_by s.turn.message) ≡ true) × (readings ≡ s.turn.moment ∷ [])
+    (is_posting (asked_by s.turn.message) ≡ true) × (readings ≡ s.turn.moment ∷ []) × (s.told ≡ None)
+
+-- each commit took some of the records, and each record was taken by one
+pub record AreCommits (commits posts : ℕ) : Type 0 where
+  pub few : commits ≤ posts
+  pub some : 0 < posts → 0 < commits
 
 pub record IsRound (r : Round) : Type 0 where
-  pub reads : AllByRecursion asks_to_read r.reads
+  pub reads : AllByRecursion (is_read_under r.figures) r.reads
   pub once : length r.readings ≤ 1
   pub together : AllByRecursion (is_posted_under r.readings) r.posts
   pub few : length r.posts ≤ RECORDS_PER_BATCH
+  pub commits : AreCommits r.commits (length r.posts)
 
 abbrev pub steps_in : Round → List Step
 steps_in r = r.reads ++ r.posts
@@ -74,3 +89,19 @@ readings_in r = r.readings
 
 abbrev pub readings_of : List Round → List ℕ
 readings_of rs = flat_map readings_in rs
+
+-- ---- the figures
+
+abbrev pub commits_of : List Round → ℕ
+commits_of [] = 0
+commits_of (r ∷ rs) = r.commits + commits_of rs
+
+-- the replies to all records of some rounds, after a log, were counted
+abbrev pub CountsRounds : List Command → List Round → Tally → Type 0
+CountsRounds log rounds tally =
+    Counts nothing tally (replies_to log (submitted_by (steps_of rounds))) (commits_of rounds)
+
+-- the figures of each round count those before it
+abbrev pub AreFigured : List Command → (before rounds : List Round) → Type 0
+AreFigured log before [] = ⊤
+AreFigured log before (r ∷ rs) = CountsRounds log before r.figures.tally × AreFigured log (before ++ r ∷ []) rs

@@ -6,13 +6,16 @@ use Rattle.std.specs.List.{AllByRecursion, slice_get}
 use Rattle.posting_rules.specs.declared.fault.Fault.{Fault}
 use Rattle.posting_rules.specs.declared.fault.Fault.TheVariants.{Memory}
 use Rattle.posting_rules.specs.believed.Commands.{Command}
-use Rattle.posting_rules.specs.believed.Counter.{Seen, StandsAt, LeavesOnly, ShowsPrefix, Takes, Refuses}
+use Rattle.posting_rules.specs.believed.Counter.{Seen, ShowsLog, StandsAt, LeavesOnly, ShowsPrefix, Takes, Refuses}
+use Rattle.posting_rules.specs.believed.Runs.{replies_to}
 use Rattle.posting_core.specs.Stream.{IsOfCall}
 use Rattle.posting_core.specs.believed.Clock.{AreReadings}
 use Rattle.counter_http.specs.Connections.{Known}
 use Rattle.counter_http.specs.together.Order.{IsRound, Round, Step, steps_in, submitted_by}
 use Rattle.counter_http.specs.together.Standing.{AreRefused, MovesOn, StandsHere}
+use Rattle.counter_http.specs.Figures.{Counts}
 use Rattle.counter_http.specs.declared.client.Client.{Client}
+use Rattle.counter_http.specs.declared.figures.Tally.{Tally}
 use Rattle.counter_http.specs.declared.parting.Parting.TheVariants as parting
 
 -- ---- who is here
@@ -73,12 +76,16 @@ abbrev pub EndsRound : {C X : Type 0} → (C → Seen) → Result X Fault → (s
 EndsRound seen (Ok next) stood new refused = (refused ≡ []) × (new ≡ stood)
 EndsRound seen (Err fault) stood new refused = Refuses fault (seen stood) (seen new) (submitted_by refused)
 
--- the messages of a round were answered, and each client stands as its own have it
+-- the messages of a round were answered, and each client stands as its own have it; the replies were counted
 pub record AnswersRound {C R W X : Type 0} (seen : C → Seen) (reason : Fault → C → C → Type 0)
-    (known : R × W → Known) (k k' : Option (List ℕ)) (old new : C) (here here' : List (Client R W))
-    (result : Result X Fault) : Type 0 where
+    (known : R × W → Known) (k k' : Option (List ℕ)) (old new : C) (here here' : List (Client R W)) (t t' : Tally)
+    (seconds : ℕ) (result : Result X Fault) : Type 0 where
   pub round : Round
   pub is_round : IsRound round
+  -- the figures are what stood before the round
+  pub figured : round.figures ≡ record { tally = t; connections = length here; seconds = seconds }
+  pub counts : (seen new).honest → (log : List Command) → ShowsLog (seen old) log
+      → Counts t t' (replies_to log (submitted_by (steps_in round))) round.commits
   pub refused : List Step
   pub whose : AllByRecursion (IsOfOneOf (numbers here)) (steps_in round)
   pub whose_refused : AllByRecursion (IsOfOneOf (numbers here)) refused

@@ -26,7 +26,7 @@ use Rattle.counter_http.specs.believed.Turns.{Turn, texts_of}
 use Rattle.counter_http.specs.believed.Serving.{KeepsConnection, BeginsWithNoMessage, IsWalked, IsBrokenOff}
 use Rattle.counter_http.specs.believed.Serving.{ServingIsCutOff}
 use Rattle.counter_http.specs.together.Order.{Step, Round, IsRound, of_client, answers_at, submitted_by}
-use Rattle.counter_http.specs.together.Order.{steps_of, readings_of}
+use Rattle.counter_http.specs.together.Order.{AreFigured, steps_of, readings_of}
 
 -- ---- where a client stands
 
@@ -220,6 +220,8 @@ pub record ServesTogether {C E : Type 0} (seen : C → Seen) (reason : Fault →
   -- what the bank took, round by round, and what it refused last
   pub rounds : List Round
   pub are_rounds : AllByRecursion IsRound rounds
+  -- who asks for the figures is told how many replies were given before
+  pub figured : (seen new).honest → (log : List Command) → ShowsLog (seen old) log → AreFigured log [] rounds
   pub refused : List Step
   pub clock : AreReadings k k' (readings_of rounds)
   -- the bank stood here when it had taken the messages, and it was down then only where it was down before

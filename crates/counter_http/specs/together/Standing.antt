@@ -21,7 +21,8 @@ use Rattle.counter_http.specs.believed.Answers.{Answer, answer_text, asked_by, b
 use Rattle.counter_http.specs.believed.Ends.{HasEnded}
 use Rattle.counter_http.specs.believed.Messages.{Message, message_text, IsMessage, closes}
 use Rattle.counter_http.specs.believed.Serving.{BeginsWithNoMessage, IsBrokenOff, KeepsConnection}
-use Rattle.counter_http.specs.together.Order.{Step, answers_at, asks_to_read, of_client, submitted_by}
+use Rattle.counter_http.specs.together.Order.{Step, answers_at, is_read_under, of_client, submitted_by}
+use Rattle.counter_http.specs.declared.figures.Figures.{Figures}
 use Rattle.counter_http.specs.believed.Turns.{Turn, texts_of}
 use Rattle.counter_http.specs.declared.answers.Reading.{Reading}
 use Rattle.counter_http.specs.declared.client.Client.{Client}
@@ -156,11 +157,12 @@ pub record IsRecordIn (buf bytes : List ℕ) (head : Head) : Type 0 where
   pub posting : is_posting (asked_by message) ≡ true
   pub body : bytes ≡ message.body
 
--- messages at the front were answered, which submit nothing, while the bank went from old to new
+-- messages at the front were answered, which submit nothing, while the bank went from old to new; those that ask for the
+-- figures were told these
 pub record IsAnswered {C R W X : Type 0} (seen : C → Seen) (reason : Fault → C → C → Type 0) (known : R × W → Known)
-    (old new : C) (client client' : Client R W) (result : Result X Fault) : Type 0 where
+    (figures : Figures) (old new : C) (client client' : Client R W) (result : Result X Fault) : Type 0 where
   pub more : List Step
-  pub reads : AllByRecursion asks_to_read more
+  pub reads : AllByRecursion (is_read_under figures) more
   pub own : AllByRecursion (λ s. s.client ≡ client.number) more
   pub asked : IsAsked seen reason old new result
   pub number : client'.number ≡ client.number

@@ -5,15 +5,20 @@ use Rattle.std.specs.Prelude.{Result, IfErr, ⊤, true}
 use Rattle.std.specs.List.{AllByRecursion, slice_get}
 use Rattle.posting_rules.specs.declared.fault.Fault.{Fault}
 use Rattle.posting_rules.specs.declared.limits.TheConstants.{RECORDS_PER_BATCH}
-use Rattle.posting_rules.specs.believed.Counter.{Seen, Takes}
+use Rattle.posting_rules.specs.believed.Commands.{Command}
+use Rattle.posting_rules.specs.believed.Counter.{Seen, ShowsLog, Takes}
+use Rattle.posting_rules.specs.believed.Runs.{replies_to}
 use Rattle.posting_core.specs.Stream.{IsOfCall}
 use Rattle.posting_core.specs.believed.Clock.{AreReadings}
 use Rattle.counter_http.specs.Connections.{Known}
-use Rattle.counter_http.specs.together.Order.{Step, asks_to_read, is_posted_under, submitted_by}
+use Rattle.counter_http.specs.together.Order.{AreCommits, Step, is_posted_under, is_read_under, submitted_by}
 use Rattle.counter_http.specs.together.Rounds.{AreToldAt, EndsRound, IsOfOneOf, PostsSome, fault_in, numbers}
 use Rattle.counter_http.specs.together.Standing.{AnswersRecord, GivesRecord, HasEndedWith, MovesOn, StandsHere}
 use Rattle.counter_http.specs.Turns.{IsAsked}
 use Rattle.counter_http.specs.believed.Answers.{answer_text, bare}
+use Rattle.counter_http.specs.Figures.{Counts}
+use Rattle.counter_http.specs.declared.figures.Figures.{Figures}
+use Rattle.counter_http.specs.declared.figures.Tally.{Tally}
 use Rattle.counter_http.specs.declared.batch.Batch.{Batch}
 use Rattle.counter_http.specs.declared.batch.Sender.{Sender}
 use Rattle.counter_http.specs.declared.client.Client.{Client}
@@ -126,21 +131,26 @@ pub record AreBeside {C R W : Type 0} (seen : C → Seen) (known : R × W → Kn
       → StandsHere known known_first (seen first) (seen old) before client
       → StandsHere known known_first (seen first) (seen new) (before ++ steps) client'
 
--- messages that submit nothing were answered, and the batch has records of clients that are here
+-- messages that submit nothing were answered, those that ask for the figures by these, and the batch has records of
+-- clients that are here
 pub record Gathers {C R W X : Type 0} (seen : C → Seen) (reason : Fault → C → C → Type 0) (known : R × W → Known)
-    (old new : C) (here here' : List (Client R W)) (batch : Batch) (result : Result X Fault) : Type 0 where
+    (figures : Figures) (old new : C) (here here' : List (Client R W)) (batch : Batch) (result : Result X Fault) : Type 0 where
   pub reads : List Step
-  pub are_reads : AllByRecursion asks_to_read reads
+  pub are_reads : AllByRecursion (is_read_under figures) reads
   pub asked : IsAsked seen reason old new result
   pub beside : AreBeside seen known old new here here' reads
   pub gives : IsBatchOf here' batch
 
 -- n records were submitted, and each sender was answered: the bank took posts, stood there, and refused one call then
--- or none
+-- or none; the replies to posts were counted
 pub record AreSubmitted {C R W X : Type 0} (seen : C → Seen) (reason : Fault → C → C → Type 0)
-    (known : R × W → Known) (readings : List ℕ) (old new : C) (here here' : List (Client R W)) (n : ℕ)
+    (known : R × W → Known) (readings : List ℕ) (old new : C) (here here' : List (Client R W)) (t t' : Tally) (n : ℕ)
     (result : Result X Fault) : Type 0 where
   pub posts : List Step
+  pub commits : ℕ
+  pub are_commits : AreCommits commits (length posts)
+  pub counts : (seen new).honest → (log : List Command) → ShowsLog (seen old) log
+      → Counts t t' (replies_to log (submitted_by posts)) commits
   pub refused : List Step
   pub together : AllByRecursion (is_posted_under readings) posts
   pub few : length posts ≤ n
@@ -159,13 +169,13 @@ pub record AreSubmitted {C R W X : Type 0} (seen : C → Seen) (reason : Fault �
 
 -- so they were, under one reading of the clock
 pub record SubmitsBatch {C R W X : Type 0} (seen : C → Seen) (reason : Fault → C → C → Type 0)
-    (known : R × W → Known) (k k' : Option (List ℕ)) (old new : C) (here here' : List (Client R W)) (n : ℕ)
-    (result : Result X Fault) : Type 0 where
+    (known : R × W → Known) (k k' : Option (List ℕ)) (old new : C) (here here' : List (Client R W)) (t t' : Tally)
+    (n : ℕ) (result : Result X Fault) : Type 0 where
   pub readings : List ℕ
   pub once : length readings ≤ 1
   pub clock : AreReadings k k' readings
   pub few : n ≤ RECORDS_PER_BATCH
-  pub did : AreSubmitted seen reason known readings old new here here' n result
+  pub did : AreSubmitted seen reason known readings old new here here' t t' n result
 
 -- ---- what was looked at
 

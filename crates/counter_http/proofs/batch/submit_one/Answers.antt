@@ -1,4 +1,4 @@
-use Rattle.std.proofs.Common.{ℕ, List, [], ◌∷◌, ap, refl}
+use Rattle.std.proofs.Common.{ℕ, List, [], ◌∷◌, ap, arith, refl}
 use Rattle.counter_http.proofs.Submitted.{refused_all, spared_each, taken_all}
 use Rattle.counter_http.proofs.batch.submit_one.Goals as goal
 
@@ -6,16 +6,18 @@ use Rattle.counter_http.proofs.batch.submit_one.Goals as goal
 pub returns-in-Ok-clause-submits : goal.returns-in-Ok-clause-submits
 returns-in-Ok-clause-submits g c =
     taken_all g.C.Counter.seen g.C.Counter.contents g.C.Counter.reason c.args.moment c.args.bank.now c.submit.new.self
-    c.args.here.now.items c.answer_at.new.here.items (c.args.sender ∷ []) (c.args.bytes.now ∷ [])
+    c.args.here.now.items c.answer_at.new.here.items c.args.tally.now c.count_commit.new.self (c.args.sender ∷ [])
+    (c.args.bytes.now ∷ [])
     (c.requires.gives, tt) (tt, tt) (c.in-Ok.reply ∷ []) c.in-Ok.reply c.requires.others c.in-Ok.ensures.call
     (λ h log shown. ap (λ (q : List ℕ). q ∷ []) (c.in-Ok.ensures.answer h log shown))
-    (c.answer_at.new.here.items, c.answer_at.ensures, refl)
+    (c.answer_at.new.here.items, c.answer_at.ensures, refl) c.count_commit.ensures (omega arith)
 
 -- memory was refused
 pub returns-in-Memory-clause-submits : goal.returns-in-Memory-clause-submits
 returns-in-Memory-clause-submits g c =
     spared_each {X = List ℕ} g.C.Counter.seen g.C.Counter.contents g.C.Counter.reason c.args.moment c.args.bank.now
-    c.submit.new.self c.args.here.now.items c.refuse_at.new.here.items (c.args.sender ∷ []) (c.args.bytes.now ∷ [])
+    c.submit.new.self c.args.here.now.items c.refuse_at.new.here.items c.args.tally.now c.args.tally.now
+    (c.args.sender ∷ []) (c.args.bytes.now ∷ [])
     (c.requires.gives, tt) (tt, tt) c.in-Err.fault c.in-Memory.is c.in-Err.ensures.call
     (c.refuse_at.new.here.items, c.refuse_at.ensures, refl)
 
@@ -23,8 +25,8 @@ returns-in-Memory-clause-submits g c =
 pub returns-in_default : goal.returns-in_default
 returns-in_default g c = record {
   submits = refused_all {X = List ℕ} g.C.Counter.seen g.C.Counter.contents g.C.Counter.reason c.args.moment
-      c.args.bank.now c.submit.new.self c.args.here.now.items c.refuse_at.new.here.items (c.args.sender ∷ [])
-      (c.args.bytes.now ∷ []) (c.requires.gives, tt) (tt, tt) c.in-Err.fault c.requires.others c.in-Err.ensures.call
+      c.args.bank.now c.submit.new.self c.args.here.now.items c.refuse_at.new.here.items c.args.tally.now
+      c.args.tally.now (c.args.sender ∷ []) (c.args.bytes.now ∷ []) (c.requires.gives, tt) (tt, tt) c.in-Err.fault c.requires.others c.in-Err.ensures.call
       (c.refuse_at.new.here.items, c.refuse_at.ensures, refl);
   only = record { client = c.refuse_at.ensures.after; is = c.refuse_at.ensures.is };
   spares = c.in-Err.ensures.spares;

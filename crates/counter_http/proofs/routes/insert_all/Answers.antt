@@ -12,4 +12,5 @@ returns c =
     let f = c.in_ok-insert-5.ensures in
     let h = c.in_ok-insert-6.ensures in
     let i = c.in_ok-insert-7.ensures in
-    rw (h.1, f.1, e.1, d.1, b.1, a.1, c.requires) at i.1
+    let j = c.in_ok-insert-8.ensures in
+    rw (i.1, h.1, f.1, e.1, d.1, b.1, a.1, c.requires) at j.1

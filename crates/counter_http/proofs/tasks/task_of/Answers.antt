@@ -1,6 +1,6 @@
 use Rattle.std.proofs.Common.{rules, ◌≡◌, Option, Some, ap, subst, sym, ◌∙◌}
 use Rattle.counter_http.specs.{declared.routes.Route.Route, declared.routes.Route.TheVariants.Account, Next.asked}
-use Rattle.counter_http.specs.declared.routes.Route.TheVariants.{Health, Log, Plan, Teller}
+use Rattle.counter_http.specs.declared.routes.Route.TheVariants.{Health, Log, Metrics, Plan, Teller}
 use Rattle.counter_http.specs.{believed.Paths.route_of, Tasks.IsTaskOn}
 use Rattle.counter_http.proofs.tasks.task_of.Goals as goal
 
@@ -43,3 +43,10 @@ returns-in-Some-Plan c =
     let plan : c.in-Some-Plan.field-0 ≡ Plan = search rules in
     at_route (λ o. IsTaskOn o (asked c.args.message.now) c.plan_task.result) Plan _ _ _ plan c.in-Some-Plan.is
     (c.find.ensures ∙ ap route_of c.path_of-path.ensures) c.plan_task.ensures
+
+-- the path is that of the figures
+pub returns-in-Some-Metrics : goal.returns-in-Some-Metrics
+returns-in-Some-Metrics c =
+    let metrics : c.in-Some-Metrics.field-0 ≡ Metrics = search rules in
+    at_route (λ o. IsTaskOn o (asked c.args.message.now) c.metrics_task.result) Metrics _ _ _ metrics c.in-Some-Metrics.is
+    (c.find.ensures ∙ ap route_of c.path_of-path.ensures) c.metrics_task.ensures

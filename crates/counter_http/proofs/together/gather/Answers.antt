@@ -1,4 +1,4 @@
-use Rattle.std.proofs.Common.{◌≡◌, ◌≤◌, Ok, arith, sym}
+use Rattle.std.proofs.Common.{◌≡◌, ◌≤◌, Ok, arith}
 use Rattle.std.proofs.lemmas.Result.{err_from_is_err_and}
 use Rattle.counter_http.proofs.Gathering.{all_from, elsewhere, gathers_err, gathers_nothing, gathers_then}
 use Rattle.counter_http.proofs.Gathering.{passed_at_first, passed_then}

@@ -9,7 +9,8 @@ use Rattle.counter_http.proofs.together.serve_rounds.Goals as goal
 
 pub rounds-init : goal.rounds-init
 rounds-init g c = record {
-  rounding = rounding_none g.C.Counter.seen _ _ c.args.bank.now c.args.connections c.args.here.now.items c.requires;
+  rounding = rounding_none g.C.Counter.seen _ _ c.args.bank.now c.args.connections c.args.here.now.items
+      c.new-tally.result c.requires c.new-tally.ensures;
   spares = g.met.C.Counter.spares_itself c.args.bank.now;
 }
 

@@ -9,6 +9,6 @@ invariant-rounds g l = record {
       (known_ends g.D.Reader.Source.remaining g.D.Reader.Source.told g.D.Reader.Source.beside
       g.D.Writer.Sink.contents g.D.Writer.Sink.told) (g.D.Clients.told l.fn.door) (g.D.Clients.told l.door)
       (g.K.Clock.readings l.fn.clock) (g.K.Clock.readings l.clock) l.fn.bank l.bank l.connections l.came
-      l.here.items l.counter;
+      l.here.items l.tally l.counter;
   spares : g.C.Counter.spares l.fn.bank l.bank;
 }

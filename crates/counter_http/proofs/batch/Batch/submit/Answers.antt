@@ -1,9 +1,13 @@
-use Rattle.std.proofs.Common.{◌≡◌, ◌∙◌, ℕ, List, [], ◌∷◌, ap, arith, length, refl, subst, sym}
-use Rattle.std.proofs.lemmas.{Bool.eqb-true}
+use Rattle.std.proofs.Common.{◌≡◌, ◌<◌, ◌∙◌, ℕ, List, [], ◌∷◌, ap, arith, eqb, false, length, refl, subst, sym}
+use Rattle.std.proofs.lemmas.{Bool.eqb-true, Bool.true≢false}
 use Rattle.counter_http.specs.together.Submitting.{AreGiven}
 use Rattle.counter_http.proofs.Submitted.{refused_all, spared_all, submitted_after, submitted_nothing}
 use Rattle.counter_http.proofs.Submitted.{taken_all}
 use Rattle.counter_http.proofs.batch.Batch.submit.Goals as goal
+
+some_of : (rs : List (List ℕ)) → eqb (length rs) 0 ≡ false → 0 < length rs
+some_of [] e = absurd (true≢false e)
+some_of (r ∷ rs) e = omega arith
 
 -- there is no record
 pub returns-then-is_empty-clause-submits : goal.returns-then-is_empty-clause-submits
@@ -15,7 +19,7 @@ returns-then-is_empty-clause-submits g c =
       clock = refl;
       few = omega (arith, c.as_slice-records.ensures.fits, ap length c.as_slice-records.ensures.value);
       did = rw (sym c.as_slice-records.ensures.value, none)
-          (submitted_nothing g.C.Counter.seen [] c.args.bank.now c.args.here.now.items);
+          (submitted_nothing g.C.Counter.seen [] c.args.bank.now c.args.here.now.items c.args.tally.now);
     }
 
 -- the bank took them
@@ -26,6 +30,8 @@ returns-in-Ok-clause-submits g c =
     let here = c.args.here.now.items in
     let given : AreGiven here ss rs =
     subst (λ (l : List (List ℕ)). AreGiven here ss l) (sym c.as_slice-records.ensures.value) c.requires.gives.given in
+    let some : 0 < length rs =
+    some_of rs (sym c.is_empty.ensures ∙ c.if-is_empty.false) in
     record {
       readings = c.now-moment.result ∷ [];
       once = omega arith;
@@ -33,9 +39,10 @@ returns-in-Ok-clause-submits g c =
       few = omega (arith, c.as_slice-records.ensures.fits, ap length c.as_slice-records.ensures.value);
       did = rw (sym c.as_slice-records.ensures.value)
           (taken_all g.C.Counter.seen g.C.Counter.contents g.C.Counter.reason c.now-moment.result c.args.bank.now
-          c.submit_all.new.self here c.answer.new.here.items ss rs given c.requires.gives.apart c.deref.result.now
-          c.in-Ok.replies c.requires.others c.in-Ok.ensures.call
-          (λ h log shown. c.deref.ensures.value ∙ c.in-Ok.ensures.answer h log shown) c.answer.ensures);
+          c.submit_all.new.self here c.answer.new.here.items c.args.tally.now c.count_commit.new.self ss rs given
+          c.requires.gives.apart c.deref.result.now c.in-Ok.replies c.requires.others c.in-Ok.ensures.call
+          (λ h log shown. c.deref.ensures.value ∙ c.in-Ok.ensures.answer h log shown) c.answer.ensures
+          (rw (c.deref-in-Ok.ensures.value, sym c.deref.ensures.value) at c.count_commit.ensures) some);
     }
 
 -- memory was refused for all of them together
@@ -49,7 +56,7 @@ returns-in-Err-Memory-clause-submits g c = record {
       c.submit_each.new.bank c.args.here.now.items c.args.here.now.items c.submit_each.new.here.items
       (length c.args.self.now.records.items) c.submit_each.result
       (spared_all g.C.Counter.seen g.C.Counter.contents g.C.Counter.reason (c.now-moment.result ∷ []) c.args.bank.now
-      c.submit_all.new.self c.args.here.now.items _ c.in-Err-Memory.field-0
+      c.submit_all.new.self c.args.here.now.items _ c.args.tally.now c.in-Err-Memory.field-0
       c.in-Err-Memory.field-0-is c.in-Err-Memory.ensures.call) c.submit_each.ensures.submits;
 }
 
@@ -68,6 +75,7 @@ returns-in-Err-clause-submits g c =
       few = omega (arith, c.as_slice-records.ensures.fits, ap length c.as_slice-records.ensures.value);
       did = rw (sym c.as_slice-records.ensures.value)
           (refused_all g.C.Counter.seen g.C.Counter.contents g.C.Counter.reason c.now-moment.result c.args.bank.now
-          c.submit_all.new.self here c.refuse.new.here.items ss rs given c.requires.gives.apart c.in-Err.fault
+          c.submit_all.new.self here c.refuse.new.here.items c.args.tally.now c.args.tally.now ss rs given
+          c.requires.gives.apart c.in-Err.fault
           c.requires.others c.in-Err.ensures.call c.refuse.ensures);
     }

@@ -11,7 +11,8 @@ nobody = record { place = 0; head = record { length = 0; shows_body = false; clo
 
 pub loop-i-init : goal.loop-i-init
 loop-i-init g c = record {
-  did = submitted_nothing g.C.Counter.seen (c.args.moment ∷ []) c.args.bank.now c.args.here.now.items;
+  did = submitted_nothing g.C.Counter.seen (c.args.moment ∷ []) c.args.bank.now c.args.here.now.items
+      c.args.tally.now;
   gives = c.requires.gives.given;
   apart = c.requires.gives.apart;
   spares = g.met.C.Counter.spares_itself c.args.bank.now;

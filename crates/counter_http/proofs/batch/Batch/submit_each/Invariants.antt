@@ -8,7 +8,7 @@ abbrev pub invariant-loop-i : goal.invariant-loop-i
 invariant-loop-i g l = record {
   did : AreSubmitted {X = Unit {0}} g.C.Counter.seen g.C.Counter.reason (known_ends g.R.Source.remaining
       g.R.Source.told g.R.Source.beside g.W.Sink.contents g.W.Sink.told) (l.moment ∷ []) l.fn.bank l.bank
-      l.fn.here.items l.here.items l.i (Ok tt);
+      l.fn.here.items l.here.items l.fn.tally l.tally l.i (Ok tt);
   gives : AreGiven l.here.items (drop l.i l.fn.self.senders.items) (drop l.i l.fn.self.records.items);
   apart : AreApart (drop l.i l.fn.self.senders.items);
   spares : g.C.Counter.spares l.fn.bank l.bank;

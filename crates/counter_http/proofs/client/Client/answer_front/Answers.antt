@@ -1,19 +1,22 @@
-use Rattle.std.proofs.Common.{◌≡◌, ◌∙◌, refl, sym, ap, Bool, false, Option, Some, None, take, Ok}
+use Rattle.std.proofs.Common.{◌≡◌, ◌∙◌, refl, sym, ap, Bool, false, true, Option, Some, None, take, Ok}
 use Rattle.std.proofs.lemmas.{Bool.true≢false}
 use Rattle.std.specs.Prelude.{is_some, not}
 use Rattle.counter_http.specs.{Next.IsHopeless, Next.IsUnfinished, Next.IsWhole, Next.asked, Tasks.IsTaskOf}
 use Rattle.posting_core.specs.believed.LogEntries.{entries_given}
 use Rattle.counter_http.specs.Listing.{listing_answer}
-use Rattle.counter_http.specs.believed.Answers.{answer_to, asked_by, balance_answer, entries_answer, is_posting}
+use Rattle.counter_http.specs.Figures.{asks_figures, figures_answer}
+use Rattle.counter_http.specs.believed.Answers.{answer_to, asked_by, balance_answer, entries_answer}
+use Rattle.counter_http.specs.believed.Answers.{is_posting}
 use Rattle.counter_http.specs.Telling.{said}
 use Rattle.counter_http.specs.declared.parting.Parting.TheVariants as parting
 use Rattle.counter_http.specs.declared.tasks.Task.TheVariants.{Submit}
 use Rattle.counter_http.specs.Holders.{balance_of, holder_line}
-use Rattle.counter_http.proofs.AnsweredTurns.{answers_as, reading_as, submits_as}
+use Rattle.counter_http.proofs.AnsweredTurns.{answers_as, asks_as, reading_as, submits_as}
 use Rattle.counter_http.proofs.Asked.{answered_nothing, asked_none}
 use Rattle.counter_http.proofs.Fronts.{number_ended}
 use Rattle.counter_http.proofs.Moves.{ended_so, read_so, said_so}
-use Rattle.counter_http.proofs.Replies.{head_of, hopeless_here, read_answered, record_of, says_answered, unfinished_here}
+use Rattle.counter_http.proofs.Replies.{as_told, as_untold, head_of, hopeless_here, read_answered, record_of}
+use Rattle.counter_http.proofs.Replies.{says_answered, unfinished_here}
 use Rattle.counter_http.proofs.client.Client.answer_front.Goals as goal
 
 none_if : {A : Type 0} (o : Option A) (b : Bool) → b ≡ is_some o → b ≡ false → o ≡ None
@@ -48,14 +51,31 @@ returns-in-Say-clause-answers g c =
     let whole : IsWhole (take c.args.self.now.filled c.args.self.now.input.items) c.in-Message.message =
     rw c.deref.ensures.value at c.in-Message.ensures in
     let a = asked c.in-Message.message in
-    says_answered g.C.Counter.seen c.args.bank.now c.args.bank.now c.args.self.now c.say.new.self whole.message _
+    says_answered g.C.Counter.seen c.args.figures.now c.args.bank.now c.args.bank.now c.args.self.now c.say.new.self whole.message _
     (said c.in-Say.response) c.say.result (Ok c.say.result) c.say.ensures
     (head_of _ whole refl (ap not c.is_head.ensures) refl)
     (none_if c.args.self.now.parting c.is_some.result c.is_some.ensures c.if-is_some.false)
     (ap is_posting (sym whole.asks) ∙ submits_as a false c.in-Say.ensures.0)
     (asked_none g.C.Counter.seen c.args.bank.now c.say.result)
-    (λ h log s. sym (ap (answer_to log) (sym whole.asks)
-    ∙ answers_as a log (said c.in-Say.response) (c.in-Say.ensures.1 log)))
+    (λ h log s. as_untold c.args.figures.now (asked_by whole.message) log (said c.in-Say.response)
+    (ap asks_figures (sym whole.asks) ∙ asks_as a false c.in-Say.ensures.2)
+    (sym (ap (answer_to log) (sym whole.asks)
+    ∙ answers_as a log (said c.in-Say.response) (c.in-Say.ensures.1 log))))
+
+-- the figures
+pub returns-in-Metrics-clause-answers : goal.returns-in-Metrics-clause-answers
+returns-in-Metrics-clause-answers g c =
+    let whole : IsWhole (take c.args.self.now.filled c.args.self.now.input.items) c.in-Message.message =
+    rw c.deref.ensures.value at c.in-Message.ensures in
+    let a = asked c.in-Message.message in
+    says_answered g.C.Counter.seen c.args.figures.now c.args.bank.now c.args.bank.now c.args.self.now
+    c.say_figures.new.self whole.message _ (figures_answer c.args.figures.now) c.say_figures.result
+    (Ok c.say_figures.result) c.say_figures.ensures (head_of _ whole refl (ap not c.is_head.ensures) refl)
+    (none_if c.args.self.now.parting c.is_some.result c.is_some.ensures c.if-is_some.false)
+    (ap is_posting (sym whole.asks) ∙ submits_as a false c.in-Metrics.ensures.0)
+    (asked_none g.C.Counter.seen c.args.bank.now c.say_figures.result)
+    (λ h log s. as_told c.args.figures.now (asked_by whole.message) log
+    (ap asks_figures (sym whole.asks) ∙ asks_as a true c.in-Metrics.ensures.2))
 
 -- a balance
 pub returns-in-Balance-clause-answers : goal.returns-in-Balance-clause-answers
@@ -63,11 +83,12 @@ returns-in-Balance-clause-answers g c =
     let whole : IsWhole (take c.args.self.now.filled c.args.self.now.input.items) c.in-Message.message =
     rw c.deref.ensures.value at c.in-Message.ensures in
     let a = asked c.in-Message.message in
-    read_answered g.C.Counter.seen c.args.bank.now c.read_balance-read.new.bank c.args.self.now
+    read_answered g.C.Counter.seen c.args.figures.now c.args.bank.now c.read_balance-read.new.bank c.args.self.now
     c.answer_reading.new.self whole.message _ c.read_balance-read.result c.answer_reading.result
     c.answer_reading.ensures (head_of _ whole refl (ap not c.is_head.ensures) refl)
     (none_if c.args.self.now.parting c.is_some.result c.is_some.ensures c.if-is_some.false)
-    (ap is_posting (sym whole.asks) ∙ submits_as a false c.in-Balance.ensures.0) c.read_balance-read.ensures.asked
+    (ap is_posting (sym whole.asks) ∙ submits_as a false c.in-Balance.ensures.0)
+    (ap asks_figures (sym whole.asks) ∙ asks_as a false c.in-Balance.ensures.2) c.read_balance-read.ensures.asked
     (reading_as (g.C.Counter.seen c.read_balance-read.new.bank).honest (g.C.Counter.seen c.args.bank.now)
     c.read_balance-read.result
     (λ log. balance_answer (holder_line c.in-Balance.holder) (balance_of log c.in-Balance.holder))
@@ -81,12 +102,13 @@ returns-in-Branches-clause-answers g c =
     let whole : IsWhole (take c.args.self.now.filled c.args.self.now.input.items) c.in-Message.message =
     rw c.deref.ensures.value at c.in-Message.ensures in
     let a = asked c.in-Message.message in
-    read_answered g.C.Counter.seen c.args.bank.now c.read_branches-read.new.bank c.args.self.now
+    read_answered g.C.Counter.seen c.args.figures.now c.args.bank.now c.read_branches-read.new.bank c.args.self.now
     c.answer_reading-in-Branches.new.self whole.message _ c.read_branches-read.result
     c.answer_reading-in-Branches.result c.answer_reading-in-Branches.ensures
     (head_of _ whole refl (ap not c.is_head.ensures) refl)
     (none_if c.args.self.now.parting c.is_some.result c.is_some.ensures c.if-is_some.false)
-    (ap is_posting (sym whole.asks) ∙ submits_as a false c.in-Branches.ensures.0) c.read_branches-read.ensures.asked
+    (ap is_posting (sym whole.asks) ∙ submits_as a false c.in-Branches.ensures.0)
+    (ap asks_figures (sym whole.asks) ∙ asks_as a false c.in-Branches.ensures.2) c.read_branches-read.ensures.asked
     (reading_as (g.C.Counter.seen c.read_branches-read.new.bank).honest (g.C.Counter.seen c.args.bank.now)
     c.read_branches-read.result (λ log. listing_answer c.in-Branches.listing log) (asked_by whole.message)
     (λ log. ap (answer_to log) (sym whole.asks) ∙ answers_as a log _ (c.in-Branches.ensures.1 log))
@@ -98,12 +120,13 @@ returns-in-Entries-clause-answers g c =
     let whole : IsWhole (take c.args.self.now.filled c.args.self.now.input.items) c.in-Message.message =
     rw c.deref.ensures.value at c.in-Message.ensures in
     let a = asked c.in-Message.message in
-    read_answered g.C.Counter.seen c.args.bank.now c.read_entries-read.new.bank c.args.self.now
+    read_answered g.C.Counter.seen c.args.figures.now c.args.bank.now c.read_entries-read.new.bank c.args.self.now
     c.answer_reading-in-Entries.new.self whole.message _ c.read_entries-read.result
     c.answer_reading-in-Entries.result c.answer_reading-in-Entries.ensures
     (head_of _ whole refl (ap not c.is_head.ensures) refl)
     (none_if c.args.self.now.parting c.is_some.result c.is_some.ensures c.if-is_some.false)
-    (ap is_posting (sym whole.asks) ∙ submits_as a false c.in-Entries.ensures.0) c.read_entries-read.ensures.asked
+    (ap is_posting (sym whole.asks) ∙ submits_as a false c.in-Entries.ensures.0)
+    (ap asks_figures (sym whole.asks) ∙ asks_as a false c.in-Entries.ensures.2) c.read_entries-read.ensures.asked
     (reading_as (g.C.Counter.seen c.read_entries-read.new.bank).honest (g.C.Counter.seen c.args.bank.now)
     c.read_entries-read.result (λ log. entries_answer (entries_given log c.in-Entries.after)) (asked_by whole.message)
     (λ log. ap (answer_to log) (sym whole.asks) ∙ answers_as a log _ (c.in-Entries.ensures.1 log))
@@ -140,6 +163,13 @@ returns-in-Say-clause-rests g c =
     rw c.deref.ensures.value at c.in-Message.ensures in
     said_so c.args.self.now c.say.new.self whole.message (said c.in-Say.response) _ c.say.result
     (head_of _ whole refl (ap not c.is_head.ensures) refl) c.say.ensures
+
+pub returns-in-Metrics-clause-rests : goal.returns-in-Metrics-clause-rests
+returns-in-Metrics-clause-rests g c =
+    let whole : IsWhole (take c.args.self.now.filled c.args.self.now.input.items) c.in-Message.message =
+    rw c.deref.ensures.value at c.in-Message.ensures in
+    said_so c.args.self.now c.say_figures.new.self whole.message (figures_answer c.args.figures.now) _ c.say_figures.result
+    (head_of _ whole refl (ap not c.is_head.ensures) refl) c.say_figures.ensures
 
 pub returns-in-Balance-clause-rests : goal.returns-in-Balance-clause-rests
 returns-in-Balance-clause-rests g c =

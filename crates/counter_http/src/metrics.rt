@@ -1,0 +1,108 @@
+//! The figures of a counter, in the text that Prometheus reads.
+ghost use Rattle.std.specs.Prelude.{◌≡◌, IfOk, string_bytes};
+ghost use Rattle.counter_http.specs.Figures.{figures_text};
+
+use crate::figures::{Figures, Tally};
+use std::alloc::{AllocError, Global};
+use std::fmt;
+
+const POSTINGS: &str = "Records replied to with outcome 00; one that is sent again counts again.";
+
+const REFUSALS: &str =
+    "# HELP bank_refusals_total Records replied to with another outcome; one that is sent again counts again.\n# TYPE bank_refusals_total counter\n";
+
+const RECORDS: &str = "Records replied to.";
+
+const COMMITS: &str = "Transactions by which those records were taken.";
+
+const CONNECTIONS: &str = "Clients that are connected.";
+
+const UPTIME: &str = "Seconds since the counter began to serve.";
+
+// A number with its name.
+#[derive(Clone, Copy)]
+struct Sample(&'static str, u64);
+
+impl fmt::Display for Sample {
+    ghost use Rattle.std.specs.Prelude.{Some};
+    ghost use Rattle.counter_http.specs.Figures.{sample};
+
+    ghost output = { λ it. Some (sample it.0.now it.1) };
+
+    fn fmt<W: fmt::Write>(&self, f: &mut fmt::Formatter<W>) -> fmt::Result {
+        let name = self.0;
+        let value = self.1;
+        write!(f, "{name} {value}\n")
+    }
+}
+
+// A number with its name, what it is, and of which kind.
+#[derive(Clone, Copy)]
+struct Metric(&'static str, &'static str, &'static str, u64);
+
+impl fmt::Display for Metric {
+    ghost use Rattle.std.specs.Prelude.{Some};
+    ghost use Rattle.counter_http.specs.Figures.{metric};
+
+    ghost output = { λ it. Some (metric it.0.now it.1.now it.2.now it.3) };
+
+    fn fmt<W: fmt::Write>(&self, f: &mut fmt::Formatter<W>) -> fmt::Result {
+        let name = self.0;
+        let help = self.1;
+        let kind = self.2;
+        let sample = Sample(name, self.3);
+        write!(f, "# HELP {name} {help}\n# TYPE {name} {kind}\n{sample}")
+    }
+}
+
+// How many records weren't posted, by outcome.
+#[derive(Clone, Copy)]
+struct Refusals(Tally);
+
+impl fmt::Display for Refusals {
+    ghost use Rattle.std.specs.Prelude.{Some};
+    ghost use Rattle.counter_http.specs.Figures.{refusals_text};
+
+    ghost output = { λ it. Some (refusals_text it.0) };
+
+    fn fmt<W: fmt::Write>(&self, f: &mut fmt::Formatter<W>) -> fmt::Result {
+        let tally = self.0;
+        let a = Sample("bank_refusals_total{outcome=\"11\"}", tally.no_teller);
+        let b = Sample("bank_refusals_total{outcome=\"12\"}", tally.wrong_branch);
+        let c = Sample("bank_refusals_total{outcome=\"13\"}", tally.no_account);
+        let d = Sample("bank_refusals_total{outcome=\"14\"}", tally.over_limit);
+        let e = Sample("bank_refusals_total{outcome=\"15\"}", tally.reused_number);
+        let g = Sample("bank_refusals_total{outcome=\"16\"}", tally.full);
+        let h = Sample("bank_refusals_total{outcome=\"17\"}", tally.below_floor);
+        let i = Sample("bank_refusals_total{outcome=\"90\"}", tally.malformed);
+        write!(f, "{REFUSALS}{a}{b}{c}{d}{e}{g}{h}{i}")
+    }
+}
+
+impl fmt::Display for Figures {
+    ghost use Rattle.std.specs.Prelude.{Some};
+    ghost use Rattle.counter_http.specs.Figures.{figures_text};
+
+    ghost output = { λ figures. Some (figures_text figures) };
+
+    fn fmt<W: fmt::Write>(&self, f: &mut fmt::Formatter<W>) -> fmt::Result {
+        let tally = self.tally;
+        let postings = Metric("bank_postings_total", POSTINGS, "counter", tally.posted);
+        let refusals = Refusals(tally);
+        let records = Metric("bank_records_total", RECORDS, "counter", tally.records);
+        let commits = Metric("bank_commits_total", COMMITS, "counter", tally.commits);
+        let connections = Metric("bank_connections", CONNECTIONS, "gauge", self.connections);
+        let uptime = Metric("bank_uptime_seconds", UPTIME, "gauge", self.seconds);
+        write!(
+            f,
+            "{postings}{refusals}{records}{commits}{connections}{uptime}"
+        )
+    }
+}
+
+/// The text of the figures.
+pub(crate) fn text_of(alloc: Global, figures: &Figures) -> Result<String, AllocError>
+    ensures { IfOk result (λ text. string_bytes text ≡ figures_text figures.now) }
+{
+    figures.to_string(alloc)
+}
