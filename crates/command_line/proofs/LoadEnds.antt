@@ -9,7 +9,7 @@ use Rattle.report_contents.specs.Written.{AppendsPart}
 use Rattle.branch_loader.specs.{believed.Plans.Rows, Plans.ReadsPlan, declared.loader.Loaded.Loaded}
 use Rattle.branch_loader.specs.declared.fault.PlanFault.{PlanFault}
 use Rattle.branch_loader.specs.declared.fault.PlanFault.TheVariants.{Memory}
-use Rattle.command_line.specs.{Faults.fault_of_bank, Faults.fault_of_plan, Lines.loaded_line, Looking.IsOfPlanFile}
+use Rattle.command_line.specs.{CommandFaults.fault_of_bank, CommandFaults.fault_of_plan, Lines.loaded_line, Looking.IsOfPlanFile}
 use Rattle.command_line.specs.declared.fault.CommandFault.{CommandFault}
 use Rattle.command_line.specs.declared.fault.CommandFault.TheVariants.{Write}
 use Rattle.command_line.specs.Working.{IsRefusedLoad, Loads, LoadsFrom, LoadsOver, ended_by_load}

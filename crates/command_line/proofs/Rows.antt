@@ -9,11 +9,11 @@ use Rattle.clap.specs.Faults.{action_fault, repeat_fault, use_fault, values_faul
 use Rattle.clap.specs.Kinds.{Kinds, or_else, range_kinds, value_kinds, values_kinds}
 use Rattle.clap.specs.{Takes.is_given, Takes.value_passes, Values.read_as, Values.refused_kind}
 use Rattle.clap.specs.{declared.builder.action.ArgAction.ArgAction, declared.parser.matches.ValueSource.ValueSource}
-use Rattle.clap.specs.Walk.{Row, Rule, Text, action_of, arg_by_id, first_of, more_values, most_values, one_of}
-use Rattle.clap.specs.Walk.{reading_by, used, used_as, values_or_missing, with_values, without}
-use Rattle.clap.specs.declared.builder.action.ArgAction.TheVariants.{Set, Help}
+use Rattle.clap.specs.Walk.{Row, Rule, Text, action_of, arg_by_id, default_rows, first_of, more_values, most_values}
+use Rattle.clap.specs.Walk.{one_of, reading_by, used, used_as, values_or_missing, with_values, without}
+use Rattle.clap.specs.declared.builder.action.ArgAction.TheVariants.{Help, Set, SetTrue}
 use Rattle.clap.specs.declared.error.kind.ErrorKind.TheVariants as kind
-use Rattle.clap.specs.declared.parser.matches.ValueSource.TheVariants.{CommandLine}
+use Rattle.clap.specs.declared.parser.matches.ValueSource.TheVariants.{CommandLine, DefaultValue}
 
 -- ---- faults
 
@@ -27,12 +27,22 @@ no_second (k ∷ ks) b none = cc
 
 -- ---- arguments
 
--- an argument that wants a value, or asks for help; its id is its own, and it has no default
+-- the first of some values, if there is one, passes the argument's parser
+abbrev pub FirstPasses : Rule → List Text → Type 0
+FirstPasses a [] = Unit {0}
+FirstPasses a (v ∷ vs) = value_passes a v ≡ true
+
+-- there is one
+abbrev pub HasFirst : Rule → List Text → Type 0
+HasFirst a [] = ⊥
+HasFirst a (v ∷ vs) = value_passes a v ≡ true
+
+-- an argument that wants a value, asks for help, or is a flag; its id is its own, and its default passes
 abbrev pub IsPlainRule : List Rule → Rule → Type 0
 IsPlainRule c a = (((action_of a ≡ Set) × (0 < (unwrap_or_range a.range).start_inclusive))
-    ⊎ (action_of a ≡ Help))
+    ⊎ (action_of a ≡ Help) ⊎ ((action_of a ≡ SetTrue) × HasFirst a a.missing))
     × (arg_by_id c a.id ≡ Some a)
-    × (a.defaults ≡ [])
+    × FirstPasses a a.defaults
 
 -- some of the arguments c
 abbrev pub ArePlainRules : List Rule → List Rule → Type 0
@@ -167,6 +177,23 @@ passed a v none = go (value_passes a v) none
     go true none = refl
     go false none = cc
 
+-- values that are set with no fault pass
+set_sound : (c : List Rule) (again : Bool) (a : Rule) (v : Text) (vs : List Text) (rows : List Row)
+    → arg_by_id c a.id ≡ Some a → AreSound c rows → action_fault Set again a (v ∷ vs) rows ≡ []
+    → AreSound c (with_values a.id (reading_by a) CommandLine (v ∷ vs) (without a.id rows))
+set_sound c again a v vs rows own all sets =
+    let first : value_kinds a.ignore_case (parser_of_value a.parser) v ≡ [] =
+    no_first (value_kinds a.ignore_case (parser_of_value a.parser) v)
+    (values_kinds a.ignore_case (parser_of_value a.parser) vs)
+    (no_second (repeat_fault again a.id rows) (values_fault a (v ∷ vs)) sets) in
+    more_sound c a CommandLine v vs (without a.id rows) own (passed a v first) (fewer_sound c a.id rows all)
+
+-- values that an argument has by default pass
+pub default_sound : (c : List Rule) (a : Rule) (values : List Text) (rows : List Row) → arg_by_id c a.id ≡ Some a
+    → FirstPasses a values → AreSound c rows → AreSound c (default_rows a.id (reading_by a) values rows)
+default_sound c a [] rows own passes all = all
+default_sound c a (v ∷ vs) rows own passes all = more_sound c a DefaultValue v vs rows own passes all
+
 -- a use with no fault leaves rows whose values pass
 pub used_sound : (c : List Rule) (again : Bool) (a : Rule) (values : List Text) (rows : List Row)
     → IsPlainRule c a
@@ -182,13 +209,25 @@ used_sound c again a (v ∷ vs) rows (inl one, own, plain) all none =
     (action_fault (action_of a) again a (v ∷ vs) rows) none in
     let sets : action_fault Set again a (v ∷ vs) rows ≡ [] =
     subst (λ (x : ArgAction). action_fault x again a (v ∷ vs) rows ≡ []) one.0 acts in
-    let first : value_kinds a.ignore_case (parser_of_value a.parser) v ≡ [] =
-    no_first (value_kinds a.ignore_case (parser_of_value a.parser) v)
-    (values_kinds a.ignore_case (parser_of_value a.parser) vs)
-    (no_second (repeat_fault again a.id rows) (values_fault a (v ∷ vs)) sets) in
     subst (λ (x : ArgAction). AreSound c (used_as x a.id (reading_by a) (v ∷ vs) rows)) (sym one.0)
-    (more_sound c a CommandLine v vs (without a.id rows) own (passed a v first) (fewer_sound c a.id rows all))
-used_sound c again a values rows (inr help, own, plain) all none =
+    (set_sound c again a v vs rows own all sets)
+used_sound c again a [] rows (inr (inr flag), own, plain) all none =
+    subst (λ (x : ArgAction). AreSound c (used_as x a.id (reading_by a) a.missing rows)) (sym flag.0)
+    (stood_for a.missing flag.1)
+  where
+    stood_for : (values : List Text) → HasFirst a values
+        → AreSound c (with_values a.id (reading_by a) CommandLine values (without a.id rows))
+    stood_for [] has = absurd has
+    stood_for (v ∷ vs) has = more_sound c a CommandLine v vs (without a.id rows) own has (fewer_sound c a.id rows all)
+used_sound c again a (v ∷ vs) rows (inr (inr flag), own, plain) all none =
+    let acts : action_fault (action_of a) again a (v ∷ vs) rows ≡ [] =
+    no_second (range_kinds (unwrap_or_range a.range).start_inclusive (most_values a) (length (v ∷ vs)))
+    (action_fault (action_of a) again a (v ∷ vs) rows) none in
+    let sets : action_fault SetTrue again a (v ∷ vs) rows ≡ [] =
+    subst (λ (x : ArgAction). action_fault x again a (v ∷ vs) rows ≡ []) flag.0 acts in
+    subst (λ (x : ArgAction). AreSound c (used_as x a.id (reading_by a) (v ∷ vs) rows)) (sym flag.0)
+    (set_sound c again a v vs rows own all sets)
+used_sound c again a values rows (inr (inl help), own, plain) all none =
     let acts : action_fault (action_of a) again a (values_or_missing a values) rows ≡ [] =
     no_second (range_kinds (unwrap_or_range a.range).start_inclusive (most_values a) (length values))
     (action_fault (action_of a) again a (values_or_missing a values) rows) none in

@@ -59,28 +59,34 @@ plain_leaf s plain no_help no_subcommand negates =
 
 pub one_is_plain : (name : Text) → IsPlainLeaf (one_file name)
 one_is_plain name = plain_leaf (one_file name)
-    ((inl (refl, omega arith), refl, refl), ((inr refl, refl, refl), tt)) refl refl refl
+    ((inl (refl, omega arith), refl, tt), ((inr (inl refl), refl, tt), tt)) refl refl refl
 
 pub why_is_plain : IsPlainLeaf other_file
 why_is_plain = plain_leaf other_file
-    ((inl (refl, omega arith), refl, refl), ((inr refl, refl, refl), tt)) refl refl refl
+    ((inl (refl, omega arith), refl, tt), ((inr (inl refl), refl, tt), tt)) refl refl refl
 
 pub load_is_plain : IsPlainLeaf two_files
 load_is_plain = plain_leaf two_files (
-  (inl (refl, omega arith), refl, refl),
-  ((inl (refl, omega arith), refl, refl), ((inr refl, refl, refl), tt)),
+  (inl (refl, omega arith), refl, tt),
+  ((inl (refl, omega arith), refl, tt), ((inr (inl refl), refl, tt), tt)),
 ) refl refl refl
 
 pub statement_is_plain : IsPlainLeaf file_and_account
 statement_is_plain = plain_leaf file_and_account (
-  (inl (refl, omega arith), refl, refl),
+  (inl (refl, omega arith), refl, tt),
   (
-    (inl (refl, omega arith), refl, refl),
+    (inl (refl, omega arith), refl, tt),
     (
-      (inl (refl, omega arith), refl, refl),
+      (inl (refl, omega arith), refl, tt),
       (
-        (inl (refl, omega arith), refl, refl),
-        ((inl (refl, omega arith), refl, refl), ((inr refl, refl, refl), tt)),
+        (inl (refl, omega arith), refl, tt),
+        (
+          (inl (refl, omega arith), refl, tt),
+          (
+            (inl (refl, omega arith), refl, tt),
+            ((inr (inr (refl, refl)), refl, refl), ((inr (inl refl), refl, tt), tt)),
+          ),
+        ),
       ),
     ),
   ),
@@ -88,36 +94,36 @@ statement_is_plain = plain_leaf file_and_account (
 
 pub digest_is_plain : IsPlainLeaf file_and_requests
 digest_is_plain = plain_leaf file_and_requests (
-  (inl (refl, omega arith), refl, refl),
-  ((inl (refl, omega arith), refl, refl), ((inr refl, refl, refl), tt)),
+  (inl (refl, omega arith), refl, tt),
+  ((inl (refl, omega arith), refl, tt), ((inr (inl refl), refl, tt), tt)),
 ) refl refl refl
 
 pub export_is_plain : IsPlainLeaf file_and_after
 export_is_plain = plain_leaf file_and_after (
-  (inl (refl, omega arith), refl, refl),
-  ((inl (refl, omega arith), refl, refl), ((inr refl, refl, refl), tt)),
+  (inl (refl, omega arith), refl, tt),
+  ((inl (refl, omega arith), refl, tt), ((inr (inl refl), refl, tt), tt)),
 ) refl refl refl
 
 pub log_is_plain : IsPlainLeaf log_and_after
 log_is_plain = plain_leaf log_and_after (
-  (inl (refl, omega arith), refl, refl),
-  ((inl (refl, omega arith), refl, refl), ((inr refl, refl, refl), tt)),
+  (inl (refl, omega arith), refl, tt),
+  ((inl (refl, omega arith), refl, tt), ((inr (inl refl), refl, tt), tt)),
 ) refl refl refl
 
 pub follow_is_plain : IsPlainLeaf file_and_plan
 follow_is_plain = plain_leaf file_and_plan (
-  (inl (refl, omega arith), refl, refl),
-  ((inl (refl, omega arith), refl, refl), ((inr refl, refl, refl), tt)),
+  (inl (refl, omega arith), refl, tt),
+  ((inl (refl, omega arith), refl, tt), ((inr (inl refl), refl, tt), tt)),
 ) refl refl refl
 
 pub drive_is_plain : IsPlainLeaf file_and_numbers
 drive_is_plain = plain_leaf file_and_numbers (
-  (inl (refl, omega arith), refl, refl),
-  ((inl (refl, omega arith), refl, refl), ((inl (refl, omega arith), refl, refl), ((inr refl, refl, refl), tt))),
+  (inl (refl, omega arith), refl, tt),
+  ((inl (refl, omega arith), refl, tt), ((inl (refl, omega arith), refl, tt), ((inr (inl refl), refl, tt), tt))),
 ) refl refl refl
 
 pub serve_is_plain : IsPlainLeaf file_and_address
 serve_is_plain = plain_leaf file_and_address (
-  (inl (refl, omega arith), refl, refl),
-  ((inl (refl, omega arith), refl, refl), ((inl (refl, omega arith), refl, refl), ((inr refl, refl, refl), tt))),
+  (inl (refl, omega arith), refl, tt),
+  ((inl (refl, omega arith), refl, tt), ((inl (refl, omega arith), refl, tt), ((inr (inl refl), refl, tt), tt))),
 ) refl refl refl

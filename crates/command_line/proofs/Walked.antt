@@ -1,6 +1,6 @@
 -- A walk over words that meets no fault leaves rows whose values pass the parsers of their arguments.
-use Rattle.std.proofs.Common.{◌≡◌, ◌&&◌, ◌∙◌, ℕ, Bool, zero, suc, true, false, List, [], ◌∷◌, length, Option, Some}
-use Rattle.std.proofs.Common.{None, refl, ap, not}
+use Rattle.std.proofs.Common.{◌≡◌, ◌&&◌, ℕ, Bool, zero, suc, true, false, List, [], ◌∷◌, length, Option, Some}
+use Rattle.std.proofs.Common.{None, refl, not}
 use Rattle.std.specs.Prelude.{fold, slice_get, drop, encode_utf8, if◌then◌else◌, is_some}
 use Rattle.std.specs.{Option.option_map_or, Str.bytes_eq, Str.chars}
 use Rattle.clap.specs.Faults.{bundle_step_fault, flag_word_fault, flags_fault, long_fault, option_fault, other_fault}
@@ -16,8 +16,8 @@ use Rattle.clap.specs.Walk.{reacted, reading_by, rows_after, settled, settled_ro
 use Rattle.clap.specs.Walk.{subcommand_met, subcommand_or_other, takes_several, takes_values, to_positional}
 use Rattle.clap.specs.Walk.{used_by_id, walk, walk_from, walked, walked_from, with_default, word_met}
 use Rattle.clap.specs.declared.error.kind.ErrorKind.TheVariants as kind
-use Rattle.command_line.proofs.Rows.{ArePlainRules, AreSound, IsPlainRule, found_plain, no_first, no_second}
-use Rattle.command_line.proofs.Rows.{used_sound}
+use Rattle.command_line.proofs.Rows.{ArePlainRules, AreSound, IsPlainRule, default_sound, found_plain, no_first}
+use Rattle.command_line.proofs.Rows.{no_second, used_sound}
 
 -- ---- what is held
 
@@ -237,18 +237,16 @@ walk_sound s names (word ∷ rest) w fit sound none =
     walk_sound s names rest (walked s.rules names w word) fit
     (walked_sound s names w word fit sound (no_first turn later none)) (no_second turn later none)
 
--- no argument has a default
-no_defaults : (c rules : List Rule) (rows : List Row) → ArePlainRules c rules
-    → fold with_default rows rules ≡ rows
-no_defaults c [] rows fit = refl
-no_defaults c (a ∷ rest) rows fit =
-    let same : with_default rows a ≡ rows = kept (has_row a.id rows) fit.0.2 in
-    ap (λ r. fold with_default r rest) same ∙ no_defaults c rest rows fit.1
+-- what arguments have by default passes
+defaults_sound : (c rules : List Rule) (rows : List Row) → ArePlainRules c rules → AreSound c rows
+    → AreSound c (fold with_default rows rules)
+defaults_sound c [] rows fit all = all
+defaults_sound c (a ∷ rest) rows fit all =
+    defaults_sound c rest (with_default rows a) fit.1 (given (has_row a.id rows))
   where
-    kept : (b : Bool) → a.defaults ≡ []
-        → (if b then rows else default_rows a.id (reading_by a) a.defaults rows) ≡ rows
-    kept true none = refl
-    kept false none = rw none refl
+    given : (b : Bool) → AreSound c (if b then rows else default_rows a.id (reading_by a) a.defaults rows)
+    given true = all
+    given false = default_sound c a a.defaults rows fit.0.1 fit.0.2 all
 
 -- the values of such a level pass
 pub rows_sound : (s : Shape) (names : Names) (words : List Text) → ArePlainRules s.rules s.rules
@@ -258,5 +256,5 @@ pub rows_sound : (s : Shape) (names : Names) (words : List Text) → ArePlainRul
 rows_sound s names words fit walks settles =
     let h = (walk s.rules names nothing_held words).held in
     let sound : AreSound s.rules h.rows = walk_sound s names words (walk_from nothing_held) fit tt walks in
-    rw (no_defaults s.rules s.rules (settled s.rules h).rows fit)
+    defaults_sound s.rules s.rules (settled s.rules h).rows fit
     (settled_sound s.rules s.args_override_self h fit sound settles)

@@ -6,7 +6,7 @@ use Rattle.report_contents.specs.Audit.{is_sound}
 use Rattle.report_contents.specs.AuditText.{audit_text}
 use Rattle.report_contents.specs.Written.{AppendsPart}
 use Rattle.report_contents.specs.declared.audit.Audit.{Audit}
-use Rattle.command_line.specs.Faults.{fault_of_bank}
+use Rattle.command_line.specs.CommandFaults.{fault_of_bank}
 use Rattle.command_line.specs.declared.fault.CommandFault.{CommandFault}
 use Rattle.command_line.specs.declared.fault.CommandFault.TheVariants.{Write}
 use Rattle.command_line.specs.declared.status.Status.{Status}

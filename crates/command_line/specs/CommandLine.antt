@@ -111,10 +111,22 @@ to_rule = text_rule (codes "to")
 abbrev pub zone_rule : Rule
 zone_rule = text_rule (codes "zone")
 
+-- `--reference TEXT`, the reference of the postings
+abbrev pub reference_rule : Rule
+reference_rule = text_rule (codes "reference")
+
+-- `--csv`, as a sheet
+abbrev pub csv_rule : Rule
+csv_rule = flag_rule (codes "csv")
+
 -- `statement FILE ACCOUNT [--from DATE] [--to DATE] [--zone ZONE]`
-abbrev pub statement_app : App
-statement_app = with_rule (with_rule (with_rule (with_rule (with_rule (new_app (codes "statement")) file_rule)
+abbrev pub range_app : App
+range_app = with_rule (with_rule (with_rule (with_rule (with_rule (new_app (codes "statement")) file_rule)
     account_rule) from_rule) to_rule) zone_rule
+
+-- the same with `[--reference TEXT] [--csv]`
+abbrev pub statement_app : App
+statement_app = with_rule (with_rule range_app reference_rule) csv_rule
 
 -- `replay FILE`
 abbrev pub replay_app : App

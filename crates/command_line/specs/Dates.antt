@@ -1,15 +1,15 @@
 -- Which range of time the words of a statement ask for.
-use Rattle.std.specs.Prelude.{ℤ, pos, ◌+◌, int_lt, List, codes, Option, Some, None, Result, Ok, Err, option_map}
+use Rattle.std.specs.Prelude.{ℤ, pos, ◌+◌, int_lt, Option, Some, None, Result, Ok, Err, option_map}
 use Rattle.std.specs.Prelude.{if◌then◌else◌, is_some, ◌||◌}
 use Rattle.std.specs.Option.{ok_or}
-use Rattle.clap.specs.Words.{Row, Text, first_of}
+use Rattle.clap.specs.Words.{Text}
 use Rattle.message_records.specs.believed.Reading.{◌>>=◌}
 use Rattle.message_records.specs.declared.limits.TheConstants.{MAX_MOMENT}
 use Rattle.civil_times.specs.Calendar.{first_second}
 use Rattle.civil_times.specs.Reading.{ahead_of, day_of}
 use Rattle.report_contents.specs.declared.range.Range.{Range}
-use Rattle.command_line.specs.declared.dates.RangeFault.{RangeFault}
-use Rattle.command_line.specs.declared.dates.RangeFault.TheVariants.{From, Order, To, Zone}
+use Rattle.command_line.specs.declared.queries.QueryFault.{QueryFault}
+use Rattle.command_line.specs.declared.queries.QueryFault.TheVariants.{From, Order, To, Zone}
 
 -- how far the zone is ahead of UTC, which it is where none is given
 abbrev pub ahead_in : Option Text → Option ℤ
@@ -27,26 +27,22 @@ end_at ahead None = Some (pos (MAX_MOMENT + 1))
 end_at ahead (Some text) = option_map (λ day. first_second (day + 1) ahead) (day_of text)
 
 -- no day is after its last
-abbrev pub range_of : ℤ → ℤ → Result Range RangeFault
+abbrev pub range_of : ℤ → ℤ → Result Range QueryFault
 range_of from until = if int_lt from until then Ok (record { from = from; until = until }) else Err Order
 
 -- the range from a day to a day in a zone, or what is wrong with it
-unfoldable pub range_between : Option Text → Option Text → Option Text → Result Range RangeFault
+unfoldable pub range_between : Option Text → Option Text → Option Text → Result Range QueryFault
 range_between from to zone = do
   ahead ← ok_or (ahead_in zone) Zone
   begin ← ok_or (begin_at ahead from) From
   end ← ok_or (end_at ahead to) To
   range_of begin end
 
-abbrev pub some_range : Result Range RangeFault → Result (Option Range) RangeFault
+abbrev pub some_range : Result Range QueryFault → Result (Option Range) QueryFault
 some_range (Ok range) = Ok (Some range)
 some_range (Err fault) = Err fault
 
 -- without dates and zone all is asked for
-abbrev pub range_told : Option Text → Option Text → Option Text → Result (Option Range) RangeFault
+abbrev pub range_told : Option Text → Option Text → Option Text → Result (Option Range) QueryFault
 range_told from to zone =
     if is_some from || is_some to || is_some zone then some_range (range_between from to zone) else Ok None
-
--- the same by the values of a statement's options
-abbrev pub range_in : List Row → Result (Option Range) RangeFault
-range_in rows = range_told (first_of (codes "from") rows) (first_of (codes "to") rows) (first_of (codes "zone") rows)

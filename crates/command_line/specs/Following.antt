@@ -12,7 +12,7 @@ use Rattle.branch_loader.specs.believed.Plans.{Rows}
 use Rattle.branch_loader.specs.declared.fault.PlanFault.{PlanFault}
 use Rattle.branch_loader.specs.declared.follow_fault.FollowFault.{FollowFault}
 use Rattle.report_contents.specs.Written.{AppendsPart}
-use Rattle.command_line.specs.Faults.{fault_of_following, fault_of_plan}
+use Rattle.command_line.specs.CommandFaults.{fault_of_following, fault_of_plan}
 use Rattle.command_line.specs.Lines.{after_line, followed_line}
 use Rattle.command_line.specs.Looking.{IsOfPlanFile}
 use Rattle.command_line.specs.declared.fault.CommandFault.{CommandFault}

@@ -1,9 +1,10 @@
 pub mod CommandLine
-pub mod RangeTexts
+pub mod QueryTexts
 pub mod Dates
+pub mod Queries
 pub mod Words
 pub mod Statuses
-pub mod Faults
+pub mod CommandFaults
 pub mod Lines
 pub mod Looking
 pub mod Working

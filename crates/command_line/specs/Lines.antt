@@ -14,7 +14,7 @@ use Rattle.clap.specs.declared.error.kind.ErrorKind.TheVariants as kind
 use Rattle.posting_core.specs.believed.Told.{EndsWith}
 use Rattle.posting_core.specs.Told.{HasWriteFailed, IsFlush, IsThrough, WriteTold}
 use Rattle.report_contents.specs.Written.{AppendsPart}
-use Rattle.command_line.specs.Faults.{fault_text}
+use Rattle.command_line.specs.CommandFaults.{fault_text}
 use Rattle.command_line.specs.declared.fault.CommandFault.{CommandFault}
 use Rattle.command_line.specs.declared.fault.CommandFault.TheVariants.{Memory}
 use Rattle.command_line.specs.declared.status.Status.{Status}

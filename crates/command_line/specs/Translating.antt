@@ -7,7 +7,7 @@ use Rattle.posting_sheets.specs.Replies.{Decodes, RepliesFaultIsOfItsEnd}
 use Rattle.posting_sheets.specs.declared.fault.RepliesFault.{RepliesFault}
 use Rattle.posting_sheets.specs.declared.fault.SheetFault.{SheetFault}
 use Rattle.posting_sheets.specs.declared.money.Money.{Money}
-use Rattle.command_line.specs.Faults.{fault_of_replies, fault_of_sheet}
+use Rattle.command_line.specs.CommandFaults.{fault_of_replies, fault_of_sheet}
 use Rattle.command_line.specs.declared.fault.CommandFault.{CommandFault}
 use Rattle.command_line.specs.declared.status.Status.{Status}
 use Rattle.command_line.specs.declared.status.Status.TheVariants.{Done}

@@ -11,7 +11,7 @@ use Rattle.message_records.specs.declared.limits.TheConstants.{MAX_ACCOUNT}
 use Rattle.posting_sheets.specs.declared.money.Money.{Money}
 use Rattle.posting_sheets.specs.declared.money.Money.TheVariants.{Cents, Decimals}
 use Rattle.command_line.specs.CommandLine.{MAX_REQUESTS, MAX_SEED, bank_app}
-use Rattle.command_line.specs.Dates.{range_in}
+use Rattle.command_line.specs.Queries.{query_in}
 use Rattle.command_line.specs.declared.limits.TheConstants.{MAX_CONNECTIONS}
 use Rattle.command_line.specs.declared.reading.Command.{Command}
 use Rattle.command_line.specs.declared.reading.Command.TheVariants.{Audit, Decode, Digest, Drive, Encode, Export}
@@ -95,8 +95,8 @@ IsCommandOf p (Drive file seed count) = (p.0 ≡ codes "drive") × IsText (codes
     × IsNumber (codes "seed") p.1 seed
     × IsNumber (codes "count") p.1 count
 IsCommandOf p (Audit file) = (p.0 ≡ codes "audit") × IsText (codes "file") p.1 file.now
-IsCommandOf p (Statement file account range) = (p.0 ≡ codes "statement") × IsText (codes "file") p.1 file.now
-    × IsNumber (codes "account") p.1 account × (range ≡ range_in p.1)
+IsCommandOf p (Statement file account query) = (p.0 ≡ codes "statement") × IsText (codes "file") p.1 file.now
+    × IsNumber (codes "account") p.1 account × (query ≡ query_in p.1)
 IsCommandOf p (Replay file) = (p.0 ≡ codes "replay") × IsText (codes "file") p.1 file.now
 IsCommandOf p (Digest file requests) = (p.0 ≡ codes "digest") × IsText (codes "file") p.1 file.now
     × IsNumber (codes "requests") p.1 requests
@@ -118,7 +118,7 @@ IsCommandOf p (Decode money) = (p.0 ≡ codes "decode") × (money ≡ money_in p
 -- the command's numbers are in their ranges
 abbrev pub AreInRange : Command → Type 0
 AreInRange (Drive file seed count) = (seed ≤ MAX_SEED) × (1 ≤ count) × (count ≤ MAX_DRIVEN)
-AreInRange (Statement file account range) = (1 ≤ account) × (account ≤ MAX_ACCOUNT)
+AreInRange (Statement file account query) = (1 ≤ account) × (account ≤ MAX_ACCOUNT)
 AreInRange (Serve file address connections) = IfSome connections (λ n. (1 ≤ n) × (n ≤ MAX_CONNECTIONS))
 AreInRange _ = ⊤
 

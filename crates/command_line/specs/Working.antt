@@ -21,7 +21,7 @@ use Rattle.counter_http.specs.declared.listen_fault.ListenFault.{ListenFault}
 use Rattle.posting_core.specs.Stream.{IsOfCall}
 use Rattle.posting_core.specs.believed.Told.{ReadTold}
 use Rattle.report_contents.specs.Written.{AppendsPart}
-use Rattle.command_line.specs.Faults.{fault_of_bank, fault_of_drive, fault_of_plan, fault_of_serving}
+use Rattle.command_line.specs.CommandFaults.{fault_of_bank, fault_of_drive, fault_of_plan, fault_of_serving}
 use Rattle.command_line.specs.Lines.{driven_line, listening_line, loaded_line}
 use Rattle.command_line.specs.Looking.{IsOfPlanFile}
 use Rattle.command_line.specs.Statuses.{status_of_loaded}

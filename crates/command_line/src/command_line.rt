@@ -3,7 +3,7 @@ ghost use Rattle.std.specs.Prelude.{◌≡◌, IfOk, codes, false};
 ghost use Rattle.clap.specs.Words.{App, Rule, app_of, new_app, rule_of, with_rule, with_subcommand};
 ghost use Rattle.command_line.specs.CommandLine.{IsApp, bank_alone, bank_app, decode_app, digest_app, drive_app};
 ghost use Rattle.command_line.specs.CommandLine.{export_app, file_rule, flag_rule, follow_app, init_app, load_app};
-ghost use Rattle.command_line.specs.CommandLine.{log_app, number_rule, optional_rule};
+ghost use Rattle.command_line.specs.CommandLine.{log_app, number_rule, optional_rule, range_app};
 ghost use Rattle.command_line.specs.CommandLine.{account_rule, required_rule, serve_app, statement_app, text_rule};
 ghost use Rattle.command_line.specs.CommandLine.{why_app};
 
@@ -119,6 +119,16 @@ fn drive_command<'a>(alloc: Global) -> Result<Command<'a>, AllocError>
 fn statement_command<'a>(alloc: Global) -> Result<Command<'a>, AllocError>
     ensures { IfOk result (IsApp statement_app) }
 {
+    let statement = statement_of_range(alloc);
+    let reference = optional_text(alloc, "reference", "TEXT", texts::OF_REFERENCE);
+    let csv = flag(alloc, "csv", texts::AS_CSV);
+    with_argument(with_argument(statement, reference), csv)
+}
+
+// The same with no other option than days.
+fn statement_of_range<'a>(alloc: Global) -> Result<Command<'a>, AllocError>
+    ensures { IfOk result (IsApp range_app) }
+{
     let statement = statement_of_all(alloc);
     let from = optional_text(alloc, "from", "DATE", texts::FROM);
     let to = optional_text(alloc, "to", "DATE", texts::TO);
@@ -126,7 +136,7 @@ fn statement_command<'a>(alloc: Global) -> Result<Command<'a>, AllocError>
     with_argument(with_argument(with_argument(statement, from), to), zone)
 }
 
-// The same without dates.
+// The same without options.
 fn statement_of_all<'a>(alloc: Global) -> Result<Command<'a>, AllocError>
     ensures { IfOk result (IsApp (with_rule (with_rule (new_app (codes "statement")) file_rule) account_rule)) }
 {

@@ -3,46 +3,17 @@ ghost use Rattle.std.specs.Prelude.{◌≡◌, ◌≤◌, IfSome, is_some, nat_a
 ghost use Rattle.civil_times.specs.declared.calendar.TheConstants.{MAX_AHEAD};
 ghost use Rattle.command_line.specs.Dates.{ahead_in, begin_at, end_at, range_between, range_of, range_told};
 
+use crate::queries::QueryFault;
 use civil_times::{first_second, read_day, read_zone};
 use message_records::MAX_MOMENT;
 use report_contents::Range;
-use std::fmt;
-
-/// Why dates and a zone are no range of time.
-#[derive(Clone, Copy, Debug, PartialEq, Eq)]
-pub enum RangeFault {
-    /// `--from` has no date.
-    From,
-    /// `--to` has no date.
-    To,
-    /// `--zone` has no zone.
-    Zone,
-    /// The first day is after the last.
-    Order,
-}
-
-impl fmt::Display for RangeFault {
-    ghost use Rattle.std.specs.Prelude.{Some};
-    ghost use Rattle.command_line.specs.RangeTexts.{range_text};
-
-    ghost output = { λ fault. Some (range_text fault) };
-
-    fn fmt<W: fmt::Write>(&self, f: &mut fmt::Formatter<W>) -> fmt::Result {
-        match self {
-            RangeFault::From => write!(f, "no date in --from"),
-            RangeFault::To => write!(f, "no date in --to"),
-            RangeFault::Zone => write!(f, "no zone in --zone"),
-            RangeFault::Order => write!(f, "--to is before --from"),
-        }
-    }
-}
 
 /// The range that the values of `--from`, `--to` and `--zone` tell; none without any of them.
 pub(crate) fn range_told(
     from: Option<&str>,
     to: Option<&str>,
     zone: Option<&str>,
-) -> Result<Option<Range>, RangeFault>
+) -> Result<Option<Range>, QueryFault>
     ensures { result ≡ range_told (option_map (λ s. s.now) from.entry) (option_map (λ s. s.now) to.entry)
         (option_map (λ s. s.now) zone.entry) }
 {
@@ -69,29 +40,29 @@ fn range_between(
     from: Option<&str>,
     to: Option<&str>,
     zone: Option<&str>,
-) -> Result<Range, RangeFault>
+) -> Result<Range, QueryFault>
     ensures { result ≡ range_between (option_map (λ s. s.now) from.entry) (option_map (λ s. s.now) to.entry)
         (option_map (λ s. s.now) zone.entry) }
 {
-    let ahead = ahead_in(zone).ok_or(RangeFault::Zone)?;
-    let begin = begin_at(ahead, from).ok_or(RangeFault::From)?;
-    let end = end_at(ahead, to).ok_or(RangeFault::To)?;
+    let ahead = ahead_in(zone).ok_or(QueryFault::Zone)?;
+    let begin = begin_at(ahead, from).ok_or(QueryFault::From)?;
+    let end = end_at(ahead, to).ok_or(QueryFault::To)?;
     range_of(begin, end)
 }
 
 // The seconds from one on, and before another that comes later.
-fn range_of(from: i64, until: i64) -> Result<Range, RangeFault>
+fn range_of(from: i64, until: i64) -> Result<Range, QueryFault>
     ensures { result ≡ range_of from until }
 {
     if from < until {
         Ok(Range { from, until })
     } else {
-        Err(RangeFault::Order)
+        Err(QueryFault::Order)
     }
 }
 
-// How far the zone is ahead of UTC.
-fn ahead_in(zone: Option<&str>) -> Option<i64>
+/// How far the zone is ahead of UTC.
+pub(crate) fn ahead_in(zone: Option<&str>) -> Option<i64>
     ensures value { result ≡ ahead_in (option_map (λ s. s.now) zone.entry) }
     ensures most { IfSome result (λ z. nat_abs z ≤ MAX_AHEAD) }
 {

@@ -2,11 +2,11 @@
 ghost use Rattle.std.specs.Prelude.{◌≡◌};
 ghost use Rattle.std.specs.IoError.{error_kind};
 ghost use Rattle.command_line.specs.Looking.{IsOfLook, IsOfPlanFile, fault_of_look, fault_of_plan_file};
-ghost use Rattle.command_line.specs.Faults.{fault_of_bank, fault_of_drive, fault_of_following, fault_of_opening};
-ghost use Rattle.command_line.specs.Faults.{fault_of_plan, fault_of_replies, fault_of_serving, fault_of_sheet};
-ghost use Rattle.command_line.specs.Faults.{fault_of_stream, status_of};
+ghost use Rattle.command_line.specs.CommandFaults.{fault_of_bank, fault_of_drive, fault_of_following, fault_of_opening};
+ghost use Rattle.command_line.specs.CommandFaults.{fault_of_plan, fault_of_replies, fault_of_serving, fault_of_sheet};
+ghost use Rattle.command_line.specs.CommandFaults.{fault_of_stream, status_of};
 
-use crate::dates::RangeFault;
+use crate::queries::QueryFault;
 use crate::status::Status;
 use branch_loader::{FollowFault, OtherReply, PlanFault};
 use counter_http::ListenFault;
@@ -60,8 +60,8 @@ pub enum CommandFault {
     NoAccount(Account),
     /// Status 4. The bank keeps fewer requests than that.
     NoRequest(u64),
-    /// Status 4. The dates and the zone of a statement are no range of time.
-    Range(RangeFault),
+    /// Status 4. What is asked of a statement is none: its dates, its zone or its reference.
+    Query(QueryFault),
     /// Status 3. The address can't be bound or has no text, or the listener gave no connection.
     Network,
 }
@@ -114,7 +114,7 @@ impl CommandFault {
             | CommandFault::NoBranches
             | CommandFault::NoAccount(_)
             | CommandFault::NoRequest(_)
-            | CommandFault::Range(_) => Status::Input,
+            | CommandFault::Query(_) => Status::Input,
             CommandFault::Differs(_) => Status::Differs,
         }
     }
@@ -122,7 +122,7 @@ impl CommandFault {
 
 impl fmt::Display for CommandFault {
     ghost use Rattle.std.specs.Prelude.{Some};
-    ghost use Rattle.command_line.specs.Faults.{fault_text};
+    ghost use Rattle.command_line.specs.CommandFaults.{fault_text};
 
     ghost output = { λ fault. Some (fault_text fault) };
 
@@ -149,7 +149,7 @@ impl fmt::Display for CommandFault {
             CommandFault::NoBranches => write!(f, "no branches"),
             CommandFault::NoAccount(account) => write!(f, "no account {account}"),
             CommandFault::NoRequest(count) => write!(f, "no request {count}"),
-            CommandFault::Range(fault) => write!(f, "{fault}"),
+            CommandFault::Query(fault) => write!(f, "{fault}"),
             CommandFault::Network => write!(f, "network failed"),
         }
     }

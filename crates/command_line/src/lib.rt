@@ -33,6 +33,7 @@ mod limits;
 mod lines;
 mod loading;
 mod prompting;
+mod queries;
 mod reading;
 mod replaying;
 mod serving;
@@ -41,7 +42,6 @@ mod texts;
 mod translating;
 
 pub use auditing::print_audit;
-pub use dates::RangeFault;
 pub use driving::drive_into;
 pub use fault::CommandFault;
 pub use following::follow_into;
@@ -53,6 +53,7 @@ pub use lines::{
 };
 pub use loading::{Plans, load_from, load_into};
 pub use prompting::prompt;
+pub use queries::QueryFault;
 pub use reading::{Command, read_words};
 pub use replaying::{print_agreeing, print_differing, print_digest};
 pub use serving::{Network, listen};

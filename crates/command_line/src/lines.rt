@@ -5,7 +5,7 @@ ghost use Rattle.std.specs.IoError.{error_kind};
 ghost use Rattle.clap.specs.Words.{kind_of};
 ghost use Rattle.posting_core.specs.believed.Told.{EndsWith};
 ghost use Rattle.posting_core.specs.Told.{HasWriteFailed, IsFlush};
-ghost use Rattle.command_line.specs.Faults.{status_of};
+ghost use Rattle.command_line.specs.CommandFaults.{status_of};
 ghost use Rattle.command_line.specs.Lines.{IsHelpOrVersion, IsShown, PrintsLine, WritesOut, already_line};
 ghost use Rattle.command_line.specs.Lines.{after_line, created_line, driven_line, fault_line, followed_line};
 ghost use Rattle.command_line.specs.Lines.{listening_line, loaded_line, migrated_line, no_words_line, usable_line};

@@ -3,19 +3,19 @@ ghost use Rattle.std.specs.Prelude.{◌≡◌, ℕ, IfErr, IfOk, IsErrAnd, IsSom
 ghost use Rattle.clap.specs.Words.{FailsBy, fault_of, found_of, kind_of, rows_of, subcommand_of};
 ghost use Rattle.clap.specs.Words.{subcommand_rows_of, takes};
 ghost use Rattle.command_line.specs.CommandLine.{bank_app};
-ghost use Rattle.command_line.specs.Dates.{range_in};
+ghost use Rattle.command_line.specs.Queries.{query_in};
 ghost use Rattle.command_line.specs.Words.{AreInRange, AsksForHelp, HasMoreValues, HasNumber, HasNumberIfAny};
 ghost use Rattle.command_line.specs.Words.{HasSomeNumber, HasText, IsCommandOf, IsComplete, IsCompleteOnFile};
 ghost use Rattle.command_line.specs.Words.{IsHelp, IsNumberIfAny, IsNumberIn, IsReadFrom, IsSpelledIn, IsText};
 ghost use Rattle.command_line.specs.Words.{money_in, money_of_flag, words_read};
 
 use crate::command_line::bank_command;
-use crate::dates::{RangeFault, range_told};
+use crate::queries::{QueryFault, query_told};
 use clap::ArgMatches;
 use clap::error::ErrorKind;
 use message_records::Account;
 use posting_sheets::Money;
-use report_contents::Range;
+use report_contents::Query;
 use std::alloc::Global;
 use std::convert::AsStr;
 
@@ -45,11 +45,11 @@ pub enum Command<'a> {
     Audit {
         file: &'a str,
     },
-    /// Write the statement of an account of the file's bank, all of it or this range of time, if it is one.
+    /// Write the statement of an account of the file's bank, all of it or what is asked for, if it is something.
     Statement {
         file: &'a str,
         account: Account,
-        range: Result<Option<Range>, RangeFault>,
+        query: Result<Query, QueryFault>,
     },
     /// Replay the file's bank.
     Replay {
@@ -197,11 +197,11 @@ fn command_with_values<'a>(name: &str, file: &'a str, values: &ArgMatches<'a>) -
         "statement" => {
             let number = number_in(values, "account");
             let account = Account::new(number).unwrap();
-            let range = range_in(values);
+            let query = query_in(values);
             Command::Statement {
                 file,
                 account,
-                range,
+                query,
             }
         }
         "digest" => {
@@ -250,14 +250,16 @@ fn money_of_flag(value: Option<&str>) -> Money
     }
 }
 
-// The range of time that a statement is asked for.
-fn range_in(values: &ArgMatches<'_>) -> Result<Option<Range>, RangeFault>
-    ensures { result ≡ range_in (rows_of (found_of values.now)) }
+// What a statement is asked for.
+fn query_in(values: &ArgMatches<'_>) -> Result<Query, QueryFault>
+    ensures { result ≡ query_in (rows_of (found_of values.now)) }
 {
     let from = values.get_str("from");
     let to = values.get_str("to");
     let zone = values.get_str("zone");
-    range_told(from, to, zone)
+    let reference = values.get_str("reference");
+    let csv = values.get_str("csv");
+    query_told(from, to, zone, reference, csv)
 }
 
 // The value of an argument that has one.

@@ -3,7 +3,7 @@ use Rattle.std.proofs.Common.{◌≡◌, ◌⊎◌, Bool, Err, false, true, ap, 
 use Rattle.std.specs.Prelude.{if◌then◌else◌}
 use Rattle.std.proofs.KnownBytes.{Keeps-refl}
 use Rattle.report_contents.specs.Audit.{is_sound}
-use Rattle.command_line.specs.{Faults.fault_of_bank, declared.fault.CommandFault.TheVariants.Write}
+use Rattle.command_line.specs.{CommandFaults.fault_of_bank, declared.fault.CommandFault.TheVariants.Write}
 use Rattle.command_line.specs.declared.status.Status.{Status, TheVariants.Done, TheVariants.Inconsistent}
 use Rattle.command_line.proofs.LoadEnds.{never_write}
 use Rattle.command_line.proofs.auditing.print_audit.Goals as goal

@@ -1,10 +1,9 @@
 -- Each argument is added in its turn.
-use Rattle.command_line.specs.CommandLine.{from_rule, to_rule, zone_rule}
+use Rattle.command_line.specs.CommandLine.{csv_rule, reference_rule}
 use Rattle.command_line.proofs.command_line.statement_command.Goals as goal
 
 pub returns : goal.returns
 returns c =
-    let from = c.with_argument.ensures _ from_rule c.statement_of_all-statement.ensures
-    c.optional_text-from.ensures.rule in
-    let to = c.with_argument-2.ensures _ to_rule from c.optional_text-to.ensures.rule in
-    c.with_argument-3.ensures _ zone_rule to c.optional_text-zone.ensures.rule
+    let reference = c.with_argument.ensures _ reference_rule c.statement_of_range-statement.ensures
+    c.optional_text-reference.ensures.rule in
+    c.with_argument-2.ensures _ csv_rule reference c.flag-csv.ensures.rule

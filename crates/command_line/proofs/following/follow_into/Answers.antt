@@ -1,7 +1,7 @@
 -- Where there is no plan, nothing is done.
 use Rattle.std.proofs.Common.{rules, ◌≡◌, Err, Ok, inl, inr, refl}
 use Rattle.std.proofs.KnownBytes.{Keeps-refl}
-use Rattle.command_line.specs.Faults.{fault_of_plan}
+use Rattle.command_line.specs.CommandFaults.{fault_of_plan}
 use Rattle.command_line.proofs.following.follow_into.Goals as goal
 
 pub returns-in_err-source : goal.returns-in_err-source

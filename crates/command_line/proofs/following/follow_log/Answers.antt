@@ -1,7 +1,7 @@
 -- The entries were followed to the end, or up to a fault.
 use Rattle.std.proofs.Common.{rules, ◌≡◌, Err, Ok}
 use Rattle.std.proofs.KnownBytes.{Keeps-refl}
-use Rattle.command_line.specs.Faults.{fault_of_following}
+use Rattle.command_line.specs.CommandFaults.{fault_of_following}
 use Rattle.command_line.proofs.FollowEnds.{did_spare, followed_printed}
 use Rattle.command_line.proofs.following.follow_log.Goals as goal
 

@@ -1,6 +1,6 @@
 -- Each way out, by what ended it.
 use Rattle.std.proofs.Common.{rules, ◌≡◌, Err}
-use Rattle.command_line.specs.Faults.{fault_of_bank, fault_of_plan}
+use Rattle.command_line.specs.CommandFaults.{fault_of_bank, fault_of_plan}
 use Rattle.command_line.specs.{declared.fault.CommandFault.TheVariants.Write, Working.Loads}
 use Rattle.command_line.proofs.LoadEnds.{printed, refused, unprinted, unread}
 use Rattle.command_line.proofs.Printed.{part_of}

@@ -63,7 +63,7 @@ returns-in-statement-clause-command c =
       c.in-statement.is,
       c.requires.file,
       subst (IsNumber (codes "account") (rows_of found)) same read.0,
-      c.range_in-range.ensures,
+      c.query_in-query.ensures,
     )
 
 -- ---- a count of requests

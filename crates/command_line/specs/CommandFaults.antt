@@ -12,7 +12,7 @@ use Rattle.branch_loader.specs.declared.follow_fault.FollowFault.{FollowFault}
 use Rattle.branch_loader.specs.declared.follow_fault.FollowFault.TheVariants as follow
 use Rattle.branch_loader.specs.declared.fault.PlanFault.{PlanFault}
 use Rattle.branch_loader.specs.declared.fault.PlanFault.TheVariants as plan
-use Rattle.posting_sheets.specs.Faults.{sheet_text}
+use Rattle.posting_sheets.specs.SheetFaults.{sheet_text}
 use Rattle.posting_sheets.specs.declared.fault.RepliesFault.{RepliesFault}
 use Rattle.posting_sheets.specs.declared.fault.RepliesFault.TheVariants as replies
 use Rattle.posting_sheets.specs.declared.fault.SheetFault.{SheetFault}
@@ -23,7 +23,7 @@ use Rattle.counter_http.specs.declared.listen_fault.ListenFault.{ListenFault}
 use Rattle.counter_http.specs.declared.listen_fault.ListenFault.TheVariants as listen
 use Rattle.posting_rules.specs.declared.open_fault.OpenFault.{OpenFault}
 use Rattle.posting_rules.specs.declared.open_fault.OpenFault.TheVariants as opening
-use Rattle.command_line.specs.RangeTexts.{range_text}
+use Rattle.command_line.specs.QueryTexts.{query_text}
 use Rattle.command_line.specs.declared.fault.CommandFault.{CommandFault}
 use Rattle.command_line.specs.declared.fault.CommandFault.TheVariants as fault
 use Rattle.command_line.specs.declared.status.Status.{Status}
@@ -50,7 +50,7 @@ status_of (fault.Version version) = Input
 status_of fault.NoBranches = Input
 status_of (fault.NoAccount account) = Input
 status_of (fault.NoRequest count) = Input
-status_of (fault.Range range) = Input
+status_of (fault.Query query) = Input
 status_of fault.Network = System
 
 -- the text of a fault; that of a plan's, of a sheet's and of a reply's fault, and of another reply, is its own
@@ -73,7 +73,7 @@ fault_text (fault.Version version) = codes "version " ++ signed_decimal version
 fault_text fault.NoBranches = codes "no branches"
 fault_text (fault.NoAccount account) = codes "no account " ++ decimal account
 fault_text (fault.NoRequest count) = codes "no request " ++ decimal count
-fault_text (fault.Range range) = range_text range
+fault_text (fault.Query query) = query_text query
 fault_text fault.Network = codes "network failed"
 
 -- why a bank wasn't made or found
