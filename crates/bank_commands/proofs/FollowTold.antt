@@ -12,9 +12,9 @@ use Rattle.store_rows.specs.believed.Sparing.{SparesOthers}
 use Rattle.branch_loader.specs.declared.fault.PlanFault.{PlanFault}
 use Rattle.branch_loader.specs.declared.follow_fault.FollowFault.{FollowFault}
 use Rattle.branch_loader.specs.believed.Plans.{Rows}
-use Rattle.bank_store.specs.believed.{Down.bank_reason, Sparing.SparesOtherTables}
+use Rattle.bank_store.specs.believed.{Down.bank_reason, BankSparing.SparesOtherTables}
 use Rattle.bank_store.specs.believed.Seen.{bank_seen, connection_of, database_of, file_of}
-use Rattle.bank_store.specs.{Sparing.SparesWhileOpen, declared.bank.Bank.Bank}
+use Rattle.bank_store.specs.{OpenBankSparing.SparesWhileOpen, declared.bank.Bank.Bank}
 use Rattle.bank_replays.specs.declared.fault.ReplayFault.{ReplayFault, TheVariants.Bank as OfBank, TheVariants.Write}
 use Rattle.command_line.specs.Following.{FollowsAnswer, TellsFollowed}
 use Rattle.command_line.specs.{Lines.after_line, Lines.followed_line, Working.done_after}

@@ -7,7 +7,7 @@ use Rattle.sqlite.proofs.StateLemmas.{survives_then}
 use Rattle.sqlite_trees.specs.declared.store.Store.{Ghosts}
 use Rattle.store_rows.specs.believed.Sparing.{SparesOthers}
 use Rattle.bank_store.specs.believed.Seen.{connection_of, database_of, file_of}
-use Rattle.bank_store.specs.{Sparing.SparesWhileOpen, declared.bank.Bank.Bank, declared.refused.Refused.Refused}
+use Rattle.bank_store.specs.{OpenBankSparing.SparesWhileOpen, declared.bank.Bank.Bank, declared.refused.Refused.Refused}
 use Rattle.bank_store.proofs.Spared.{idle_spares, read_spares}
 use Rattle.command_line.specs.declared.fault.CommandFault.{CommandFault}
 use Rattle.bank_commands.specs.Over.{FindsOver, IsFoundOver, IsMissedOver, IsRefusedOver}

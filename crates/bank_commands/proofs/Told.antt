@@ -18,7 +18,7 @@ use Rattle.branch_loader.specs.{believed.Plans.Rows, declared.fault.PlanFault.Pl
 use Rattle.branch_loader.specs.declared.loader.Loaded.{Loaded}
 use Rattle.posting_sheets.specs.declared.fault.{RepliesFault.RepliesFault, SheetFault.SheetFault}
 use Rattle.report_contents.specs.declared.audit.Audit.{Audit}
-use Rattle.report_contents.specs.declared.range.Range.{Range}
+use Rattle.report_contents.specs.declared.query.Query.{Query}
 use Rattle.bank_reports.specs.declared.fault.ReportFault.{ReportFault}
 use Rattle.bank_reports.specs.declared.fault.ReportFault.TheVariants as report
 use Rattle.bank_replays.specs.declared.{chain.Digest.Digest, difference.Replay.Replay, fault.ReplayFault.ReplayFault}
@@ -26,10 +26,10 @@ use Rattle.bank_replays.specs.declared.difference.Replay.TheVariants as replays
 use Rattle.bank_replays.specs.declared.fault.ReplayFault.TheVariants as written
 use Rattle.bank_store.specs.declared.{bank.Bank.Bank, refused.Refused.Refused}
 use Rattle.command_line.specs.{Auditing.Prints, declared.fault.CommandFault.CommandFault}
-use Rattle.command_line.specs.declared.dates.RangeFault.{RangeFault}
+use Rattle.command_line.specs.declared.queries.QueryFault.{QueryFault}
 use Rattle.command_line.specs.{declared.reading.Command.Command, declared.status.Status.Status, Lines.driven_line}
 use Rattle.command_line.specs.{Lines.listening_line, Lines.loaded_line, Statuses.status_of_loaded}
-use Rattle.command_line.specs.Faults.{IsOfFile, fault_of_opening, fault_of_stream, status_of}
+use Rattle.command_line.specs.CommandFaults.{IsOfFile, fault_of_opening, fault_of_stream, status_of}
 use Rattle.command_line.specs.declared.fault.CommandFault.TheVariants as fault
 use Rattle.command_line.specs.declared.reading.Command.TheVariants as commands
 use Rattle.command_line.specs.declared.status.Status.TheVariants.{Differs, Done, Inconsistent, Input, System, Usage}
@@ -187,17 +187,17 @@ stated_done account (Err report.NoAccount) = tt
 stated_done account (Err report.Write) = tt
 stated_done account (Err (report.Bank cause)) = tt
 
-range_done : {S : Type 0} (g : Ghosts S) (conn back : Held S) (account : ℕ) (range : Option Range)
+query_done : {S : Type 0} (g : Ghosts S) (conn back : Held S) (account : ℕ) (query : Query)
     (w w' : Option (List ℕ)) (told : Result Status CommandFault)
-    → StatesOver g conn back account range w w' None None told → IfOk told (λ status. status ≡ Done)
-range_done g conn back account range w w' told (inl none, spares) = rw (err_from_is_err_and told none.0).1 tt
-range_done g conn back account range w w' told (inr works, spares) =
+    → StatesOver g conn back account query w w' None None told → IfOk told (λ status. status ≡ Done)
+query_done g conn back account query w w' told (inl none, spares) = rw (err_from_is_err_and told none.0).1 tt
+query_done g conn back account query w w' told (inr works, spares) =
     rw works.did.1.1 (stated_done account works.did.1.0)
 
 pub states_done : {S : Type 0} (g : Ghosts S) (conn back : Held S) (account : ℕ)
-    (range : Result (Option Range) RangeFault) (w w' : Option (List ℕ)) (told : Result Status CommandFault)
-    → StatesAsked g conn back account range w w' None None told → IfOk told (λ status. status ≡ Done)
-states_done g conn back account (Ok range) w w' told states = range_done g conn back account range w w' told states
+    (query : Result Query QueryFault) (w w' : Option (List ℕ)) (told : Result Status CommandFault)
+    → StatesAsked g conn back account query w w' None None told → IfOk told (λ status. status ≡ Done)
+states_done g conn back account (Ok query) w w' told states = query_done g conn back account query w w' told states
 states_done g conn back account (Err fault) w w' told states = rw states.0 tt
 
 -- where a text was written
@@ -230,7 +230,7 @@ tells_idle (commands.Load file plan) f r w has = inl (Keeps-refl w)
 tells_idle (commands.Post file) f r w has = (tt, λ _. (refl, refl))
 tells_idle (commands.Drive file seed count) f r w has = inl (Keeps-refl w)
 tells_idle (commands.Audit file) f r w has = inl ((f, refl), Keeps-refl w)
-tells_idle (commands.Statement file account range) f r w has = tt
+tells_idle (commands.Statement file account query) f r w has = tt
 tells_idle (commands.Replay file) f r w has = inl ((f, refl), Keeps-refl w)
 tells_idle (commands.Digest file requests) f r w has = inl ((f, refl), Keeps-refl w)
 tells_idle (commands.Export file after) f r w has = tt
@@ -277,7 +277,7 @@ fault_ends (fault.Version version) = inr (inl refl)
 fault_ends fault.NoBranches = inr (inl refl)
 fault_ends (fault.NoAccount account) = inr (inl refl)
 fault_ends (fault.NoRequest count) = inr (inl refl)
-fault_ends (fault.Range range) = inr (inl refl)
+fault_ends (fault.Query query) = inr (inl refl)
 fault_ends fault.Network = inl refl
 
 pub status_is_not_usage : (f : CommandFault) → status_of f ≢ Usage
@@ -356,7 +356,7 @@ told_is_not_usage (commands.Drive file seed count) r r' w w' status told = done_
 told_is_not_usage (commands.Audit file) r r' w w' status (inl none) = not_a_fault status _ none.0.1
 told_is_not_usage (commands.Audit file) r r' w w' status (inr told) =
     audited_is_not_usage told.0 w w' status told.1
-told_is_not_usage (commands.Statement file account range) r r' w w' status told = done_is_not_usage status told
+told_is_not_usage (commands.Statement file account query) r r' w w' status told = done_is_not_usage status told
 told_is_not_usage (commands.Replay file) r r' w w' status (inl none) = not_a_fault status _ none.0.1
 told_is_not_usage (commands.Replay file) r r' w w' status (inr told) =
     replayed_is_not_usage told.0 w w' status told.1

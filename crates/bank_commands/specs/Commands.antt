@@ -17,7 +17,7 @@ use Rattle.branch_loader.specs.declared.loader.Loaded.{Loaded}
 use Rattle.load_driver.specs.declared.drive.Driven.{Driven}
 use Rattle.report_contents.specs.Written.{AppendsPart}
 use Rattle.report_contents.specs.declared.audit.Audit.{Audit}
-use Rattle.report_contents.specs.declared.range.Range.{Range}
+use Rattle.report_contents.specs.declared.query.Query.{Query}
 use Rattle.bank_store.specs.believed.Down.{bank_reason}
 use Rattle.bank_store.specs.believed.Seen.{bank_seen}
 use Rattle.bank_store.specs.Seen.{fault_of}
@@ -26,17 +26,17 @@ use Rattle.bank_store.specs.declared.migration.Migrated.{Migrated}
 use Rattle.bank_store.specs.declared.migration.Migrated.TheVariants.{Already, Moved}
 use Rattle.bank_reports.specs.Audits.{Audits, AuditsFile}
 use Rattle.bank_store.specs.Leaving.{CommitsAsFound, LeavesAsFound}
-use Rattle.bank_reports.specs.Statements.{RefusesBalance, StatesDated, StatesFileDated}
+use Rattle.bank_reports.specs.Statements.{RefusesBalance, StatesFileSelected, StatesSelected}
 use Rattle.bank_reports.specs.declared.fault.ReportFault.{ReportFault}
 use Rattle.bank_reports.specs.declared.fault.ReportFault.TheVariants as report
 use Rattle.store_rows.specs.declared.metas.TheConstants.{VERSION}
 use Rattle.command_line.specs.Auditing.{Prints}
-use Rattle.command_line.specs.Faults.{IsOfFile, fault_of_bank, fault_of_stream}
+use Rattle.command_line.specs.CommandFaults.{IsOfFile, fault_of_bank, fault_of_stream}
 use Rattle.command_line.specs.Lines.{already_line, created_line, driven_line, listening_line, loaded_line}
 use Rattle.command_line.specs.Lines.{migrated_line, usable_line}
 use Rattle.command_line.specs.Statuses.{status_of_loaded}
 use Rattle.command_line.specs.Working.{DrivesOver, LoadsOver, ServesOver}
-use Rattle.command_line.specs.declared.dates.RangeFault.{RangeFault}
+use Rattle.command_line.specs.declared.queries.QueryFault.{QueryFault}
 use Rattle.command_line.specs.declared.fault.CommandFault.{CommandFault}
 use Rattle.command_line.specs.declared.fault.CommandFault.TheVariants as faults
 use Rattle.command_line.specs.declared.status.Status.{Status}
@@ -135,33 +135,33 @@ stated_by account (Err report.NoAccount) = Err (faults.NoAccount account)
 stated_by account (Err report.Write) = Err faults.Write
 stated_by account (Err (report.Bank cause)) = Err (fault_of_bank cause)
 
--- an account of a bank, or a range of it, was stated, and of its file, whatever rows that has
-pub record StatesBank {S : Type 0} (g : Ghosts S) (account : ℕ) (range : Option Range) (w w' : Option (List ℕ))
+-- what is asked for of an account of a bank was stated, and of its file, whatever rows that has
+pub record StatesBank {S : Type 0} (g : Ghosts S) (account : ℕ) (query : Query) (w w' : Option (List ℕ))
     (t t' : Option (List WriteTold)) (stated : Result (Unit {0}) ReportFault) (old new : Bank S g)
     : Type 0 where
-  pub bank : StatesDated (bank_seen g old) (bank_seen g new) account range w w' stated
+  pub bank : StatesSelected (bank_seen g old) (bank_seen g new) account query w w' stated
   pub file : (bank_seen g new).honest → ((bank_seen g new).is_down → ⊥)
-      → StatesFileDated g old new account range w w' stated
+      → StatesFileSelected g old new account query w w' stated
   pub refused : (bank_seen g new).is_down → RefusesBalance g old new stated
   pub flushed : OnOk stated (EndsWith IsFlush t t')
   pub failed : stated ≡ Err report.Write → HasWriteFailed t t'
   pub frugal : stated ≢ Err (report.Bank Memory)
   pub leaves : CommitsAsFound g old new
 
-abbrev pub StatesOver : {S : Type 0} (g : Ghosts S) → (conn back : Held S) → ℕ → Option Range → (w w' : Option (List ℕ))
+abbrev pub StatesOver : {S : Type 0} (g : Ghosts S) → (conn back : Held S) → ℕ → Query → (w w' : Option (List ℕ))
     → (t t' : Option (List WriteTold)) → Result Status CommandFault → Type 0
-StatesOver g conn back account range w w' t t' told =
+StatesOver g conn back account query w w' t t' told =
     FindsOver g conn back told (w' ≡ w)
     (λ old new. (stated : Result (Unit {0}) ReportFault) × (told ≡ stated_by account stated)
-    × StatesBank g account range w w' t t' stated old new)
+    × StatesBank g account query w w' t t' stated old new)
 
--- the range that was asked for was stated; or it is none, and nothing was done
+-- what was asked for was stated; or it is nothing that can be asked, and nothing was done
 abbrev pub StatesAsked : {S : Type 0} (g : Ghosts S) → (conn back : Held S) → ℕ
-    → Result (Option Range) RangeFault → (w w' : Option (List ℕ)) → (t t' : Option (List WriteTold))
+    → Result Query QueryFault → (w w' : Option (List ℕ)) → (t t' : Option (List WriteTold))
     → Result Status CommandFault → Type 0
-StatesAsked g conn back account (Ok range) w w' t t' told = StatesOver g conn back account range w w' t t' told
+StatesAsked g conn back account (Ok query) w w' t t' told = StatesOver g conn back account query w w' t t' told
 StatesAsked g conn back account (Err fault) w w' t t' told =
-    (told ≡ Err (faults.Range fault)) × (back ≡ conn) × (w' ≡ w)
+    (told ≡ Err (faults.Query fault)) × (back ≡ conn) × (w' ≡ w)
 
 -- ---- how a command ends and what it prints, whatever bank is there
 

@@ -15,7 +15,7 @@ use Rattle.walked_rows.specs.KeptRows.{HasKept, KeptItem}
 use Rattle.bank_store.specs.Leaving.{LeavesAsFound, TakesNone}
 use Rattle.bank_store.specs.believed.Down.{bank_reason}
 use Rattle.bank_store.specs.believed.Seen.{bank_seen, database_of}
-use Rattle.bank_store.specs.believed.Sparing.{SparesOtherTables}
+use Rattle.bank_store.specs.believed.BankSparing.{SparesOtherTables}
 use Rattle.bank_store.specs.Seen.{fault_of}
 use Rattle.bank_store.specs.declared.bank.Bank.{Bank}
 use Rattle.bank_replays.specs.Logs.{LogsEntries, LogsRows, without_count}
@@ -23,7 +23,7 @@ use Rattle.bank_replays.specs.Replays.{HasAnswered}
 use Rattle.bank_replays.specs.Writing.{LeavesWriter}
 use Rattle.bank_replays.specs.declared.fault.ReplayFault.{ReplayFault}
 use Rattle.bank_replays.specs.declared.fault.ReplayFault.TheVariants as written
-use Rattle.command_line.specs.Faults.{fault_of_bank}
+use Rattle.command_line.specs.CommandFaults.{fault_of_bank}
 use Rattle.command_line.specs.Following.{FollowsOver}
 use Rattle.command_line.specs.Lines.{after_line, followed_line}
 use Rattle.command_line.specs.Working.{done_after}

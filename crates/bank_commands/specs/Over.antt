@@ -15,12 +15,12 @@ use Rattle.bank_store.specs.Migration.{HasCarriedOver, IsMigrated, KnowsAnswer, 
 use Rattle.bank_store.specs.NewBank.{IsNewBank, IsTaken}
 use Rattle.bank_store.specs.OpenFaults.{IsUnmade}
 use Rattle.bank_store.specs.believed.Seen.{connection_of, file_of}
-use Rattle.bank_store.specs.Sparing.{SparesWhileOpen}
+use Rattle.bank_store.specs.OpenBankSparing.{SparesWhileOpen}
 use Rattle.bank_store.specs.StoreFaults.{KnowsCause, KnowsWhyUnmade}
 use Rattle.bank_store.specs.declared.bank.Bank.{Bank}
 use Rattle.bank_store.specs.declared.migration.Migrated.{Migrated}
 use Rattle.bank_store.specs.declared.refused.Refused.{Refused}
-use Rattle.command_line.specs.Faults.{fault_of_opening}
+use Rattle.command_line.specs.CommandFaults.{fault_of_opening}
 use Rattle.command_line.specs.declared.fault.CommandFault.{CommandFault}
 
 -- ---- a bank is had, and what a crash may leave of the connection

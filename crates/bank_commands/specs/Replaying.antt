@@ -30,7 +30,7 @@ use Rattle.bank_replays.specs.declared.difference.Replay.{Replay}
 use Rattle.bank_replays.specs.declared.difference.Replay.TheVariants.{Agrees, Differs, Otherwise}
 use Rattle.bank_replays.specs.declared.fault.ReplayFault.{ReplayFault}
 use Rattle.bank_replays.specs.declared.fault.ReplayFault.TheVariants as written
-use Rattle.command_line.specs.Faults.{fault_of_bank}
+use Rattle.command_line.specs.CommandFaults.{fault_of_bank}
 use Rattle.command_line.specs.Replaying.{PrintsText, agreeing_lines, differing_lines, digest_lines}
 use Rattle.command_line.specs.declared.fault.CommandFault.{CommandFault}
 use Rattle.command_line.specs.declared.fault.CommandFault.TheVariants as faults

@@ -16,7 +16,7 @@ use Rattle.bank_replays.specs.declared.chain.Digest.{Digest}
 use Rattle.bank_replays.specs.declared.difference.Replay.{Replay}
 use Rattle.command_line.specs.Auditing.{Prints}
 use Rattle.command_line.specs.CommandLine.{bank_app}
-use Rattle.command_line.specs.Faults.{status_of}
+use Rattle.command_line.specs.CommandFaults.{status_of}
 use Rattle.command_line.specs.Lines.{IsHelpOrVersion, created_line, fault_line, usable_line}
 use Rattle.command_line.specs.Prompting.{prompt_line}
 use Rattle.command_line.specs.Translating.{DecodesReplies, EncodesSheet}
@@ -60,8 +60,8 @@ DoesOver g conn back IsNamed known r r' w w' k k' (commands.Post file) told =
 DoesOver g conn back IsNamed known r r' w w' k k' (commands.Drive file seed count) told =
     DrivesBank g conn back w w' k k' seed count told
 DoesOver g conn back IsNamed known r r' w w' k k' (commands.Audit file) told = AuditsOver g conn back w w' told
-DoesOver g conn back IsNamed known r r' w w' k k' (commands.Statement file account range) told =
-    StatesAsked g conn back account range w w' None None told
+DoesOver g conn back IsNamed known r r' w w' k k' (commands.Statement file account query) told =
+    StatesAsked g conn back account query w w' None None told
 DoesOver g conn back IsNamed known r r' w w' k k' (commands.Serve file address connections) told =
     Serves g conn back w w' k k' (unwrap_or connections ALL_THAT_COME) told
 DoesOver g conn back IsNamed known r r' w w' k k' (commands.Replay file) told =
@@ -97,7 +97,7 @@ Tells (commands.Post file) r r' w w' told = EndsPost r r' w w' told
 Tells (commands.Drive file seed count) r r' w w' told = PrintsDrive w w' count told
 Tells (commands.Audit file) r r' w w' told =
     PrintsNone w w' told ((found : Result Audit Fault) × Prints found w w' told)
-Tells (commands.Statement file account range) r r' w w' told = IfOk told (λ status. status ≡ Done)
+Tells (commands.Statement file account query) r r' w w' told = IfOk told (λ status. status ≡ Done)
 Tells (commands.Replay file) r r' w w' told =
     PrintsNone w w' told ((found : Result Replay Fault) × PrintsReplay found w w' None None told)
 Tells (commands.Digest file requests) r r' w w' told =

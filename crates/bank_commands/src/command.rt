@@ -61,8 +61,8 @@ pub fn command_over<
             drive_over(alloc, conn, seed, count, output, clock)
         }
         Command::Audit { .. } => audit_over(alloc, conn, output),
-        Command::Statement { account, range, .. } => {
-            statement_over(alloc, conn, account, range, output)
+        Command::Statement { account, query, .. } => {
+            statement_over(alloc, conn, account, query, output)
         }
         Command::Replay { .. } => replay_over(alloc, conn, output, watch),
         Command::Digest { requests, .. } => digest_over(alloc, conn, requests, output),

@@ -1,6 +1,6 @@
 //! How a command ended over a connection, and how it finds the bank that is there.
 ghost use Rattle.std.specs.Prelude.{◌≡◌, Err, IfErr, IfOk, IsErrAnd, false};
-ghost use Rattle.command_line.specs.Faults.{fault_of_opening};
+ghost use Rattle.command_line.specs.CommandFaults.{fault_of_opening};
 ghost use Rattle.bank_commands.specs.Over.{IsFoundOver, IsMissedOver, IsRefusedOver};
 
 use bank_store::{Bank, Refused, adopt};

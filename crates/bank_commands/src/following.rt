@@ -1,6 +1,6 @@
 //! The commands that write the log of a bank, and that take a bank along the log of another one.
 ghost use Rattle.std.specs.Prelude.{◌≡◌, false};
-ghost use Rattle.bank_store.specs.Sparing.{SparesWhileOpen};
+ghost use Rattle.bank_store.specs.OpenBankSparing.{SparesWhileOpen};
 ghost use Rattle.bank_store.specs.believed.Seen.{connection_of};
 ghost use Rattle.command_line.specs.Working.{known_source};
 ghost use Rattle.bank_commands.specs.Following.{Follows, FollowsFound, LogsOver, PrintsFollow, ended_by_log};

@@ -1,4 +1,4 @@
-//! Why a file can't be used as a bank's, as well as the system tells. **Not verified, review by hand**: no clause says
+//! Why a file can't be used as a bank's, as far as the system can tell. **Not verified, review by hand**: no clause says
 //! what a machine answers. It writes to standard error alone, and changes no file: what a file holds is looked at in
 //! copies of it and of its log, in memory.
 ghost use Rattle.std.specs.Prelude.{◌≡◌, false, IfOk, IsTrue};

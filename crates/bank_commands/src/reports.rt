@@ -5,8 +5,8 @@ ghost use Rattle.bank_commands.specs.Commands.{AuditsOver, LooksOver, StatesAske
 
 use crate::commands::done;
 use crate::ended::{Ended, find};
-use bank_reports::{Range, ReportFault, audit, write_dated};
-use command_line::{CommandFault, RangeFault, Status, print_audit, print_usable};
+use bank_reports::{Query, ReportFault, audit, write_selected};
+use command_line::{CommandFault, QueryFault, Status, print_audit, print_usable};
 use message_records::Account;
 use posting_core::Sink;
 use sqlite::{Alter, Connection};
@@ -37,39 +37,39 @@ pub fn audit_over<S: Alter + Drop, W: Sink>(
     }
 }
 
-/// Writes the statement of an account of the bank that is found, all of it or the range that is asked for. Where
-/// that is none, it looks for no bank.
+/// Writes the statement of an account of the bank that is found, all of it or what is asked for. Where that is
+/// nothing that can be asked, it looks for no bank.
 pub fn statement_over<S: Alter + Drop, W: Sink>(
     alloc: Global,
     conn: Connection<S>,
     account: Account,
-    range: Result<Option<Range>, RangeFault>,
+    query: Result<Query, QueryFault>,
     output: &mut W,
 ) -> Ended<S>
     requires { conn.in_transaction ≡ false }
-    ensures states { StatesAsked S.Store conn result.conn account range (W.contents output.old)
+    ensures states { StatesAsked S.Store conn result.conn account query (W.contents output.old)
         (W.contents output.new) (W.told output.old) (W.told output.new) result.told }
     ensures idle { result.conn.in_transaction ≡ false }
 {
-    match range {
-        Ok(range) => range_over(alloc, conn, account, range, output),
+    match query {
+        Ok(query) => query_over(alloc, conn, account, query, output),
         Err(fault) => Ended {
-            told: Err(CommandFault::Range(fault)),
+            told: Err(CommandFault::Query(fault)),
             conn,
         },
     }
 }
 
-// The same where a range is asked for, or all.
-fn range_over<S: Alter + Drop, W: Sink>(
+// The same of what can be asked.
+fn query_over<S: Alter + Drop, W: Sink>(
     alloc: Global,
     conn: Connection<S>,
     account: Account,
-    range: Option<Range>,
+    query: Query,
     output: &mut W,
 ) -> Ended<S>
     requires { conn.in_transaction ≡ false }
-    ensures states { StatesOver S.Store conn result.conn account range (W.contents output.old)
+    ensures states { StatesOver S.Store conn result.conn account query (W.contents output.old)
         (W.contents output.new) (W.told output.old) (W.told output.new) result.told }
     ensures idle { result.conn.in_transaction ≡ false }
 {
@@ -77,7 +77,7 @@ fn range_over<S: Alter + Drop, W: Sink>(
         Ok(bank) => bank,
         Err(ended) => return ended,
     };
-    let told = stated(account, write_dated(&mut bank, account, range, output));
+    let told = stated(account, write_selected(&mut bank, account, query, output));
     Ended {
         told,
         conn: bank.release(),

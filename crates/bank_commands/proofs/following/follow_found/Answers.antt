@@ -2,7 +2,7 @@
 use Rattle.std.proofs.Common.{rules, ◌≡◌, Err, Ok, refl}
 use Rattle.std.proofs.KnownBytes.{Keeps-refl}
 use Rattle.bank_store.proofs.{AsFound.as_found_spares, Spared.call_spares}
-use Rattle.command_line.specs.Faults.{fault_of_bank}
+use Rattle.command_line.specs.CommandFaults.{fault_of_bank}
 use Rattle.bank_commands.proofs.FollowTold.{counted_spares}
 use Rattle.bank_commands.proofs.following.follow_found.Goals as goal
 

@@ -2,7 +2,7 @@
 use Rattle.std.proofs.Common.{refl}
 use Rattle.bank_store.proofs.AsFound.{commits_spares}
 use Rattle.bank_commands.proofs.Spared.{done_over, none_over}
-use Rattle.bank_commands.proofs.reports.range_over.Goals as goal
+use Rattle.bank_commands.proofs.reports.query_over.Goals as goal
 
 pub returns-in-Err : goal.returns-in-Err
 returns-in-Err g c =
@@ -14,10 +14,10 @@ returns-in-Err g c =
 
 pub returns : goal.returns
 returns g c =
-    let it = c.write_dated.ensures in
+    let it = c.write_selected.ensures in
     record {
-      states = done_over g.S.Store c.args.conn c.release.result _ c.in-Ok.bank c.write_dated.new.bank c.in-Ok.ensures.found (
-        c.write_dated.result,
+      states = done_over g.S.Store c.args.conn c.release.result _ c.in-Ok.bank c.write_selected.new.bank c.in-Ok.ensures.found (
+        c.write_selected.result,
         c.stated-told.ensures,
         record {
           bank = it.bank;
@@ -28,6 +28,6 @@ returns g c =
           frugal = it.frugal;
           leaves = it.leaves;
         },
-      ) (commits_spares g.S.Store c.in-Ok.bank c.write_dated.new.bank it.leaves) c.release.ensures.same;
+      ) (commits_spares g.S.Store c.in-Ok.bank c.write_selected.new.bank it.leaves) c.release.ensures.same;
       idle = c.release.ensures.idle;
     }
