@@ -4,6 +4,7 @@ mod batches;
 mod clocks;
 mod days;
 mod drives;
+mod look_ups;
 mod plans;
 mod records;
 mod requests;
