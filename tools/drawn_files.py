@@ -83,7 +83,7 @@ def draw_record(draw, plan, sent):
     tid = 10 * (bid - 1) + draw.randint(1, 10)
     named = bid + (draw.random() < 0.05)
     delta = draw.choice([draw.randint(-3000, 3000), 0, 9_999_999_999, -9_999_999_999])
-    reference = draw.choice([None, None, "RENT", ""])
+    reference = draw.choice([None, None, "RENT", "", 'RENT, "MAY"'])
     return oracle.record(aid, tid, named, draw.randint(1, 400), delta, reference)
 
 
@@ -182,8 +182,11 @@ def state(file, draw):
         first = draw_word(draw, str(days[0]), str(min(days)), "2027-02-29", "1969-12-31")
         last = draw_word(draw, str(days[1]), str(max(days)), "9999-12-31", "2026-1-01")
         zone = draw_word(draw, "+00:00", "+01:00", "-05:30", "+23:59", "-00:00", "+1:00")
-        words = [f"--{name}={word}" for name, word in (("from", first), ("to", last), ("zone", zone)) if word]
-        lines, status = oracle.statement(file, aid, first, last, zone)
+        reference = draw_word(draw, "RENT", 'RENT, "MAY"', "NO SUCH", "A TEXT THAT IS TOO LONG")
+        layout = draw_word(draw, "csv")
+        options = (("from", first), ("to", last), ("zone", zone), ("reference", reference))
+        words = [f"--{name}={word}" for name, word in options if word] + ["--csv"] * (layout == "csv")
+        lines, status = oracle.statement(file, aid, first, last, zone, reference, layout)
         compare(file, ("statement", file, str(aid), *words), lines, status)
 
 

@@ -7,7 +7,7 @@ second, as the units do. Each round something fails at a random moment:
     other   a host that doesn't serve is gone: its link, and then all its processes
     lost    the serving host is gone: its link, and then all its processes
     cut     the serving host's link goes down, and the counter there is asked on
-    idle    the same, and the counter there is asked first when the link has been up again for a while
+    idle    the same while nobody posts; the counter there is asked when the link has been up again for a while
     short   the same for up to eight seconds, so that it may come back before another host serves
     two     the processes of two replicas are killed: nothing may be answered until one is back
 
@@ -15,8 +15,8 @@ After each round the replicas are equal, the bank audits and replays, each answe
 none stands that wasn't sent, and a host that was cut off has answered nothing more since another one served.
 
 It needs root, the built program, and Debian's glusterfs-server and glusterfs-client. KINDS names the failures that are
-drawn from, SET options of the volume (`client.strict-locks off`), and MOUNT those of the mount, to see what comes of
-others than the example's. It is bounded in count and time, and stands outside the gate."""
+drawn from, SET options of the volume (`client.strict-locks off`), and CLIENT is the client's command, to see what comes
+of others than the example's. It is bounded in count and time, and stands outside the gate."""
 import ctypes
 import os
 import random
@@ -34,8 +34,8 @@ import time
 from serve_client import BANK, HERE, Failed, check_books, make_bank, post, read_answer, record, within
 
 KINDS = (os.environ.get("KINDS") or "brick serve other lost lost cut cut idle idle short two").split()
-UNIT = open(HERE + "/examples/cluster/var-lib-bank.mount").read()
-MOUNT = os.environ.get("MOUNT") or re.search("^Options=(.*)", UNIT, re.M)[1]
+UNIT = open(HERE + "/examples/cluster/bank-volume.service").read().replace("\\\n", "")
+CLIENT = os.environ.get("CLIENT") or re.search("^ExecStart=(.*) /var/lib/bank$", UNIT, re.M)[1]
 PORT, TELLERS, PLAN = 8080, 16, [(1, 100), (2, 100), (3, 100)]
 # Who posts at a host that was cut off.
 PROBE = 21
@@ -48,11 +48,12 @@ mount -t tmpfs run /run && mkdir /run/gluster && mount -t proc proc /proc && glu
 while :; do sleep 1; done"""
 # The mount and the counter, started again as by the units; somebody looks at the files meanwhile.
 JOIN = """
-until mount -t glusterfs -o {1} localhost:/bank {0}/mount; do sleep 0.5; done
+while :; do {1} {0}/mount; umount --lazy {0}/mount; sleep 1; done &
+until mountpoint -q {0}/mount; do sleep 0.2; done
 while :; do ls -l {0}/mount; sleep 0.2; done >/dev/null &
 keepalived --dont-fork --log-console --use-file {4}/examples/cluster/keepalived.conf &
 while :; do
-    if [ ! -e {0}/held ]; then
+    if [ ! -e {0}/held ] && mountpoint -q {0}/mount; then
         {2} serve {0}/mount/bank.db 0.0.0.0:{3} --connections 1000000 & echo $! >{0}/pid; wait $!; echo "ended $?"
     fi
     sleep 1
@@ -105,7 +106,7 @@ class Host:
         return subprocess.run(self.words(script), stdout=subprocess.PIPE, stderr=subprocess.STDOUT, text=True)
 
     def join(self):
-        script = JOIN.format(self.folder, MOUNT, BANK, PORT, HERE)
+        script = JOIN.format(self.folder, CLIENT, BANK, PORT, HERE)
         subprocess.Popen(self.words(script), stdin=subprocess.DEVNULL, stdout=self.told, stderr=self.told)
 
     def set_link(self, state):
@@ -134,7 +135,7 @@ class Teller(threading.Thread):
     def __init__(self, drill, teller):
         super().__init__(daemon=True)
         self.drill, self.teller, self.number, self.replies, self.is_idle = drill, teller, 0, {}, False
-        self.longest = 0
+        self.longest, self.sent = 0, 0
 
     def run(self):
         enter_network("bank4")
@@ -143,10 +144,10 @@ class Teller(threading.Thread):
             if not self.is_idle:
                 self.number += 1
                 delta = random.randint(-999, 999)
-                branch, sent = (self.teller - 1) // 10 + 1, time.monotonic()
+                branch, self.sent = (self.teller - 1) // 10 + 1, time.monotonic()
                 body = record(random.choice((1, 2, 100001, 200001)), self.teller, branch, self.number, delta)
                 self.replies[self.number] = self.answered(body), delta
-                self.longest = max(self.longest, time.monotonic() - sent)
+                self.longest = max(self.longest, time.monotonic() - self.sent)
             time.sleep(random.uniform(0, 0.05))
 
     def answered(self, body):
@@ -171,7 +172,7 @@ class Probe(threading.Thread):
 
     def __init__(self, drill, host):
         super().__init__(daemon=True)
-        self.drill, self.host, self.acks, self.is_over = drill, host, [], False
+        self.drill, self.host, self.acks, self.refusals, self.is_over = drill, host, [], 0, False
         self.start()
 
     def run(self):
@@ -179,10 +180,11 @@ class Probe(threading.Thread):
         while not self.is_over:
             self.drill.asked += 1
             number = self.drill.asked
-            status, *reply = ask("127.0.0.1", record(1, PROBE, 3, number, 1), 3)
+            status, *reply = ask("127.0.0.1", record(1, PROBE, 3, number, 1), 20)
             if status == 200:
                 self.drill.probed[number] = reply[0], 1
                 self.acks.append(time.monotonic())
+            self.refusals += status == 503
             time.sleep(0.1)
 
     def answered_since(self, moment):
@@ -196,7 +198,7 @@ class Drill:
     def __init__(self, folder):
         self.folder, self.is_open, self.acks, self.probed, self.asked, self.tellers = folder, False, [], {}, 0, []
         self.hosts = [Host(number, folder) for number in (1, 2, 3)]
-        self.front, self.kind = self.hosts[0], "the start"
+        self.front, self.kind, self.refusals = self.hosts[0], "the start", []
 
     def begin(self):
         run("ip", "netns", "add", "bank0")
@@ -281,7 +283,12 @@ class Drill:
 
     def cut(self, front, now, is_asked=True):
         ends = front.ends()
+        if not is_asked:
+            # Nothing is on its way to the replicas when the link goes down.
+            self.pause()
+            now = time.monotonic()
         front.set_link("down")
+        self.is_open = True
         probe = Probe(self, front) if is_asked else None
         taken = self.answered_since(now, front)
         time.sleep(random.uniform(0, 5))
@@ -295,6 +302,7 @@ class Drill:
             time.sleep(random.uniform(0, 3))
         finally:
             late = probe.answered_since(now + taken[0])
+            self.refusals.append(probe.refusals)
             if late:
                 raise Failed(f"host {front.number} answered {late} postings after host {taken[1].number} did")
         return taken
@@ -336,14 +344,18 @@ class Drill:
             it.longest = 0
         taken, host = getattr(self, kind)(front, time.monotonic())
         time.sleep(random.uniform(0.3, 1))
-        self.is_open = False
-        within(60, "an answer to each teller", lambda: all(it.is_idle for it in self.tellers))
+        self.pause()
         longest, shared = max(it.longest for it in self.tellers[:-1]), self.tellers[-1].longest
         answered = f"host {front.number}: answered by host {host.number} after {taken:.1f} s"
         print(f"{number:3} {kind:5} {answered}; the longest wait {longest:.1f} s, at the shared address {shared:.1f} s; "
               f"{len(self.acks) - count} postings", flush=True)
         self.check()
         return kind, longest, shared
+
+    def pause(self):
+        """Waits until each teller has an answer and sends nothing more."""
+        self.is_open = False
+        within(60, "an answer to each teller", lambda: all(it.is_idle for it in self.tellers))
 
     def check(self):
         """The three replicas are one file, and the books are what was answered."""
@@ -360,6 +372,11 @@ class Drill:
         if more:
             raise Failed(f"{more} stand, and nobody has an answer")
         self.hold(False)
+
+    def waiting(self):
+        """Who has waited for how many seconds, and where they ask."""
+        waits = {it.teller: round(time.monotonic() - it.sent) for it in self.tellers if not it.is_idle}
+        return f"seconds of each teller who waits, at host {self.front.number}: {waits}"
 
     def is_healed(self):
         told = self.hosts[0].call("gluster volume heal bank >/dev/null; gluster volume heal bank info").stdout
@@ -381,6 +398,8 @@ def tell(rounds, drill):
         waits, shared = ([it[part] for it in rounds if it[0] == kind] for part in (1, 2))
         print(f"{kind}: {len(waits)} rounds, the longest wait {statistics.median(waits):.1f} s in the median, "
               f"{max(waits):.1f} at most; at the shared address {statistics.median(shared):.1f} and {max(shared):.1f}")
+    refused = sum(it > 0 for it in drill.refusals)
+    print(f"of {len(drill.refusals)} counters that were cut off and asked on, {refused} answered 503 before they ended")
     print(f"failover: {len(rounds)} rounds in which each of {len(drill.acks)} answered postings stands once")
 
 
@@ -395,7 +414,7 @@ def drill(count):
         for number, kind in enumerate(kinds[:count], 1):
             rounds.append(drill.round(number, kind))
     except Failed as why:
-        sys.exit(f"failover: round {len(rounds) + 1}, {drill.kind}: {why}")
+        sys.exit(f"failover: round {len(rounds) + 1}, {drill.kind}: {why}; {drill.waiting()}")
     finally:
         tell(rounds, drill)
         drill.end()

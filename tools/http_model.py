@@ -140,7 +140,7 @@ def damaged(draw, text, chance):
 
 
 TARGETS = [b"/log/0", b"/log/1", b"/log/2", b"/log/00", b"/log/01", b"/log/x", b"/log/", b"/log/0/1", b"/log/1000000000000",
-           b"/log/9999999999999", b"/log/10000000000000", b"/plan", b"/plan?x", b"/plans", b"/post", b"/health", b"/account/1", b"/account/100001", b"/account/4", b"/account/01", b"/account/", b"/account/1/2",
+           b"/log/9999999999999", b"/log/10000000000000", b"/plan", b"/plan?x", b"/plans", b"/metrics", b"/metrics?x", b"/metrics/", b"/post", b"/health", b"/account/1", b"/account/100001", b"/account/4", b"/account/01", b"/account/", b"/account/1/2",
            b"/account/999999999999", b"/account/1000000000000", b"/account/x", b"/teller/1", b"/teller/11", b"/teller/21", b"/teller/01",
            b"/teller/99999999", b"/teller/100000000", b"/teller/", b"/tellers", b"/branches", b"/branches?x=/post",
            b"/", b"/post/", b"*", b"/post?", "/caf\u00e9".encode()]
@@ -175,7 +175,9 @@ def an_input(draw):
 
 
 def timeless(text):
-    """The text without the moments of postings in entries of the log, which the server has from its own clock."""
+    """The text without the moments of postings in entries of the log and without the seconds in figures, which the server
+    has from its own clocks."""
+    text = re.sub(rb"(version=0\.0\.4\r\nContent-Length: |\nbank_uptime_seconds )[0-9]+", rb"\1", text)
     return re.sub(rb"(DC0[12].{96}DR0100.{194}).{8}", rb"\1" + bytes(8), text, flags=re.DOTALL)
 
 

@@ -8,12 +8,15 @@ bank that runs, copy both files and ask the copy.
     tools/oracle.py FILE        prints what `bank replay FILE` prints, and ends with its status
     tools/oracle.py FILE N      prints what `bank digest FILE N` prints
     tools/oracle.py FILE N log  writes what `bank log FILE --after N` writes
-    tools/oracle.py FILE statement ACCOUNT FROM TO ZONE
-                                prints what `bank statement FILE ACCOUNT --from FROM --to TO --zone=ZONE` prints; an
-                                empty word stands for an option that isn't given
+    tools/oracle.py FILE statement ACCOUNT FROM TO ZONE [REFERENCE [csv]]
+                                prints what `bank statement FILE ACCOUNT --from FROM --to TO --zone=ZONE` and so on
+                                prints; an empty word stands for an option that isn't given
 """
+import collections
+import csv
 import datetime
 import hashlib
+import io
 import re
 import sqlite3
 import sys
@@ -113,6 +116,8 @@ class Book:
     def __init__(self):
         self.rows = {table: {} for table in TABLES}
         self.decided, self.kept = 0, {}
+        # Over HTTP: how many replies were given, by their outcomes.
+        self.replied = collections.Counter()
 
     def open(self, bid, count, floor=None):
         self.rows["branch"][bid] = (count, 0)
@@ -398,11 +403,40 @@ def range_of(first, last, zone):
     return (begin, end) if begin < end else "--to is before --from"
 
 
-def statement(file, aid, first="", last="", zone=""):
+def is_reference(text):
+    """At most 20 bytes of printable ASCII."""
+    return re.fullmatch(r"[ -~]{1,20}", text) is not None
+
+
+def decimals(cents):
+    """An amount with two digits of cents."""
+    return f"{'-' if cents < 0 else ''}{abs(cents) // 100}.{abs(cents) % 100:02}"
+
+
+def time_of(moment, ahead):
+    """A moment as ISO 8601 writes it, by Python's calendar: in the zone, and in UTC where the year there is none."""
+    utc = datetime.datetime(1970, 1, 1, tzinfo=datetime.timezone.utc) + datetime.timedelta(seconds=moment)
+    try:
+        there = utc.astimezone(datetime.timezone(ahead))
+    except OverflowError:
+        return utc.isoformat()
+    return (there if there.year >= 1970 else utc).isoformat()
+
+
+def sheet(rows):
+    """Rows as CSV, by Python's writer."""
+    text = io.StringIO()
+    csv.writer(text, lineterminator="\n").writerows(rows)
+    return text.getvalue().splitlines()
+
+
+def statement(file, aid, first="", last="", zone="", reference="", layout=""):
     """What the bank prints of a statement of an account of a path, and its status."""
     span = range_of(first, last, zone) if first or last or zone else None
     if isinstance(span, str):
         return [f"bank: {span}"], 4
+    if reference and not is_reference(reference):
+        return ["bank: no reference in --reference"], 4
     tables = tables_of(file)
     if aid not in tables["account"]:
         return [f"bank: no account {aid}"], 4
@@ -411,12 +445,19 @@ def statement(file, aid, first="", last="", zone=""):
              f"{'ordinal':>13} {'moment':>12} {'teller':>8} {'branch':>6} {'delta':>14} {'balance':>14} reference"]
     if span:
         lines.append(f"{'opening balance':<57} {sum(row[4] for row in rows if row[5] < span[0]):>14}")
-    balance = 0
+    balance, listed = 0, [("account", "ordinal", "time", "teller", "branch", "amount", "balance", "reference")]
+    ahead = ahead_of(zone) if zone else datetime.timedelta()
     for ordinal, _, tid, bid, delta, moment in rows:
         balance += delta
-        reference = "".join(" " + text for text in tables["request_reference"].get(ordinal, ()))
-        if not span or span[0] <= moment < span[1]:
-            lines.append(f"{ordinal:>13} {moment:>12} {tid:>8} {bid:>6} {delta:>+14} {balance:>14}{reference}")
+        own = tables["request_reference"].get(ordinal, ())
+        if (span and not span[0] <= moment < span[1]) or (reference and own != (reference.ljust(20),)):
+            continue
+        shown = "".join(" " + text for text in own)
+        lines.append(f"{ordinal:>13} {moment:>12} {tid:>8} {bid:>6} {delta:>+14} {balance:>14}{shown}")
+        listed.append((aid, ordinal, time_of(moment, ahead), tid, bid, decimals(delta), decimals(balance),
+                       "".join(own).rstrip(" ")))
+    if layout == "csv":
+        return sheet(listed), 0
     closing = sum(row[4] for row in rows if row[5] < span[1]) if span else tables["account"][aid][0]
     return [*lines, f"{'closing balance':<57} {closing:>14}"], 0
 
@@ -447,11 +488,15 @@ def routed(book, method, target, body):
     if path == b"/post":
         if method != b"POST":
             return bare(405, b"POST")
-        return (200, BYTES, book.answer(0, body), b"") if len(body) == 100 else bare(400)
+        if len(body) != 100:
+            return bare(400)
+        reply = book.answer(0, body)
+        book.replied[int(reply[4:6])] += 1
+        return 200, BYTES, reply, b""
     account = re.fullmatch(rb"/account/([^/]+)", path, re.DOTALL)
     teller = re.fullmatch(rb"/teller/([^/]+)", path, re.DOTALL)
     log = re.fullmatch(rb"/log/([^/]+)", path, re.DOTALL)
-    if path not in (b"/branches", b"/health", b"/plan") and not (account or teller or log) or not is_utf8(path):
+    if path not in (b"/branches", b"/health", b"/metrics", b"/plan") and not (account or teller or log) or not is_utf8(path):
         return bare(404)
     if method not in (b"GET", b"HEAD"):
         return bare(405, b"GET, HEAD")
@@ -462,6 +507,8 @@ def routed(book, method, target, body):
         return 200, TEXT, b"".join(b"%6d %7d %14d\n" % (bid, *row) for bid, row in rows), b""
     if path == b"/plan":
         return 200, b"text/csv", plan_of(book), b""
+    if path == b"/metrics":
+        return 200, b"text/plain; version=0.0.4", metrics_of(book), b""
     if log:
         number = log.group(1)
         first = int(number) if re.fullmatch(rb"0|[1-9][0-9]{0,12}", number) else book.decided + 1
@@ -471,6 +518,24 @@ def routed(book, method, target, body):
     number = (account or teller).group(1)
     balance = book.rows[holder].get(int(number)) if re.fullmatch(digits, number) else None
     return (200, TEXT, b"%s %s balance %d\n" % (holder.encode(), number, *balance), b"") if balance else bare(404)
+
+
+def metrics_of(book):
+    """The figures of a counter that serves one client at a time, each of whose records has a commit, since 0 seconds."""
+    again, records = "; one that is sent again counts again.", sum(book.replied.values())
+    lines = []
+
+    def metric(name, kind, text, samples):
+        lines.extend([f"# HELP {name} {text}", f"# TYPE {name} {kind}", *(f"{name}{at} {value}" for at, value in samples)])
+
+    metric("bank_postings_total", "counter", "Records replied to with outcome 00" + again, [("", book.replied[0])])
+    metric("bank_refusals_total", "counter", "Records replied to with another outcome" + again,
+           [('{outcome="%02d"}' % code, book.replied[code]) for code in (11, 12, 13, 14, 15, 16, 17, 90)])
+    metric("bank_records_total", "counter", "Records replied to.", [("", records)])
+    metric("bank_commits_total", "counter", "Transactions by which those records were taken.", [("", records)])
+    metric("bank_connections", "gauge", "Clients that are connected.", [("", 1)])
+    metric("bank_uptime_seconds", "gauge", "Seconds since the counter began to serve.", [("", 0)])
+    return "".join(line + "\n" for line in lines).encode()
 
 
 def plan_of(book):

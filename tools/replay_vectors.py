@@ -2,9 +2,10 @@
 """What the scenarios of `bank_trials` have to answer to each step `replay`, made by the rules of tools/oracle.py.
 
 It shares no code with the bank: a bank is tables of SQLite's C library. It plays those scenarios of `stdin` that have
-such a step, up to the last one, and prints what `stdout` has to have there, and at each step `number`. With --check it
-ends with status 1 unless `stdout` has it. Mixed records are drawn as in `bank_scenarios/src/draws`; those of the driver
-are made by tools/driver_vectors.py.
+such a step, up to the last one, and prints what `stdout` has to have there, and at each step `open`, `post`, `batch`,
+`balance` and `number`. With --check it ends with status 1 unless `stdout` has it. That a call meets a fault, and which, is
+taken from `stdout`. Mixed records are drawn as in `bank_scenarios/src/draws`; those of the driver are made by
+tools/driver_vectors.py.
 
     tools/replay_vectors.py [--check]
 """
@@ -17,6 +18,8 @@ import driver_vectors
 import oracle
 
 TRIALS = Path(__file__).resolve().parent.parent / "crates" / "bank_trials"
+CALLS, RUNS = ("open", "post", "batch", "balance"), ("mixed", "steady", "drive")
+FAULT = re.compile(r"store fault|down|damaged rule \d")
 
 
 def record_of(text):
@@ -83,22 +86,47 @@ class Draws:
             sent.append(self.again(sent) or fresh if self.below(4) == 0 else fresh)
 
 
+def book_of(conn):
+    """The book that the rows of a file's tables are, whatever led to them."""
+    book, tables = oracle.Book(), oracle.tables_of(conn)
+    book.rows, book.decided = tables, tables["meta"][1][1]
+    book.kept = {row[:2]: ordinal for ordinal, row in tables["request"].items()}
+    return book
+
+
 class Bank:
-    """A bank of a scenario: what it was given, and its tables once a step has looked at them."""
+    """A bank of a scenario: what it was given, and its tables under SQL, in which a step may have changed rows."""
 
     def __init__(self):
-        self.book, self.changed = oracle.Book(), None
+        self.book, self.conn, self.is_changed = oracle.Book(), None, False
 
-    def give(self, moment, record):
-        assert self.changed is None, "a posting behind SQL"
-        request = oracle.request_of(record)
-        if request:
-            self.book.decide(moment, *request)
+    def read(self):
+        """The book, with what SQL made of its rows."""
+        if self.is_changed:
+            self.book, self.is_changed = book_of(self.conn), False
+        return self.book
+
+    def post(self, moment, item):
+        """What is told of the reply to an item: its text, or the outcome and the balance of a posting."""
+        reply = self.read().answer(moment, record_of(item)).decode()
+        if item.startswith("DC"):
+            return reply.rstrip(" ")
+        outcome = int(reply[4:6])
+        return oracle.NAMES[outcome] + (f" {int(reply[53:66])}" if outcome == oracle.POSTED else "")
 
     def open(self, item):
         bid, count, floor = re.fullmatch(r"(\d+) with (\d+)(?: down to (\S+))?", item).groups()
-        if int(bid) not in self.book.rows["branch"]:
-            self.book.open(int(bid), int(count), int(floor) if floor else None)
+        bid, terms = int(bid), (int(count), int(floor) if floor else None)
+        book = self.read()
+        if bid not in book.rows["branch"]:
+            book.open(bid, *terms)
+            return "opened"
+        floor, = book.rows["branch_floor"].get(bid, (None,))
+        return "already" if terms == (book.rows["branch"][bid][0], floor) else "differs"
+
+    def balance(self, item):
+        balance, = self.read().rows["account"].get(int(item), ("not open",))
+        return str(balance)
 
     def mixed(self, seed, way):
         draws, sent = Draws(seed), []
@@ -106,24 +134,26 @@ class Bank:
             before = len(sent)
             draws.group(draws.below(64) + 1 if "beside" in way else 25, sent)
             for record in sent[before:]:
-                self.give(group, record)
+                self.read().answer(group, record)
 
     def drive(self, seed, count, group=None):
-        plan = [(bid, row[0]) for bid, row in self.book.rows["branch"].items()]
+        plan = [(bid, row[0]) for bid, row in self.read().rows["branch"].items()]
         for place, request in zip(range(count if plan else 0), driver_vectors.requests(seed, plan)):
-            self.give(place // group if group else 0, oracle.record(*request))
+            self.book.answer(place // group if group else 0, oracle.record(*request))
 
     def tables(self):
         """Its tables under SQL."""
-        if self.changed:
-            return self.changed
-        conn = sqlite3.connect(":memory:")
-        conn.executescript(oracle.SCHEMA)
+        if self.is_changed:
+            return self.conn
+        if self.conn is None:
+            self.conn = sqlite3.connect(":memory:")
+            self.conn.executescript(oracle.SCHEMA)
         for table, rows in self.book.tables().items():
             columns = oracle.TABLES[table][2:]
             text = f"INSERT INTO {table} ({', '.join(columns)}) VALUES ({', '.join('?' * len(columns))})"
-            conn.executemany(text, [(key, *row) for key, row in rows.items()])
-        return conn
+            self.conn.execute(f"DELETE FROM {table}")
+            self.conn.executemany(text, [(key, *row) for key, row in rows.items()])
+        return self.conn
 
     def replay(self):
         """The answer to the step: requests, digest and the plan's, or the first difference, or the fault."""
@@ -133,15 +163,18 @@ class Bank:
             return f"agrees: requests {requests} digest {digest} plan {plan}"
         return lines[0].removeprefix("bank: ")
 
+    def call(self, word, rest, told):
+        """What is answered to each thing that a call names. A fault is taken as told: it has changed nothing."""
+        if word == "batch" and FAULT.fullmatch(told):
+            return told
+        moment, _, items = rest.partition(" ") if word in ("post", "batch") else ("", "", rest)
+        ask = {"open": self.open, "balance": self.balance}.get(word, lambda item: self.post(int(moment), item))
+        items = items.split(", ")
+        answers = told.split(", ") + [""] * len(items)
+        return ", ".join(said if FAULT.fullmatch(said) else ask(item) for item, said in zip(items, answers))
+
     def step(self, word, rest):
-        if word == "open":
-            for item in rest.split(", "):
-                self.open(item)
-        elif word in ("post", "batch"):
-            moment, _, items = rest.partition(" ")
-            for item in items.split(", "):
-                self.give(int(moment), record_of(item))
-        elif word == "mixed":
+        if word == "mixed":
             seed, _, way = rest.partition(" ")
             self.mixed(int(seed), way)
         elif word == "steady":
@@ -151,8 +184,8 @@ class Bank:
             for count in counts.split(", "):
                 self.drive(int(seed), int(count))
         elif word == "sql":
-            self.changed = self.tables()
-            self.changed.executescript(rest)
+            self.tables().executescript(rest)
+            self.is_changed = True
         elif word == "number":
             return str(self.tables().execute(rest).fetchone()[0])
         elif word == "replay":
@@ -168,20 +201,35 @@ def scenarios(name):
         yield head, [line for line in lines if line and not line.startswith("#")]
 
 
+def answers_of(head, steps, told):
+    """What stands for each step, none where nothing has to."""
+    stored, plain = Bank(), Bank() if head.startswith("both") else None
+    for step, line in zip(steps, told):
+        word, _, rest = step.removeprefix("then ").partition(" ")
+        if word not in CALLS:
+            if plain and word in RUNS:
+                plain.step(word, rest)
+            yield stored.step(word, rest)
+            continue
+        said = stored.call(word, rest, line.partition("; in tables: ")[2] if plain else line)
+        if plain:
+            by_rules = plain.call(word, rest, "")
+            said = f"both: {said}" if said == by_rules else f"in memory: {by_rules}; in tables: {said}"
+        yield said
+
+
 def main():
     told = {head: lines for head, lines in scenarios("stdout")}
     wrong = 0
     for head, steps in scenarios("stdin"):
         last = max((place for place, step in enumerate(steps) if step == "replay"), default=-1)
-        bank = Bank()
-        for place, step in enumerate(steps[: last + 1]):
-            word, _, rest = step.partition(" ")
-            said = bank.step(word, rest)
+        lines = told.get(head, []) + [""] * len(steps)
+        for place, said in enumerate(answers_of(head, steps[: last + 1], lines)):
             if said is None:
                 continue
             if "--check" not in sys.argv:
                 print(f"{head}: {place + 1}: {said}")
-            elif told.get(head, [])[place : place + 1] != [said]:
+            elif lines[place] != said:
                 print(f"replay_vectors: {head}: step {place + 1}: {said}")
                 wrong += 1
     sys.exit(1 if wrong else 0)

@@ -47,7 +47,8 @@ AHEAD = """new Promise((yes, no) => { const ask = indexedDB.open('counter'); ask
 LINES = """[...document.querySelectorAll('.posting')].map(line =>
     [...line.cells].slice(1, 7).map(cell => cell.textContent))"""
 NOTES = "['done', 'wrong', 'waiting', 'who'].map(id => document.getElementById(id).textContent)"
-ACTIVE = "[document.activeElement.id, document.activeElement.getAttribute('aria-label') || '']"
+ACTIVE = ("(it => [it.id, it.getAttribute('aria-label') || (it.type === 'button' ? it.textContent : '')])"
+          "(document.activeElement)")
 
 
 class Failed(Exception):
@@ -277,6 +278,9 @@ def words(place, page):
         "{'Content-Type': 'application/octet-stream'}}).then(got => got.status)"), 403)
 
     buttons(place, page)
+    clicks(page)
+    widths(page)
+    outage(place, page)
 
     # A second tab isn't the teller's, until the first is closed.
     before = page.browser.other_tab(place.address())
@@ -285,6 +289,96 @@ def words(place, page):
     page.browser.close_tab(before)
     strangers_page(place, page)
     page.kill()
+
+
+def nobody(place, page):
+    """Who signs in without being a teller keeps nothing, which could never go out."""
+    word = subprocess.run(["openssl", "passwd", "-apr1", "guest"], check=True, stdout=subprocess.PIPE).stdout.decode()
+    with open(place.folder + "/passwords", "a", encoding="utf-8") as passwords:
+        passwords.write("guest:" + word)
+    page.sign_in("guest", "guest")
+    same("whose sign-in it is", page.browser.run(NOTES)[3], "Signed in, but not as a teller")
+    page.browser.keys("1", TAB, "5", ENTER)
+    page.until("what nobody is told", f"({NOTES})[1]", "You are signed in, but not as a teller: nothing can be posted.")
+    same("what nobody keeps", page.browser.run(KEPT), [])
+    page.kill()
+
+
+def two_browsers(place, page):
+    """Equal postings of one teller, by turns from two browsers: none is taken for a resend of another."""
+    other = Page(page.kind, place.folder + "/other", place)
+    os.mkdir(other.profile)
+    try:
+        for it in (page, other):
+            it.sign_in("teller3", "counter3")
+        for _ in range(20):
+            for it in (page, other):
+                it.enter(1, "0.01", "EQUAL")
+                it.until("an empty form", "document.getElementById('account').value", "")
+        for it in (page, other):
+            it.settled()
+            same("the answers", {line[4] for line in it.browser.run(LINES)}, {"Posted"})
+    finally:
+        for it in (page, other):
+            if it.browser:
+                it.kill()
+    place.counter.stop()
+    with contextlib.closing(place.copied()) as base:
+        same("equal postings", base.execute("SELECT count(*), sum(delta) FROM history WHERE tid = 3").fetchone(), (40, 40))
+    place.start_counter()
+
+
+def clicks(page):
+    """A double click, slow or fast, posts once and shows no error; an error leaves no old success beside it."""
+    for wait in (0, 50, 100, 200, 300):
+        before = page.browser.run(f"{KEPT}.then(all => all.length)")
+        page.browser.keys("2", TAB, "0.01")
+        page.browser.run("new Promise(resolve => { const press = () => document.getElementById('in').click(); press(); "
+                         f"setTimeout(() => {{ press(); setTimeout(() => resolve(0), 300) }}, {wait}) }})")
+        page.settled()
+        notes = page.browser.run(NOTES)
+        same("a double click", (page.browser.run(f"{KEPT}.then(all => all.length)"), notes[1]), (before + 1, ""))
+        holds("a double click", notes[0], "Posted: 0.01 paid in to account 2.")
+    page.fault("", "5", "", "account", "Enter the account")
+    same("the success before an error", page.browser.run(NOTES)[0], "")
+    page.answered(4, "1.00", "NO ACCOUNT 4")
+    same("the success before a refusal", page.browser.run(NOTES)[0], "")
+    page.answered(2, "1.00", "AFTER A REFUSAL")
+    same("the refusal before a success", page.browser.run(NOTES)[1], "")
+
+
+def widths(page):
+    """No window cuts the list off, be its texts as long as they can be."""
+    page.answered(999999999999, "99999999.99", 20 * "W")
+    page.answered(2, "99999999.99", 19 * "W")
+    page.browser.run("(document.querySelectorAll('.posting td:first-child').forEach(it => it.textContent = "
+                     "'2026-11-28 23:59'), 0)")
+    for width in (*range(340, 740, 40), *range(740, 1201, 10)):
+        page.browser.size(width, 740)
+        wide = page.browser.run("[innerWidth, Math.max(document.documentElement.scrollWidth, ...[...document."
+                                "querySelectorAll('.posting *')].map(it => it.getBoundingClientRect().right))]")
+        if wide[1] > wide[0] + 1:
+            raise Failed(f"a window of {wide[0]} pixels shows a list of {wide[1]}")
+    page.browser.size(1120, 740)
+
+
+def outage(place, page):
+    """When the counter is back, `Send now` doesn't wait for the next try."""
+    place.counter.stop()
+    page.enter(2, "0.02", "OUTAGE")
+    page.until("the button", "document.getElementById('send-now').hidden", False)
+    # By then a try comes each five seconds.
+    time.sleep(8)
+    place.start_counter()
+    while not listens(place.back):
+        time.sleep(0.01)
+    pressed = time.monotonic()
+    page.browser.run("(document.getElementById('send-now').click(), 0)")
+    page.settled()
+    if time.monotonic() - pressed > 4:
+        raise Failed(f"what waits went out {time.monotonic() - pressed:.1f} s after `Send now`")
+    same("the button", page.browser.run("document.getElementById('send-now').hidden"), True)
+    page.browser.run("(document.getElementById('account').focus(), 0)")
 
 
 def buttons(place, page):
@@ -485,6 +579,8 @@ def opened(kind):
 def run(kind, count, kills):
     start = time.monotonic()
     with opened(kind) as (place, page):
+        nobody(place, page)
+        two_browsers(place, page)
         words(place, page)
         entered, stops = killed(place, page, count, kills)
         check(place, page, entered)
@@ -508,7 +604,7 @@ def pictures():
         page.enter(1, "-120.00", "CASH")
         page.until("the notice", "document.getElementById('waiting').textContent.length > 0")
         page.browser.keys("2", TAB, "45.50")
-        for name, width, height in (("teller", 1000, 740), ("teller_narrow", 380, 820)):
+        for name, width, height in (("teller", 1120, 900), ("teller_narrow", 380, 820)):
             page.browser.size(width, height)
             page.browser.run("(scrollTo(0, 0), 0)")
             time.sleep(0.3)
