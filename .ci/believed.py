@@ -7,8 +7,9 @@
                                    promise and the calls need
     .ci/believed.py CRATE NAME [CLAUSE..]      the list of one function's contract
 
-From the names of a function's clauses it walks through `specs/` until only names of the kit are left. A definition counts
-with its comment; a file is named with the first line of its head.
+From the names of a function's clauses it walks through `specs/` until only names of the kit are left. Where a law says the
+same in such names, it goes on by the law. A definition counts with its comment; a file is named with the first line of its
+head.
 """
 import re
 import sys
@@ -43,6 +44,9 @@ CLAIMS = CALLS + [
     ("bank_commands", "command_over", []),
     ("bank_commands", "run", []),
 ]
+
+# What a law says in names of the kit and of Rust, so that its law is followed and not its definition.
+BY_LAW = {("store_rows", "specs/believed/BankTables.antt", "bank_tables"): ("store_rows", "tables_law", [])}
 
 WORD = re.compile(r"[^\W\d][\w'?!]*(?:\.[\w'?!]+)*|[◌∥⟦]\S*", re.UNICODE)
 HEAD = re.compile(r"^(\s*)(?:(?:abbrev|unfoldable|record|data|pub|instance|opaque)\s+)+([^\s:({]+)")
@@ -156,7 +160,7 @@ def clauses_of(crate, function, wanted):
     sys.exit(f"no contract of {function} in {crate}")
 
 
-def closure(contracts):
+def closure(contracts, laws=BY_LAW):
     """The definitions that these contracts need, the names of Rust types and constants, and those of the kit."""
     todo, seen, rust, kit = [], {}, set(), set()
 
@@ -188,11 +192,17 @@ def closure(contracts):
                     seen[id(found)] = found
                     todo.append(found)
 
-    for crate, function, wanted in contracts:
-        text, names, _ = clauses_of(crate, function, wanted)
+    for contract in contracts:
+        text, names, _ = clauses_of(*contract)
         take(WORD.findall(text), names, None)
     while todo:
         it = todo.pop()
+        crate, *inside = it.module.path.relative_to(CRATES).parts
+        law = laws.get((crate, "/".join(inside), it.name))
+        if law:
+            text, names, _ = clauses_of(*law)
+            take(WORD.findall(text), names, None)
+            continue
         chained = {"◌>>=◌"} if "do" in it.words else set()  # what `do` stands for
         take(it.words | chained, it.module.names, it.module)
     return list(seen.values()), rust, kit
@@ -200,7 +210,7 @@ def closure(contracts):
 
 def misplaced():
     """What the promise and the calls need outside a folder `believed`, and what else lies in one."""
-    needed = {(it.module.path, it.name) for it in closure(CALLS)[0]}
+    needed = {(it.module.path, it.name) for it in closure(CALLS, {})[0]}
     inside = {
         (file, name)
         for file in CRATES.glob("*/specs/believed/*.antt")
@@ -258,7 +268,8 @@ def page():
         "A proof shows that the code keeps its contracts. That a contract says what it should is for a reader to see. This page is",
         "what `.ci/believed.py` prints, and `.ci/run` fails where it isn't: for each contract below, all definitions of `specs/`",
         "that its clauses need, down to the kit's own names. What the promise and the calls of a counter need lies in the folders",
-        "`specs/believed`, with nothing else in them.",
+        "`specs/believed`, with nothing else in them. The tables of a bank are those that the eight texts in `MAKE_TABLES` define,",
+        "by `tables_law` of `store_rows`, so that the texts are to be read, and not what `sqlite` makes of them.",
         "",
         "| For | Definitions |",
         "|---|---|",
