@@ -7,7 +7,7 @@ use Rattle.posting_rules.specs.declared.fault.Fault.TheVariants as fault
 use Rattle.posting_rules.specs.believed.Commands.{Command}
 use Rattle.posting_rules.specs.believed.Counter.{IsCounterCall, IsSeenUnchanged, Seen, Takes}
 use Rattle.posting_rules.specs.believed.Tables.{Tables, AreTablesOf}
-use Rattle.posting_rules.proofs.CounterCalls.{idle_after, refused_after, takes_none, Takes-append, unchanged_seen}
+use Rattle.posting_rules.proofs.CounterCalls.{idle_after, refused_after, takes_none, Takes-append}
 use Rattle.posting_rules.proofs.Remaining.{leaves_still}
 use Rattle.posting_core.specs.Stream.{IsOfCall}
 use Rattle.posting_core.proofs.StreamedBatches.{all_more}
@@ -82,18 +82,6 @@ asked_full {seen = seen} {old = old} {new} y a = record {
   honest = a.honest;
 }
 
--- a call of the counter was taken
-pub asked_call : {C K X Y : Type 0} (seen : C → Seen) (contents : C → K) (reason : Fault → C → C → Type 0) (old new : C)
-    (x : X) (y : Y) → IsCounterCall seen contents reason old new [] (Ok x) → IsAsked seen reason old new (Ok y)
-asked_call seen contents reason old new x y call = record {
-  done = call.done;
-  up = λ down. absurd (call.up down);
-  why = tt;
-  fault = tt;
-  idle = λ down. call.untried (call.down down);
-  honest = call.honest;
-}
-
 -- a call of the counter was refused
 pub asked_refused : {C K X Y : Type 0} (seen : C → Seen) (contents : C → K) (reason : Fault → C → C → Type 0)
     (old new : C) (why : Fault) → IsCounterCall {X = X} seen contents reason old new [] (Err why)
@@ -103,26 +91,6 @@ asked_refused seen contents reason old new why call = record {
   up = tt;
   why = why_first seen contents reason old new [] why call;
   fault = refused_first seen old new why [] call.fault call.honest;
-  idle = λ down. call.untried (call.down down);
-  honest = call.honest;
-}
-
--- it was taken, and then memory was refused
-pub asked_unlined : {C K X Y : Type 0} (seen : C → Seen) (contents : C → K) (reason : Fault → C → C → Type 0)
-    (old new : C) (x : X) → IsCounterCall seen contents reason old new [] (Ok x)
-    → IsAsked {X = Y} seen reason old new (Err fault.Memory)
-asked_unlined seen contents reason old new x call = record {
-  done = tt;
-  up = tt;
-  why = inr (refl, call.up);
-  fault = record {
-    stood = new;
-    honest_first = call.honest;
-    honest = λ h. h;
-    up = λ down. absurd (call.up down);
-    takes = call.done;
-    refuses = unchanged_seen (seen new);
-  };
   idle = λ down. call.untried (call.down down);
   honest = call.honest;
 }

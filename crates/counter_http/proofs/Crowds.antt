@@ -416,9 +416,6 @@ pub crowd_moved : {R W : Type 0} {known : R × W → Known} {g : Option (List (C
     {steps : List Step} {fault : Option Fault} {refused : List Step} {a b : Scene R W} → HaveMoved a b → IsCrowd known g c c' steps fault refused a → IsCrowd known g c c' steps fault refused b
 crowd_moved {a = a} {b} moved crowd = crowd_by moved.scenes a b moved.moves crowd
 
-pub not_moved : {R W : Type 0} (a : Scene R W) → HaveMoved a a
-not_moved a = record { scenes = []; moves = refl }
-
 moves_then : {R W : Type 0} (ms ns : List (Scene R W)) (a b d : Scene R W) → Moves ms a b → Moves ns b d
     → Moves (ms ++ ns) a d
 moves_then [] ns a b d same moves = subst (λ (x : Scene _ _). Moves ns x d) same moves

@@ -117,21 +117,6 @@ batch_then here p client client' old new r at gives b all (inr (full, same)) =
     subst (λ (x : Batch). IsBatchOf (slice_set here p client') x) (sym same)
     (batch_still here (slice_set here p client') p client' old refl b all)
 
-pub may_add : (old new : Batch) (p : ℕ) (r : Record) → AddsIfRoom old new p r → MayAdd old new p
-may_add old new p r (inl added) = inl (r, added)
-may_add old new p r (inr (full, same)) = inr same
-
-pub empty_batch : {R W : Type 0} (here : List (Client R W)) (batch : Batch) → batch.records.items ≡ []
-    → batch.senders.items ≡ [] → IsBatchOf here batch
-empty_batch here batch none nobody = record {
-  given = subst (λ (ss : List Sender). AreGiven here ss batch.records.items) (sym nobody)
-      (subst (λ (rs : List (List ℕ)). AreGiven here [] rs) (sym none) tt);
-  apart = subst (λ (ss : List Sender). AreApart ss) (sym nobody) tt;
-}
-
-pub nobody_from : (place : ℕ) (ss : List Sender) → ss ≡ [] → AllByRecursion (IsFrom place) ss
-nobody_from place ss e = subst (λ (l : List Sender). AllByRecursion (IsFrom place) l) (sym e) tt
-
 -- ---- places that were looked at
 
 -- it is from a place on, and not among those that are still to be looked at

@@ -107,9 +107,6 @@ next_line listing log after line is =
     ∙ ap (λ (t : List ℕ). t ++ shown_line listing line)
     (skipped each log after line.branch (line.branch - 1) is.none_between (omega arith) (omega arith))
 
-abbrev pub so_far : Listing → List Command → ℕ → List ℕ
-so_far listing log after = names_of listing ++ lines_up_to (listed_line listing log) log after
-
 -- one line more
 pub line_more : (listing : Listing) (log : List Command) (after : ℕ) (line : BranchLine)
     → IsNextBranch log after (Some line) → (text : List ℕ) → text ≡ shown_line listing line

@@ -1,8 +1,8 @@
 -- Clients at their places, and what becomes of all of them where messages of one are answered.
-use Rattle.std.proofs.Common.{◌≡◌, ℕ, zero, suc, ◌<◌, List, [], ◌∷◌, ◌++◌, length, slice_set}
+use Rattle.std.proofs.Common.{◌≡◌, ℕ, zero, suc, ◌<◌, List, [], ◌∷◌, ◌++◌, slice_set}
 use Rattle.std.proofs.Common.{Some, refl, sym, ap, subst, ◌∙◌, append_assoc, arith, inl, inr}
 use Rattle.std.specs.{Prelude.◌≢◌, Prelude.◌⊎◌, Prelude.Contains, List.AllByRecursion, List.slice_get, Option.option_map}
-use Rattle.std.proofs.lemmas.{List.length-map, Option.get_or_from_slice_get, Option.slice_get-map, Option.slice_get_within}
+use Rattle.std.proofs.lemmas.{Option.get_or_from_slice_get, Option.slice_get-map, Option.slice_get_within}
 use Rattle.posting_rules.specs.believed.{Commands.Command, Counter.Seen, Counter.Takes}
 use Rattle.posting_rules.proofs.CounterCalls.{Takes-append}
 use Rattle.posting_core.proofs.StreamedBatches.{all_more}
@@ -75,10 +75,6 @@ one_of_these here p client at =
       slice_get_within (numbers here) p client.number there,
       get_or_from_slice_get (numbers here) p client.number client.number there,
     )
-
-pub as_long : {R W : Type 0} (xs ys : List (Client R W)) → numbers ys ≡ numbers xs → length ys ≡ length xs
-as_long {R} {W} xs ys e =
-    let f : Client R W → ℕ = λ x. x.number in sym (length-map ys f) ∙ ap length e ∙ length-map xs f
 
 three_ways : (n m : ℕ) → (n < m) ⊎ ((n ≡ m) ⊎ (m < n))
 three_ways n m = grind arith
