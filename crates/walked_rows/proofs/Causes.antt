@@ -1,24 +1,18 @@
 -- Why rows couldn't be read, one read after the other.
-use Rattle.std.proofs.Common.{◌≡◌, ℕ, List, [], ◌∷◌, Ok, Err, Option, Result, refl, arith, inl}
+use Rattle.std.proofs.Common.{ℕ, List, [], ◌∷◌, Ok, Err, Option, Result, refl, inl}
 use Rattle.std.specs.Prelude.{IfErr, ℤ}
 use Rattle.std.proofs.Math.Nat.{le_refl}
 use Rattle.sqlite.specs.Held.{Held, state}
 use Rattle.sqlite.specs.{Order.Row, State.State, State.Survives, declared.error.Error.Error}
 use Rattle.sqlite_trees.specs.declared.store.Store.{Ghosts}
 use Rattle.sqlite_trees.specs.View.{doubt}
-use Rattle.posting_rules.specs.declared.fault.Rule.{Rule}
 use Rattle.sql_meanings.proofs.Saying.{survives_both}
-use Rattle.store_rows.specs.{Failures.HasFailedAtLast, TableAnswers.Gives, believed.Failures.HasFailed}
+use Rattle.store_rows.specs.believed.Failures.{HasFailed}
 use Rattle.store_rows.specs.declared.fault.TableFault.{TableFault, TheVariants.Sqlite, TheVariants.Damaged}
 use Rattle.walked_rows.specs.{Causes.HasItsCause, Causes.IsOfRows, Kinds.Kind, References.ReadsFirst}
 use Rattle.walked_rows.specs.StepOutcomes.{ReadsNext}
 
 -- ---- what is made of rows that were found
-
-pub gives_rows : {X : Type 0} (reading : Result X Rule) (r : Result X TableFault) → Gives reading r → IfErr r IsOfRows
-gives_rows reading (Ok x) gives = tt
-gives_rows reading (Err (Sqlite e)) gives = gives
-gives_rows reading (Err (Damaged rule)) gives = tt
 
 pub next_rows : {R : Type 0} (kind : Kind R) (next : ℤ) (row : Row) (fault : TableFault)
     → ReadsNext kind next row (Err fault) → IsOfRows fault

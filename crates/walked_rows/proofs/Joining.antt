@@ -49,14 +49,19 @@ beside_is others start k read beyond told low decided =
 
 -- ---- pairs
 
--- a test of rows is one of their pairs
+-- a test of what things are made into is one of the things
+pub image_filter : {X Y : Type 0} (f : X → Y) (p : X → Bool) (q : Y → Bool) → ((x : X) → q (f x) ≡ p x)
+    → (xs : List X) → filter q (map f xs) ≡ map f (filter p xs)
+image_filter f p q same [] = refl
+image_filter f p q same (x ∷ xs) = elim (cases_Bool (p x)) [
+  | inl here ↦ rw (same x, here) (ap (λ l. f x ∷ l) (image_filter f p q same xs))
+  | inr away ↦ rw (same x, away) (image_filter f p q same xs)
+]
+
+-- one of rows is one of their pairs
 pub paired_filter : (others : List Entry) (q : Entry → Bool) (es : List Entry)
     → filter (λ p. q p.entry) (paired others es) ≡ paired others (filter q es)
-paired_filter others q [] = refl
-paired_filter others q (e ∷ es) = elim (cases_Bool (q e)) [
-  | inl here ↦ rw here (ap (λ l. pair_with others e ∷ l) (paired_filter others q es))
-  | inr away ↦ rw away (paired_filter others q es)
-]
+paired_filter others q = image_filter (pair_with others) q (λ p. q p.entry) (λ _. refl)
 
 -- the pairs from a number on are those of the rows
 pub pairs_from : (others es : List Entry) (q : Entry → Bool) (pairs : List Pair) → pairs ≡ paired others es
@@ -76,12 +81,11 @@ pairs_after others es q pairs are (Some k) = pairs_from others es q pairs are k
 
 -- ---- row by row
 
--- a row, and this one beside it
-abbrev pub pair_beside : Entry → Option Entry → Pair
-pair_beside e beside = record { entry = e; beside = beside }
+pub first_of : {X : Type 0} (x y : X) (xs ys : List X) → x ∷ xs ≡ y ∷ ys → x ≡ y
+first_of x y xs ys e = cc
 
-same_rest : (x y : Entry) (xs ys : List Entry) → x ∷ xs ≡ y ∷ ys → xs ≡ ys
-same_rest x y xs ys e = cc
+pub rest_of : {X : Type 0} (x y : X) (xs ys : List X) → x ∷ xs ≡ y ∷ ys → xs ≡ ys
+rest_of x y xs ys e = cc
 
 module _ {J : Type 0} (pair : J → Pair) (others base : List Entry) (rise : Rise base) (start : ℤ) where
   abbrev SoFar : List J → ℤ → Type 0
@@ -94,7 +98,7 @@ module _ {J : Type 0} (pair : J → Pair) (others base : List Entry) (rise : Ris
   joins_on done next j e more so_far is same =
       let left = first_left next base e rise (found_of (is_from next) base e more is) in
       let after = rows_from (e.key +ℤ pos 1) base in (
-        same_rest e e after more (sym left ∙ is),
+        rest_of e e after more (sym left ∙ is),
         so_far ∙ ap (λ l. map pair done ++ paired others l) left
             ∙ ap (λ p. map pair done ++ p ∷ paired others after) (sym same)
             ∙ beyond done (paired others after),

@@ -1,135 +1,17 @@
--- Kept requests, row by row.
-use Rattle.std.proofs.Common.{◌≡◌, ◌+ℤ◌, ℤ, pos, List, [], ◌∷◌, ◌++◌, map, filter, Bool, true, Some, None, Option}
-use Rattle.std.proofs.Common.{refl, sym, ap, subst, ◌∙◌, inl, inr}
-use Rattle.std.specs.Prelude.{IsSomeAnd}
-use Rattle.std.proofs.lemmas.Bool.{cases_Bool}
+-- Kept requests that are given.
+use Rattle.std.proofs.Common.{◌≡◌, ℤ, List, [], ◌∷◌, ◌++◌, map, filter, true, Some, None, Option}
+use Rattle.std.proofs.Common.{refl, sym, ap, subst, ◌∙◌, inl}
 use Rattle.sqlite.specs.declared.error.Error.{Error}
-use Rattle.posting_rules.specs.declared.fault.Rule.{Rule}
-use Rattle.sql_meanings.specs.{believed.Entries.Entry, believed.Entries.Rise, Seeks.is_from}
+use Rattle.sql_meanings.specs.{believed.Entries.Entry, Seeks.is_from}
 use Rattle.store_rows.specs.declared.fault.TableFault.{TableFault, TheVariants.Sqlite, TheVariants.Damaged}
-use Rattle.walked_rows.specs.KeptRows.{AreKept, BreaksKept, IsOrdinal, KeptItem, asked_of, kept_all, kept_item, kept_key}
-use Rattle.walked_rows.specs.KeptRows.{kept_with}
-use Rattle.walked_rows.specs.Pairs.{Pair, pair_key, pair_with, paired, row_under}
-use Rattle.walked_rows.specs.{References.BreaksReference, StepOutcomes.BreaksFirst, declared.joined.Joined.Joined}
+use Rattle.walked_rows.specs.KeptRows.{AreKept, BreaksKept, KeptItem, kept_all, kept_item, kept_key, kept_with}
+use Rattle.walked_rows.specs.Pairs.{pair_key, pair_with, paired}
+use Rattle.walked_rows.specs.{StepOutcomes.BreaksFirst, declared.joined.Joined.Joined}
 use Rattle.walked_rows.specs.{declared.kept.KeptRequest.KeptRequest, declared.postings.StoredPosting.StoredPosting}
 use Rattle.walked_rows.specs.Rows.{items_after, items_from, rows_after, rows_from}
 use Rattle.walked_rows.specs.Stored.{BreaksAsked, asked_pair}
 use Rattle.walked_rows.specs.declared.requests.StoredRequest.{StoredRequest}
-use Rattle.walked_rows.proofs.{Gathering.first_left, Gathering.found_of, Joining.pairs_after, Joining.pairs_from}
-
-first_of : {X : Type 0} (x y : X) (xs ys : List X) → x ∷ xs ≡ y ∷ ys → x ≡ y
-first_of x y xs ys e = cc
-
-rest_of : {X : Type 0} (x y : X) (xs ys : List X) → x ∷ xs ≡ y ∷ ys → xs ≡ ys
-rest_of x y xs ys e = cc
-
--- a row among those to come: it is the first, and the others follow after its key
-first_asked : (postings base : List Entry) → Rise base → (next : ℤ) (p : Pair) (more : List Pair)
-    → paired postings (rows_from next base) ≡ p ∷ more
-    → (e : Entry) × (pair_with postings e ≡ p) × (rows_from next base ≡ e ∷ rows_from (e.key +ℤ pos 1) base)
-    × (paired postings (rows_from (e.key +ℤ pos 1) base) ≡ more)
-first_asked postings base rise next p more is = go (rows_from next base) refl is
-  where
-    go : (es : List Entry) → rows_from next base ≡ es → paired postings es ≡ p ∷ more
-        → (e : Entry) × (pair_with postings e ≡ p)
-        × (rows_from next base ≡ e ∷ rows_from (e.key +ℤ pos 1) base)
-        × (paired postings (rows_from (e.key +ℤ pos 1) base) ≡ more)
-    go [] are same = absurd cc
-    go (e ∷ es) are same =
-        let left = first_left next base e rise (found_of (is_from next) base e es are) in
-        let after = rest_of e e (rows_from (e.key +ℤ pos 1) base) es (sym left ∙ are) in (
-          e,
-          first_of (pair_with postings e) p (paired postings es) more same,
-          left,
-          ap (paired postings) after ∙ rest_of (pair_with postings e) p (paired postings es) more same,
-        )
-
-module _ (postings others base : List Entry) (rise : Rise base) (start : ℤ) where
-  abbrev SoFar : List KeptRequest → ℤ → Type 0
-  SoFar done next = AreKept postings others base start done (Some next)
-
-  -- what is kept of the row
-  kept_is : (e : Entry) (p : Pair) (k : KeptItem) → pair_with postings e ≡ p → asked_of k ≡ p
-      → k.reference ≡ row_under others p.entry.key → kept_with postings others e ≡ k
-  kept_is e p k at asked under =
-      let key : e.key ≡ k.entry.key = ap (λ (q : Pair). q.entry.key) (at ∙ sym asked) in
-      ap (λ (q : Pair). record {
-        entry = q.entry;
-        posting = q.beside;
-        reference = row_under others q.entry.key;
-      }) (at ∙ sym asked)
-      ∙ ap (λ r. record { entry = k.entry; posting = k.posting; reference = r })
-      (ap (λ (q : Pair). row_under others q.entry.key) asked ∙ sym under)
-
-  -- one more
-  pub keeps_on : (done : List KeptRequest) (next : ℤ) (r : KeptRequest) (p : Pair) (more : List Pair)
-      → SoFar done next → paired postings (rows_from next base) ≡ p ∷ more → asked_of (kept_item r) ≡ p
-      → (kept_item r).reference ≡ row_under others p.entry.key
-      → (paired postings (rows_from (p.entry.key +ℤ pos 1) base) ≡ more)
-      × SoFar (done ++ r ∷ []) (p.entry.key +ℤ pos 1)
-  keeps_on done next r p more so_far is asked under =
-      let it = first_asked postings base rise next p more is in
-      let key : it.0.key +ℤ pos 1 ≡ p.entry.key +ℤ pos 1 = ap (λ (q : Pair). q.entry.key +ℤ pos 1) it.1 in
-      let after : ℤ → List KeptItem = λ k. kept_all postings others (rows_from k base) in (
-        ap (λ k. paired postings (rows_from k base)) (sym key) ∙ it.3,
-        so_far ∙ ap (λ l. map kept_item done ++ kept_all postings others l) it.2
-            ∙ ap (λ x. map kept_item done ++ x ∷ after (it.0.key +ℤ pos 1))
-            (kept_is it.0 p (kept_item r) it.1 asked under)
-            ∙ ap (λ k. map kept_item done ++ kept_item r ∷ after k) key
-            ∙ beyond done (after (p.entry.key +ℤ pos 1)),
-      )
-    where
-      beyond : (xs : List KeptRequest) (ks : List KeptItem)
-          → map kept_item xs ++ kept_item r ∷ ks ≡ map kept_item (xs ++ r ∷ []) ++ ks
-      beyond [] ks = refl
-      beyond (x ∷ xs) ks = ap (λ l. kept_item x ∷ l) (beyond xs ks)
-
-  -- the reference of the first can't be read
-  pub keeps_none : (Because : Error → Type 0) (done : List KeptRequest) (next : ℤ) (p : Pair) (more : List Pair)
-      (broken : Rule) → SoFar done next → done ≡ [] → paired postings (rows_from next base) ≡ p ∷ more
-      → IsOrdinal p.entry.key → IsSomeAnd (row_under others p.entry.key) (BreaksReference broken)
-      → BreaksFirst Because BreaksKept (kept_all postings others (rows_from start base)) (Damaged broken)
-  keeps_none Because done next p more broken so_far none is ordinal broke =
-      let it = first_asked postings base rise next p more is in (
-        kept_with postings others it.0,
-        kept_all postings others (rows_from (it.0.key +ℤ pos 1) base),
-        so_far ∙ ap (λ l. map kept_item l ++ kept_all postings others (rows_from next base)) none
-            ∙ ap (kept_all postings others) it.2,
-        inr (
-          subst IsOrdinal (sym (ap (λ (q : Pair). q.entry.key) it.1)) ordinal,
-          subst (λ k. IsSomeAnd (row_under others k) (BreaksReference broken))
-              (sym (ap (λ (q : Pair). q.entry.key) it.1)) broke,
-        ),
-      )
-
--- rows of which the pairs are the same are kept with the same
-pub kept_after : (postings others base rows : List Entry) (next : ℤ)
-    → paired postings (rows_from next base) ≡ paired postings rows
-    → kept_all postings others (rows_from next base) ≡ kept_all postings others rows
-kept_after postings others base rows next same = go (rows_from next base) rows same
-  where
-    go : (xs ys : List Entry) → paired postings xs ≡ paired postings ys
-        → kept_all postings others xs ≡ kept_all postings others ys
-    go [] [] is = refl
-    go [] (y ∷ ys) is = absurd cc
-    go (x ∷ xs) [] is = absurd cc
-    go (x ∷ xs) (y ∷ ys) is =
-        let one : x ≡ y = ap (λ (p : Pair). p.entry)
-        (first_of (pair_with postings x) (pair_with postings y) (paired postings xs) (paired postings ys) is) in
-        let more = go xs ys
-        (rest_of (pair_with postings x) (pair_with postings y) (paired postings xs) (paired postings ys) is) in
-        ap (λ e. kept_with postings others e ∷ kept_all postings others xs) one
-        ∙ ap (λ l. kept_with postings others y ∷ l) more
-
--- ---- those that are given
-
-image_filter : {X Y : Type 0} (f : X → Y) (p : X → Bool) (q : Y → Bool) → ((x : X) → q (f x) ≡ p x)
-    → (xs : List X) → filter q (map f xs) ≡ map f (filter p xs)
-image_filter f p q same [] = refl
-image_filter f p q same (x ∷ xs) = elim (cases_Bool (p x)) [
-  | inl here ↦ rw (same x, here) (ap (λ l. f x ∷ l) (image_filter f p q same xs))
-  | inr away ↦ rw (same x, away) (image_filter f p q same xs)
-]
+use Rattle.walked_rows.proofs.Joining.{first_of, image_filter, pairs_after, pairs_from}
 
 module _ (postings others rows : List Entry) (all : List KeptItem) (are : all ≡ kept_all postings others rows) where
   abbrev given : List KeptItem

@@ -10,6 +10,7 @@ pub mod Keys
 pub mod Leaving
 pub mod OnlyMeta
 pub mod ReferenceRead
+pub mod Referring
 pub mod Rises
 pub mod RisingRows
 pub mod RowsBroken

@@ -1,9 +1,9 @@
 -- The first of the rows that were found beside others.
-use Rattle.std.proofs.Common.{◌≡◌, ◌<ℤ◌, ◌≤ℤ◌, ◌+ℤ◌, ◌<◌, ℕ, suc, ℤ, pos, List, [], ◌∷◌, map, find, drop, length}
-use Rattle.std.proofs.Common.{get_or, true, false, Some, None, Option, int_cmp, refl, sym, ap, subst, ◌∙◌, inl}
+use Rattle.std.proofs.Common.{◌≡◌, ◌<ℤ◌, ◌≤ℤ◌, ◌+ℤ◌, ◌<◌, ℕ, ℤ, pos, List, [], ◌∷◌, map, find}
+use Rattle.std.proofs.Common.{true, false, Some, None, Option, int_cmp, refl, sym, ap, subst, ◌∙◌, inl}
 use Rattle.std.proofs.Common.{inr, arith}
 use Rattle.std.specs.{Prelude.IfSome, Ordering.int_eq, Ordering.is_ge}
-use Rattle.std.proofs.{Math.Seq.drop-cons, lemmas.Bool.cases_Bool, lemmas.Int.ints}
+use Rattle.std.proofs.{lemmas.Bool.cases_Bool, lemmas.Int.ints}
 use Rattle.sqlite.specs.declared.error.Error.{Error}
 use Rattle.posting_rules.specs.declared.fault.Rule.{Rule}
 use Rattle.sql_meanings.specs.believed.Entries.{Entry, Rise, has_key}
@@ -101,14 +101,3 @@ module _ {R : Type 0} (key : R → ℤ) where
   beyond from (r ∷ rs) (Some k) rises ended =
       let first : from ≤ℤ key r = rises.0 in let more = last_above (key r +ℤ pos 1) rs k rises.1 in omega
       (arith, ints)
-
--- ---- row by row
-
-module _ {R : Type 0} (entry : R → Entry) (rows : List R) (i : ℕ) (r : R) (k : ℤ) (low : i < length rows)
-    (at : r ≡ get_or rows i r) where
-  drops : drop i rows ≡ r ∷ drop (suc i) rows
-  drops = drop-cons rows i r low ∙ ap (λ x. x ∷ drop (suc i) rows) (sym at)
-
-  -- it is under the key
-  pub found_at : has_key k (entry r) ≡ true → row_under (map entry (drop i rows)) k ≡ Some (entry r)
-  found_at is = ap (λ l. row_under (map entry l) k) drops ∙ rw is refl

@@ -10,6 +10,7 @@ pub mod StepOutcomes
 pub mod PairKeys
 pub mod Pairs
 pub mod References
+pub mod Referring
 pub mod Requests
 pub mod Came
 pub mod Rising

@@ -1,26 +1,19 @@
 //! The kept requests: the rows of `request`, each with the posting and the reference of its ordinal.
-ghost use Rattle.std.specs.Prelude.{◌≡◌, ◌≤◌, ◌++◌, [], List, length, map, None, IfErr, IfOk, MatchResult};
+ghost use Rattle.std.specs.Prelude.{◌≡◌, ◌++◌, [], List, map, None, IfErr, IfOk, MatchResult};
 ghost use Rattle.sqlite.specs.State.{HasCleanDisk};
 ghost use Rattle.sqlite.specs.Held.{state};
-ghost use Rattle.sql_meanings.specs.believed.Entries.{Entry, Rise};
 ghost use Rattle.sql_meanings.specs.StatementAnswers.{IsStoreError};
-ghost use Rattle.store_rows.specs.believed.BankTables.{reference as reference_table};
 ghost use Rattle.walked_rows.specs.Causes.{HasItsCause};
-ghost use Rattle.walked_rows.specs.KeptRows.{AreKept, BreaksKept, HoldsKept, KeptItem, kept_all, kept_item};
-ghost use Rattle.walked_rows.specs.KeptRows.{kept_key};
-ghost use Rattle.walked_rows.specs.Leaving.{OnlyReads, ReadsIfAny};
-ghost use Rattle.walked_rows.specs.Pairs.{paired};
+ghost use Rattle.walked_rows.specs.KeptRows.{BreaksKept, HoldsKept, KeptItem, kept_item, kept_key};
+ghost use Rattle.walked_rows.specs.Leaving.{OnlyReads};
 ghost use Rattle.walked_rows.specs.Rising.{RisesFrom};
-ghost use Rattle.store_rows.specs.View.{HoldsRows};
-ghost use Rattle.walked_rows.specs.Rows.{entry_key, items_after, items_from, rows_after};
-ghost use Rattle.walked_rows.specs.Rows.{rows_from};
+ghost use Rattle.walked_rows.specs.Rows.{entry_key, items_after, items_from};
 ghost use Rattle.walked_rows.specs.StepOutcomes.{BreaksFirst};
-ghost use Rattle.walked_rows.specs.Stored.{asked_pair, request_entry};
 
 use crate::ahead::AHEAD;
 use crate::joined::{Joined, fill_joined};
 use crate::postings::StoredPosting;
-use crate::references::reference_under;
+use crate::referred::{Referred, refer_each};
 use crate::requests::StoredRequest;
 use crate::walked::WalkedRow;
 use arrayvec::ArrayVec;
@@ -46,53 +39,49 @@ impl Default for KeptRequest {
     }
 }
 
-// Puts these requests, each with the reference under its ordinal, in place of those in `rows`, up to one
-// whose reference can't be read, if it isn't the first, and returns the key from which on the next follow.
-fn refer_each<S: Alter>(
-    conn: &mut Connection<S>,
-    own: &[Joined<StoredRequest, StoredPosting>],
-    rest: Option<i64>,
-    from: i64,
-    rows: &mut ArrayVec<KeptRequest, AHEAD>,
-) -> Result<Option<i64>, TableFault>
-    requires few { length own.now ≤ AHEAD }
-    requires ended { own.now ≡ [] → rest ≡ None }
-    requires rises { RisesFrom from (map (λ j. entry_key (request_entry j.stored)) own.now) rest }
-    ensures told { HasCleanDisk (state S.Store conn.new) → (base postings others : List Entry) → Rise base
-        → HoldsRows (state S.Store conn.old).now reference_table others
-        → paired postings (rows_from from base)
-        ≡ map asked_pair own.now ++ paired postings (rows_after rest base)
-        → MatchResult result (AreKept postings others base from rows.new.items)
-        (BreaksFirst (IsStoreError (state S.Store conn.old) (state S.Store conn.new)) BreaksKept
-        (kept_all postings others (rows_from from base))) }
-    ensures ended { IfOk result (λ next. rows.new.items ≡ [] → next ≡ None) }
-    ensures rises { IfOk result
-        (λ next. RisesFrom from (map (λ k. entry_key (request_entry k.request)) rows.new.items) next) }
-    ensures reads { ReadsIfAny S.Store conn.old conn.new result }
-    ensures cause { HasCleanDisk (state S.Store conn.new)
-        → IfErr result (HasItsCause S.Store conn.old conn.new) }
-{
-    rows.clear();
-    let mut next = from;
-    for asked in own {
-        let ordinal = asked.stored.ordinal.get();
-        match reference_under(conn, ordinal) {
-            Ok(reference) => rows.push(KeptRequest {
-                request: asked.stored,
-                posting: asked.beside,
-                reference,
-            }),
-            Err(TableFault::Sqlite(e)) => return Err(TableFault::Sqlite(e)),
-            Err(TableFault::Damaged(rule)) => {
-                if rows.is_empty() {
-                    return Err(TableFault::Damaged(rule));
-                }
-                return Ok(Some(next));
-            }
-        }
-        next = ordinal as i64 + 1;
+impl Referred<Joined<StoredRequest, StoredPosting>> for KeptRequest {
+    ghost use Rattle.std.proofs.Common.{inr, refl};
+    ghost use Rattle.walked_rows.specs.KeptRows.{KeptItem, kept_item};
+    ghost use Rattle.walked_rows.specs.Pairs.{Pair};
+    ghost use Rattle.walked_rows.specs.Referring.{kept_joined};
+    ghost use Rattle.walked_rows.specs.Stored.{asked_pair, request_entry};
+
+    ghost Own = { Pair };
+
+    ghost Item = { KeptItem };
+
+    ghost own = { asked_pair };
+
+    ghost item = { kept_item };
+
+    ghost entry = { λ p. p.entry };
+
+    ghost ordinal_of = { λ row. row.stored.ordinal };
+
+    ghost joined = { kept_joined };
+
+    ghost key = { λ k. entry_key (request_entry k.request) };
+
+    ghost Breaks = { BreaksKept };
+
+    ghost keyed = { λ row. refl };
+
+    ghost breaks = { λ rule p reference ordinal broke. inr (ordinal, broke) };
+
+    fn ordinal(row: &Joined<StoredRequest, StoredPosting>) -> u64 {
+        row.stored.ordinal.get()
     }
-    Ok(rest)
+
+    fn referred(
+        row: &Joined<StoredRequest, StoredPosting>,
+        reference: Option<Reference>,
+    ) -> KeptRequest {
+        KeptRequest {
+            request: row.stored,
+            posting: row.beside,
+            reference,
+        }
+    }
 }
 
 /// Puts the kept requests with the least ordinals from one on in place of those in `rows`, as [`WalkedRow::read_some`]

@@ -48,6 +48,7 @@ mod metas;
 mod numbers;
 mod postings;
 mod references;
+mod referred;
 mod requests;
 mod stated;
 mod statements;

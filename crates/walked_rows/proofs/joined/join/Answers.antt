@@ -6,7 +6,8 @@ use Rattle.store_rows.proofs.Lookups.{as_integer}
 use Rattle.walked_rows.specs.Pairs.{ComesBefore, pair_of, paired, row_under}
 use Rattle.walked_rows.specs.{Rising.RisesFrom, Rows.entry_key, Rows.rows_after}
 use Rattle.walked_rows.proofs.{Gathering.after_key, Rises.one_more, Rises.rest_after}
-use Rattle.walked_rows.proofs.Joining.{beside_is, joins_on, none_left, pair_beside}
+use Rattle.walked_rows.specs.Referring.{pair_beside}
+use Rattle.walked_rows.proofs.Joining.{beside_is, joins_on, none_left}
 use Rattle.walked_rows.proofs.joined.join.Goals as goal
 
 pub loop-row-preserved : goal.loop-row-preserved

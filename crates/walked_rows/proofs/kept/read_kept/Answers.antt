@@ -1,12 +1,12 @@
 -- The requests that were read get their references. Each clause is named: a search for them takes long.
-use Rattle.std.proofs.Common.{filter, inl, refl, sym, subst, true, rules, w64}
+use Rattle.std.proofs.Common.{filter, inl, lit<, refl, sym, subst, true, rules, w64}
 use Rattle.std.proofs.lemmas.{Int.to_z-of_z, Result.IfErr-weaker, Result.MatchResult-weaker}
 use Rattle.sqlite.specs.Held.{state}
 use Rattle.sql_meanings.specs.StatementAnswers.{IsStoreError}
 use Rattle.sql_meanings.proofs.OrderedAnswers.{rise_filter}
 use Rattle.store_rows.specs.believed.BankTables.{reference as reference_table}
 use Rattle.store_rows.specs.View.{HoldsRows}
-use Rattle.walked_rows.specs.{Pairs.paired}
+use Rattle.walked_rows.specs.Pairs.{pair_with, paired}
 use Rattle.walked_rows.proofs.Keeping.{asked_breaks, asked_read, kept_breaks, kept_breaks_own, kept_so_far}
 use Rattle.walked_rows.proofs.{Causes.cause_on, Sought.all_given}
 use Rattle.walked_rows.proofs.Leaving.{clean_between, reads_then, store_on}
@@ -14,11 +14,8 @@ use Rattle.walked_rows.proofs.kept.read_kept.Goals as goal
 
 pub refer_each-requires : goal.refer_each-requires
 refer_each-requires g c =
-    rw c.as_slice.ensures.value record {
-      few = search rules;
-      ended = c.in-Ok.ensures.ended;
-      rises = c.in-Ok.ensures.rises;
-    }
+    rw c.as_slice.ensures.value
+    (lit< tt, (search rules, (c.in-Ok.ensures.ended, c.in-Ok.ensures.rises)))
 
 pub returns-in-Ok : goal.returns-in-Ok
 returns-in-Ok g c =
@@ -44,7 +41,7 @@ returns-in-Ok g c =
           (sym unchanged.0.now_is) has.has_references in
           MatchResult-weaker c.refer_each.result
           ((rw (c.as_slice.ensures.value, whole) at (referred.told clean
-          (filter (λ _. true) has.rows) has.postings has.references
+          (pair_with has.postings) (λ e. refl) (filter (λ _. true) has.rows) has.references
           (rise_filter (λ _. true) has.rows has.has.holds.rows.rise) others))
           (asked_read has.postings has.rows from _ _ told))
           (kept_so_far has.postings has.references has.rows all has.are from c.refer_each.new.rows.items)
