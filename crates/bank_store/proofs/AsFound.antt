@@ -1,5 +1,5 @@
 -- A bank whose database is left as it was found, stands where it stood, and spares the tables of other products.
-use Rattle.std.proofs.Common.{Result, Ok, Err, arith, inl, inr, refl, sym, subst, ◌∙◌, ◌≡◌}
+use Rattle.std.proofs.Common.{Result, Ok, Err, arith, inl, refl, sym, subst, ◌∙◌, ◌≡◌}
 use Rattle.std.specs.Prelude.{IsTrue}
 use Rattle.sqlite.specs.{Effect.Database, Held.Held, Held.state, State.HasCleanDisk, State.Survives, Tree.Trees}
 use Rattle.sqlite.proofs.StateLemmas.{survives_then, survives_weaker}
@@ -7,10 +7,8 @@ use Rattle.sqlite_trees.specs.declared.store.Store.{Ghosts}
 use Rattle.posting_rules.specs.declared.fault.Fault.{Fault}
 use Rattle.sql_meanings.proofs.Sparing.{spares_itself}
 use Rattle.store_rows.specs.believed.Sparing.{SparesOthers, bank_names}
-use Rattle.store_rows.specs.believed.View.{Shows, ShowsTrees}
-use Rattle.store_rows.proofs.ShownOnce.{to_trees}
 use Rattle.bank_transactions.specs.Undone.{IsUndone}
-use Rattle.bank_store.specs.Leaving.{CommitsAsFound, LeavesAsFound, OnlyReads, StandsWhileOpen}
+use Rattle.bank_store.specs.Leaving.{CommitsAsFound, LeavesAsFound, OnlyReads}
 use Rattle.bank_store.specs.{OpenBankSparing.SparesWhileOpen, Walks.IsUntouchedIfOpen, declared.bank.Bank.Bank}
 use Rattle.bank_store.specs.believed.Seen.{connection_of, database_of, file_of}
 
@@ -88,26 +86,6 @@ module _ {S : Type 0} (g : Ghosts S) where
     }
 
     module _ (leaves : CommitsAsFound g old new) where
-      pub commits_stands : StandsWhileOpen g old new
-      commits_stands clean up is_open log at = record {
-        shows = record {
-          commands = at.shows.commands;
-          tables = at.shows.tables;
-          are = subst (λ (db : Database). Shows db at.shows.tables) (sym (leaves.now clean is_open)) at.shows.are;
-          shows = at.shows.shows;
-        };
-        up = up;
-        survives = λ trees may. elim (leaves.left.crash clean trees may) [
-          | inl earlier ↦ at.survives trees earlier
-          | inr found ↦ (
-            at.shows.tables,
-            subst (λ (left : Trees). ShowsTrees left at.shows.tables) (sym found)
-                (to_trees (database_of g old) at.shows.tables at.shows.are),
-            at.shows.shows,
-          )
-        ];
-      }
-
       pub commits_spares : SparesWhileOpen g (connection_of old) (connection_of new)
       commits_spares = record {
         now = λ clean is_open.

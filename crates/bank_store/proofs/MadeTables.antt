@@ -19,38 +19,6 @@ IsCounted schema table = count_by (λ i. i.table == tree_of schema table.name) s
 abbrev grown : Schema
 grown = with_first all_texts (length all_texts) nothing
 
-meta_counted : IsCounted grown bank.meta
-unfolding everything
-meta_counted = refl
-
-branch_counted : IsCounted grown bank.branch
-unfolding everything
-branch_counted = refl
-
-teller_counted : IsCounted grown bank.teller
-unfolding everything
-teller_counted = refl
-
-account_counted : IsCounted grown bank.account
-unfolding everything
-account_counted = refl
-
-history_counted : IsCounted grown bank.history
-unfolding everything
-history_counted = refl
-
-request_counted : IsCounted grown bank.request
-unfolding everything
-request_counted = refl
-
-floor_counted : IsCounted grown bank.floor
-unfolding everything
-floor_counted = refl
-
-reference_counted : IsCounted grown bank.reference
-unfolding everything
-reference_counted = refl
-
 module _ (db : Database) (is : db.schema ≡ grown) where
   made : (table : Table) → Defines db.schema table → IsCounted grown table
       → IsAsMade db.schema table
@@ -58,24 +26,24 @@ module _ (db : Database) (is : db.schema ≡ grown) where
       record { defined = defined; indexes = subst (λ s. IsCounted s table) (sym is) counted }
 
   all_made : Shows db new_tables → IsOtherTable db.schema None
-  unfolding IsOtherTable
+  unfolding IsOtherTable everything
   all_made shows =
       let each = shows.each in (
       inr (
-        made bank.meta each.0.defined meta_counted,
+        made bank.meta each.0.defined refl,
         inr (
-          made bank.branch each.1.0.defined branch_counted,
+          made bank.branch each.1.0.defined refl,
           inr (
-            made bank.teller each.1.1.0.defined teller_counted,
+            made bank.teller each.1.1.0.defined refl,
             inr (
-              made bank.account each.1.1.1.0.defined account_counted,
+              made bank.account each.1.1.1.0.defined refl,
               inr (
-                made bank.history each.1.1.1.1.0.defined history_counted,
+                made bank.history each.1.1.1.1.0.defined refl,
                 inr (
-                  made bank.request each.1.1.1.1.1.0.defined request_counted,
+                  made bank.request each.1.1.1.1.1.0.defined refl,
                   inr (
-                    made bank.floor each.1.1.1.1.1.1.0.defined floor_counted,
-                    inr (made bank.reference each.1.1.1.1.1.1.1.0.defined reference_counted, refl),
+                    made bank.floor each.1.1.1.1.1.1.0.defined refl,
+                    inr (made bank.reference each.1.1.1.1.1.1.1.0.defined refl, refl),
                   ),
                 ),
               ),

@@ -48,8 +48,8 @@
 //! `bank_commands` do. So does a program after [`Fault::Store`], once it has released and closed the
 //! connection of the bank that is down.
 //!
-//! [`Counter::submit_all`] posts up to [`RECORDS_PER_BATCH`] records in one transaction. [`each_account`] and
-//! its ten neighbours walk over the rows, one `next` a row.
+//! [`Counter::submit_all`] posts up to [`RECORDS_PER_BATCH`] records in one transaction. [`each_row`] and
+//! its three neighbours walk over the rows, one `next` a row.
 //!
 //! Read next: [`Bank`], with what holds after each fault; [`Counter`], with the five calls; [`Walk`], to read
 //! the rows. `specs/believed/Seen` says what a bank shows, and the crate `bank_lives` what is found after a crash.
@@ -86,7 +86,4 @@ pub use walked_rows::{
     Joined, KeptRequest, StatedPosting, StoredAccount, StoredBranch, StoredFloor, StoredMeta,
     StoredPosting, StoredReference, StoredRequest, StoredTeller,
 };
-pub use walks::{
-    Walk, each_account, each_branch, each_floor, each_history, each_kept, each_meta,
-    each_reference, each_request, each_row, each_teller, history_of,
-};
+pub use walks::{Walk, each_account, each_history, each_row, history_of};

@@ -21,8 +21,7 @@ use sqlite::{Alter, Connection};
 use std::fmt;
 use store_rows::TableFault;
 use walked_rows::{
-    AHEAD, Joined, KeptRequest, StatedPosting, StoredAccount, StoredBranch, StoredFloor,
-    StoredMeta, StoredPosting, StoredReference, StoredRequest, StoredTeller, WalkedRow,
+    AHEAD, Joined, StatedPosting, StoredAccount, StoredPosting, StoredRequest, WalkedRow,
 };
 
 // How far a walk is: on its way, after its last row, or after a fault.
@@ -247,15 +246,9 @@ ghost use Rattle.bank_store.specs.contracts.bank.Bank.{the_row};
 ghost use Rattle.bank_store.specs.Walking.{BeginsWalk, loan_of};
 ghost use Rattle.walked_rows.specs.Pairs.{HasPairs, pair_key};
 ghost use Rattle.walked_rows.specs.Rows.{HasStoredRows, LEAST, entry_key};
-ghost use Rattle.walked_rows.specs.Stored.{account_entry, asked_pair, branch_entry, is_stated_of};
-ghost use Rattle.walked_rows.specs.Stored.{posted_pair, stated_pair, teller_entry};
-ghost use Rattle.store_rows.specs.believed.BankTables.{account as account_table, branch as branch_table};
-ghost use Rattle.store_rows.specs.believed.BankTables.{history as history_table, request as request_table};
-ghost use Rattle.store_rows.specs.believed.BankTables.{reference as reference_table, teller as teller_table};
-ghost use Rattle.store_rows.specs.believed.BankTables.{floor as floor_table, meta as meta_table};
-ghost use Rattle.walked_rows.specs.KeptRows.{HasKept, kept_item, kept_key};
-ghost use Rattle.walked_rows.specs.References.{listed_entry};
-ghost use Rattle.walked_rows.specs.StoredBeside.{floor_entry, meta_entry};
+ghost use Rattle.walked_rows.specs.Stored.{account_entry, is_stated_of, posted_pair, stated_pair};
+ghost use Rattle.store_rows.specs.believed.BankTables.{account as account_table, history as history_table};
+ghost use Rattle.store_rows.specs.believed.BankTables.{reference as reference_table, request as request_table};
 
 // Begins a walk over the rows of a kind, those of an account where one is named. The only fault is `Down`.
 fn begin_walk<S: Alter, R: WalkedRow>(
@@ -285,34 +278,6 @@ pub fn each_row<S: Alter, R: WalkedRow>(bank: &mut Bank<S>) -> Result<Walk<'_, S
         R.WalkedRow.HasItems None bank.entry.ghost_name bank.old result }
 {
     begin_walk(bank, None)
-}
-
-/// Begins a walk over the rows of `branch`, by the branch's number, with balances in cents (TPC-B 1.2).
-///
-/// # Errors
-///
-/// [`Fault::Down`] alone: a fault brought the bank down before. Nothing was tried.
-pub fn each_branch<S: Alter>(bank: &mut Bank<S>) -> Result<Walk<'_, S, StoredBranch>, Fault>
-    ensures* refused { sem 𝓛 (RestsIfErr (the_row S.row S.Store) bank.entry loan_of result
-        (λ last. last ≡ bank.old)) }
-    ensures begins { BeginsWalk S.Store entry_key branch_entry (λ of e. true)
-        (λ db rows. HasStoredRows db branch_table rows) None bank.entry.ghost_name bank.old result }
-{
-    each_row(bank)
-}
-
-/// Begins a walk over the rows of `teller`, by the teller's number, with balances in cents (TPC-B 1.2).
-///
-/// # Errors
-///
-/// [`Fault::Down`] alone: a fault brought the bank down before. Nothing was tried.
-pub fn each_teller<S: Alter>(bank: &mut Bank<S>) -> Result<Walk<'_, S, StoredTeller>, Fault>
-    ensures* refused { sem 𝓛 (RestsIfErr (the_row S.row S.Store) bank.entry loan_of result
-        (λ last. last ≡ bank.old)) }
-    ensures begins { BeginsWalk S.Store entry_key teller_entry (λ of e. true)
-        (λ db rows. HasStoredRows db teller_table rows) None bank.entry.ghost_name bank.old result }
-{
-    each_row(bank)
 }
 
 /// Begins a walk over the rows of `account`, by the account's number, with balances in cents (TPC-B 1.2).
@@ -349,24 +314,6 @@ pub fn history_of<S: Alter>(
     begin_walk(bank, Some(account))
 }
 
-/// Begins a walk over the kept requests: the rows of `request` in the order in which they were decided, each
-/// with the posting of its ordinal, if there is one.
-///
-/// # Errors
-///
-/// [`Fault::Down`] alone: a fault brought the bank down before. Nothing was tried.
-pub fn each_request<S: Alter>(
-    bank: &mut Bank<S>,
-) -> Result<Walk<'_, S, Joined<StoredRequest, StoredPosting>>, Fault>
-    ensures* refused { sem 𝓛 (RestsIfErr (the_row S.row S.Store) bank.entry loan_of result
-        (λ last. last ≡ bank.old)) }
-    ensures begins { BeginsWalk S.Store pair_key asked_pair (λ of p. true)
-        (λ db pairs. HasPairs db request_table history_table pairs) None bank.entry.ghost_name bank.old
-        result }
-{
-    each_row(bank)
-}
-
 /// Begins a walk over the postings: the rows of `history` in the order in which they were posted, each with
 /// the request of its ordinal, if there is one.
 ///
@@ -381,64 +328,6 @@ pub fn each_history<S: Alter>(
     ensures begins { BeginsWalk S.Store pair_key posted_pair (λ of p. true)
         (λ db pairs. HasPairs db history_table request_table pairs) None bank.entry.ghost_name bank.old
         result }
-{
-    each_row(bank)
-}
-
-/// Begins a walk over the rows of `meta`, of which a bank has one.
-///
-/// # Errors
-///
-/// [`Fault::Down`] alone: a fault brought the bank down before. Nothing was tried.
-pub fn each_meta<S: Alter>(bank: &mut Bank<S>) -> Result<Walk<'_, S, StoredMeta>, Fault>
-    ensures* refused { sem 𝓛 (RestsIfErr (the_row S.row S.Store) bank.entry loan_of result
-        (λ last. last ≡ bank.old)) }
-    ensures begins { BeginsWalk S.Store entry_key meta_entry (λ of e. true)
-        (λ db rows. HasStoredRows db meta_table rows) None bank.entry.ghost_name bank.old result }
-{
-    each_row(bank)
-}
-
-/// Begins a walk over the rows of `branch_floor`, by the branch's number: the lowest balances, in cents, that
-/// the accounts of branches may have.
-///
-/// # Errors
-///
-/// [`Fault::Down`] alone: a fault brought the bank down before. Nothing was tried.
-pub fn each_floor<S: Alter>(bank: &mut Bank<S>) -> Result<Walk<'_, S, StoredFloor>, Fault>
-    ensures* refused { sem 𝓛 (RestsIfErr (the_row S.row S.Store) bank.entry loan_of result
-        (λ last. last ≡ bank.old)) }
-    ensures begins { BeginsWalk S.Store entry_key floor_entry (λ of e. true)
-        (λ db rows. HasStoredRows db floor_table rows) None bank.entry.ghost_name bank.old result }
-{
-    each_row(bank)
-}
-
-/// Begins a walk over the rows of `request_reference`, by the ordinal of their requests.
-///
-/// # Errors
-///
-/// [`Fault::Down`] alone: a fault brought the bank down before. Nothing was tried.
-pub fn each_reference<S: Alter>(bank: &mut Bank<S>) -> Result<Walk<'_, S, StoredReference>, Fault>
-    ensures* refused { sem 𝓛 (RestsIfErr (the_row S.row S.Store) bank.entry loan_of result
-        (λ last. last ≡ bank.old)) }
-    ensures begins { BeginsWalk S.Store entry_key listed_entry (λ of e. true)
-        (λ db rows. HasStoredRows db reference_table rows) None bank.entry.ghost_name bank.old result }
-{
-    each_row(bank)
-}
-
-/// Begins a walk over the kept requests: the rows of `request` in the order in which they were decided, each
-/// with the posting and the reference of its ordinal, if there are such.
-///
-/// # Errors
-///
-/// [`Fault::Down`] alone: a fault brought the bank down before. Nothing was tried.
-pub fn each_kept<S: Alter>(bank: &mut Bank<S>) -> Result<Walk<'_, S, KeptRequest>, Fault>
-    ensures* refused { sem 𝓛 (RestsIfErr (the_row S.row S.Store) bank.entry loan_of result
-        (λ last. last ≡ bank.old)) }
-    ensures begins { BeginsWalk S.Store kept_key kept_item (λ of k. true) HasKept None bank.entry.ghost_name
-        bank.old result }
 {
     each_row(bank)
 }
