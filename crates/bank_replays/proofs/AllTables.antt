@@ -1,6 +1,5 @@
 -- The rows of two files are the same where they are in each table.
-use Rattle.std.proofs.Common.{◌≡◌, List, inl, inr, refl, subst, sym}
-use Rattle.std.specs.Prelude.{option_map}
+use Rattle.std.proofs.Common.{◌≡◌, List, inl, inr, subst, sym}
 use Rattle.sqlite.specs.{Effect.Database, Table.Table}
 use Rattle.sql_meanings.specs.believed.Entries.{Entry}
 use Rattle.store_rows.specs.believed.BankTables.{account, branch, floor, history, meta, reference, request, teller}
@@ -9,9 +8,8 @@ use Rattle.walked_rows.specs.Stored.{account_entry, branch_entry, posting_entry,
 use Rattle.walked_rows.specs.StoredBeside.{floor_entry, meta_entry}
 use Rattle.bank_replays.specs.declared.difference.Sides.{Sides}
 use Rattle.bank_replays.specs.Comparing.{Both, DiffersIn, Either, SameRows}
-use Rattle.bank_replays.specs.Differences.{DiffersBetween, TellsIn, due_in, rows_of, table_of}
+use Rattle.bank_replays.specs.Differences.{DiffersBetween, rows_of, table_of}
 use Rattle.bank_replays.specs.{FileTables.FileTables, FileTables.HasTables, FileTables.SameTables}
-use Rattle.bank_replays.specs.NextRows.{DifferFirst}
 use Rattle.bank_replays.specs.declared.difference.Difference.{Difference}
 use Rattle.bank_replays.specs.declared.difference.Difference.TheVariants.{Account, Branch, Floor, Meta, Posting}
 use Rattle.bank_replays.specs.declared.difference.Difference.TheVariants.{Reference, Request, Teller}
@@ -77,38 +75,15 @@ InAny = Either
     (Either (Either (OfTable reference listed_entry Reference) (OfTable history posting_entry Posting))
     (Either (OfTable account account_entry Account) (OfTable teller teller_entry Teller)))
 
-told_of : {R : Type 0} (table : Table) (entry : R → Entry) (difference : Sides R → Difference)
-    → ((s : Sides R) → TellsIn table (difference s) (option_map entry s.stands) (option_map entry s.due))
-    → (db other : Database) (d : Difference) → OfTable table entry difference db other d → DiffersBetween db other d
-told_of table entry difference tells db other d it =
-    subst (DiffersBetween db other) (sym it.says) (own (tells it.sides))
-  where
-    own : TellsIn table (difference it.sides) (option_map entry it.sides.stands) (option_map entry it.sides.due)
-        → DiffersBetween db other (difference it.sides)
-    own told rows others has has_due =
-        subst (λ stands. DifferFirst entry_key rows others stands (due_in (difference it.sides))) (sym told.stands_is)
-        (subst (λ due. DifferFirst entry_key rows others (option_map entry it.sides.stands) due) (sym told.due_is)
-        (it.are rows others
-        (subst (λ (t : Table). HasStoredRows db t rows) told.table_is has)
-        (subst (λ (t : Table). HasStoredRows other t others) told.table_is has_due)))
-
 pub any_differs : (db other : Database) (d : Difference) → InAny db other d → DiffersBetween db other d
-any_differs db other d (inl (inl (inl it))) =
-    told_of meta meta_entry Meta (λ s. record { table_is = refl; stands_is = refl; due_is = refl }) db other d it
-any_differs db other d (inl (inl (inr it))) =
-    told_of branch branch_entry Branch (λ s. record { table_is = refl; stands_is = refl; due_is = refl }) db other d it
-any_differs db other d (inl (inr (inl it))) =
-    told_of floor floor_entry Floor (λ s. record { table_is = refl; stands_is = refl; due_is = refl }) db other d it
-any_differs db other d (inl (inr (inr it))) =
-    told_of request request_entry Request (λ s. record { table_is = refl; stands_is = refl; due_is = refl }) db other d it
-any_differs db other d (inr (inl (inl it))) =
-    told_of reference listed_entry Reference (λ s. record { table_is = refl; stands_is = refl; due_is = refl }) db other d it
-any_differs db other d (inr (inl (inr it))) =
-    told_of history posting_entry Posting (λ s. record { table_is = refl; stands_is = refl; due_is = refl }) db other d it
-any_differs db other d (inr (inr (inl it))) =
-    told_of account account_entry Account (λ s. record { table_is = refl; stands_is = refl; due_is = refl }) db other d it
-any_differs db other d (inr (inr (inr it))) =
-    told_of teller teller_entry Teller (λ s. record { table_is = refl; stands_is = refl; due_is = refl }) db other d it
+any_differs db other d (inl (inl (inl it))) = subst (DiffersBetween db other) (sym it.says) it.are
+any_differs db other d (inl (inl (inr it))) = subst (DiffersBetween db other) (sym it.says) it.are
+any_differs db other d (inl (inr (inl it))) = subst (DiffersBetween db other) (sym it.says) it.are
+any_differs db other d (inl (inr (inr it))) = subst (DiffersBetween db other) (sym it.says) it.are
+any_differs db other d (inr (inl (inl it))) = subst (DiffersBetween db other) (sym it.says) it.are
+any_differs db other d (inr (inl (inr it))) = subst (DiffersBetween db other) (sym it.says) it.are
+any_differs db other d (inr (inr (inl it))) = subst (DiffersBetween db other) (sym it.says) it.are
+any_differs db other d (inr (inr (inr it))) = subst (DiffersBetween db other) (sym it.says) it.are
 
 -- the rows of its table are those of that table
 pub has_rows_of : (db : Database) (f : FileTables) → HasTables db f → (d : Difference)

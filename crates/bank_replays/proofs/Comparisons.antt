@@ -98,9 +98,6 @@ some_not_none x r is none = cc
 pub ok_not_err : {X E : Type 0} (x : X) (r : Result X E) (e : E) → r ≡ Ok x → r ≡ Err e → ⊥
 ok_not_err x r e is error = cc
 
-pub error_is : {X : Type 0} {r : Result X Fault} (e f : Fault) → r ≡ Err e → r ≡ Err f → e ≡ f
-error_is e f is other = cc
-
 pub one_difference : {E : Type 0} (d e : Difference)
     → (let r : Result (Option Difference) E = Ok (Some d) in r) ≡ Ok (Some e) → d ≡ e
 one_difference d e is = cc

@@ -1,12 +1,12 @@
 -- Records of kept rows, one row more, and those of a log.
-use Rattle.std.proofs.Common.{◌≡◌, ◌++◌, ℕ, Bool, true, false, cond, List, [], ◌∷◌, map, filter, Option, Result, Ok, Err}
+use Rattle.std.proofs.Common.{◌≡◌, ◌++◌, ℕ, true, List, [], ◌∷◌, map, Option, Result, Ok, Err}
 use Rattle.std.proofs.Common.{refl, sym, ap, subst, ◌∙◌, append-nil, append_assoc, inl, inr}
 use Rattle.std.specs.{Io.KnownBytes.Appends, Prelude.IfErr, Prelude.OnOk}
-use Rattle.std.specs.List.{AllByRecursion, flat_map}
-use Rattle.std.proofs.KnownBytes.{Appends-nil, Appends-trans}
-use Rattle.std.proofs.lemmas.List.{map-append, Concat.flat_map-append, Elements.filter-append}
+use Rattle.std.specs.List.{AllByRecursion}
+use Rattle.std.proofs.KnownBytes.{Appends-trans}
+use Rattle.std.proofs.lemmas.List.{map-append}
 use Rattle.report_contents.specs.Written.{AppendsPart}
-use Rattle.report_contents.proofs.Written.{first_part, later_failed, same_all, same_part, then_part}
+use Rattle.report_contents.proofs.Written.{later_failed, same_all, same_part, then_part}
 use Rattle.posting_core.specs.Told.{HasWriteFailed, WriteTold}
 use Rattle.posting_core.proofs.Telling.{more_more}
 use Rattle.posting_rules.specs.declared.fault.Fault.{Fault}
@@ -15,48 +15,19 @@ use Rattle.walked_rows.proofs.RisingRows.{all-append}
 use Rattle.message_records.specs.believed.Spelling.{request_spelling}
 use Rattle.walked_rows.specs.{KeptRows.BreaksKept, KeptRows.KeptItem, KeptRows.kept_item, declared.kept.KeptRequest.KeptRequest}
 use Rattle.posting_rules.specs.declared.fault.Rule.{Rule}
-use Rattle.bank_replays.specs.{Visiting.Bars, Visiting.Why, Refusing.RefusesExport}
+use Rattle.bank_replays.specs.{Visiting.AreTooMany, Visiting.Bars, Visiting.Why, Refusing.RefusesExport}
 use Rattle.walked_rows.specs.Requests.{IsRequestRow}
-use Rattle.bank_replays.specs.{Prefixes.memory_is, Prefixes.not_write}
+use Rattle.bank_replays.specs.Prefixes.{memory_is, not_write}
 use Rattle.walked_rows.specs.Requests.{request_in}
 use Rattle.bank_replays.specs.{Writing.is_after, Writing.records_after}
-use Rattle.bank_replays.specs.Writing.{BreaksExport, ExportsRows, IsExported, Puts, WroteRecords, WroteSomeRecords}
+use Rattle.bank_replays.specs.Writing.{BreaksExport, ExportsRows, IsExported, Puts, WhyNoMore, WroteRecords}
+use Rattle.bank_replays.specs.Writing.{WroteSomeRecords}
 use Rattle.bank_replays.specs.declared.fault.ReplayFault.{ReplayFault, TheVariants.Bank, TheVariants.Write}
+use Rattle.bank_replays.proofs.TextsAfter.{one_text, text_more, texts-append}
 use Rattle.bank_replays.proofs.Wrote.{end_part, end_wrote}
-
-not_both : (b : Bool) → b ≡ true → b ≡ false → ⊥
-not_both b t f = cc
 
 abbrev pub record_of : KeptItem → List ℕ
 record_of k = request_spelling (request_in k)
-
-module _ (after : ℕ) where
-  pub records-append : (xs ys : List KeptItem)
-      → records_after after (xs ++ ys) ≡ records_after after xs ++ records_after after ys
-  records-append xs ys =
-      ap (flat_map record_of) (filter-append (is_after after) xs ys)
-      ∙ flat_map-append record_of (filter (is_after after) xs) (filter (is_after after) ys)
-
-  pub one_record : (k : KeptItem) → is_after after k ≡ true → records_after after (k ∷ []) ≡ record_of k
-  one_record k is = ap (λ (b : Bool). flat_map record_of (cond b (k ∷ []) [])) is ∙ append-nil (record_of k)
-
-  pub no_record : (k : KeptItem) → is_after after k ≡ false → records_after after (k ∷ []) ≡ []
-  no_record k is = ap (λ (b : Bool). flat_map record_of (cond b (k ∷ []) [])) is
-
-  -- a row more
-  pub records_more : (rows : List KeptRequest) (row : KeptRequest)
-      → records_after after (map kept_item rows) ++ records_after after (kept_item row ∷ [])
-      ≡ records_after after (map kept_item (rows ++ row ∷ []))
-  records_more rows row =
-      sym (records-append (map kept_item rows) (kept_item row ∷ []))
-      ∙ ap (records_after after) (sym (map-append kept_item rows (row ∷ [])))
-
-  pub record_more : (rows : List KeptRequest) (row : KeptRequest) → is_after after (kept_item row) ≡ true
-      → records_after after (map kept_item rows) ++ record_of (kept_item row)
-      ≡ records_after after (map kept_item (rows ++ row ∷ []))
-  record_more rows row is =
-      ap (λ (t : List ℕ). records_after after (map kept_item rows) ++ t) (sym (one_record (kept_item row) is))
-      ∙ records_more rows row
 
 -- ---- what is left of the writer, one row more
 
@@ -66,20 +37,6 @@ module _ (after : ℕ) (rows : List KeptRequest) (row : KeptRequest) {old mid : 
   each_more is =
       subst (AllByRecursion (IsExported after)) (sym (map-append kept_item rows (row ∷ [])))
       (all-append (IsExported after) (map kept_item rows) (kept_item row ∷ []) visited.each (is, tt))
-
-  -- it isn't after the ordinal
-  pub records_past : is_after after (kept_item row) ≡ false
-      → WroteRecords after (map kept_item (rows ++ row ∷ [])) old mid t t'
-  records_past is = record {
-    wrote = (
-      same_all old mid
-          (sym (append-nil (records_after after (map kept_item rows)))
-          ∙ ap (λ (x : List ℕ). records_after after (map kept_item rows) ++ x) (sym (no_record after (kept_item row) is))
-          ∙ records_more after rows row) visited.wrote.0,
-      visited.wrote.1,
-    );
-    each = each_more (λ above. absurd (not_both (is_after after (kept_item row)) above is));
-  }
 
   -- it is that of no request
   pub records_refused : (fault : Fault) → (fault ≡ Memory → ⊥)
@@ -99,7 +56,7 @@ module _ (after : ℕ) (rows : List KeptRequest) (row : KeptRequest) {old mid : 
     records_put (Ok done) puts = record {
       wrote = (
         same_all old new
-            (ap (λ (x : List ℕ). records_after after (map kept_item rows) ++ x) same ∙ record_more after rows row is)
+            (ap (λ (x : List ℕ). records_after after (map kept_item rows) ++ x) same ∙ text_more record_of after rows row is)
             (Appends-trans old mid new (records_after after (map kept_item rows)) bytes visited.wrote.0 puts.text),
         more_more visited.wrote.1 puts.more,
       );
@@ -118,7 +75,7 @@ module _ (after : ℕ) (rows : List KeptRequest) (row : KeptRequest) {old mid : 
           wrote = (
             same_part old new
                 (ap (λ (x : List ℕ). records_after after (map kept_item rows) ++ x)
-                (same ∙ sym (one_record after (kept_item row) is)))
+                (same ∙ sym (one_text record_of after (kept_item row) is)))
                 (then_part old mid new (records_after after (map kept_item rows)) bytes visited.wrote.0 puts.text),
             later_failed visited.wrote.1 puts.failed,
           );
@@ -145,6 +102,17 @@ as_export after rule k (inr refused) = inr (
   λ request. refused.2.2 (subst IsRequestRow refused.1 request),
 )
 
+-- why a fault of the bank ended it
+no_more : (after : ℕ) (Failed WasDown : Type 0) (items coming : List KeptItem) (fault : Fault)
+    → ((let f : ReplayFault = Bank fault in f) ≡ Bank Memory → AreTooMany items)
+    → Why (Bars kept_item BreaksKept (RefusesExport after)) Failed WasDown coming (Bank fault)
+    → WhyNoMore after items coming (Err (Bank fault))
+no_more after Failed WasDown items coming Memory many why = many refl
+no_more after Failed WasDown items coming Store many why = tt
+no_more after Failed WasDown items coming Down many why = tt
+no_more after Failed WasDown items coming (Damaged rule) many why =
+    (why.0, why.1, why.2, as_export after rule why.0 why.3)
+
 module _ (after : ℕ) (all : List KeptItem) where
   -- a fault came at the next of the rows, or at none of them
   pub exports_part : (Failed WasDown : Type 0) {old new : Option (List ℕ)} {t t' : Option (List WriteTold)}
@@ -157,40 +125,16 @@ module _ (after : ℕ) (all : List KeptItem) where
     rest = rest;
     are = append_assoc items next rest ∙ are;
     each = all-append (IsExported after) items next part.each (part.last refl);
-    wrote = same_part old new (sym (records-append after items next)) part.wrote.0;
+    wrote = same_part old new (sym (texts-append record_of after items next)) part.wrote.0;
     why = tt;
   }
-  exports_part Failed WasDown {old} {new} items next rest are (Bank Memory) part why = record {
+  exports_part Failed WasDown {old} {new} items next rest are (Bank fault) part why = record {
     given = items;
     rest = next ++ rest;
     are = are;
     each = part.each;
     wrote = part.wrote.0;
-    why = part.many refl;
-  }
-  exports_part Failed WasDown {old} {new} items next rest are (Bank Store) part why = record {
-    given = items;
-    rest = next ++ rest;
-    are = are;
-    each = part.each;
-    wrote = part.wrote.0;
-    why = tt;
-  }
-  exports_part Failed WasDown {old} {new} items next rest are (Bank Down) part why = record {
-    given = items;
-    rest = next ++ rest;
-    are = are;
-    each = part.each;
-    wrote = part.wrote.0;
-    why = tt;
-  }
-  exports_part Failed WasDown {old} {new} items next rest are (Bank (Damaged rule)) part why = record {
-    given = items;
-    rest = next ++ rest;
-    are = are;
-    each = part.each;
-    wrote = part.wrote.0;
-    why = (why.0, why.1, why.2, as_export after rule why.0 why.3);
+    why = no_more after Failed WasDown items (next ++ rest) fault part.many why;
   }
 
   module _ {old mid new : Option (List ℕ)} {t t' : Option (List WriteTold)} (items : List KeptItem) (are : items ≡ all)
@@ -215,15 +159,3 @@ module _ (after : ℕ) (all : List KeptItem) where
       wrote = end_wrote old mid new (records_after after items) visited.wrote.0 end;
       why = refl;
     }
-
--- nothing was written
-pub exports_none : (after : ℕ) (all : List KeptItem) (w : Option (List ℕ)) → ExportsRows after all w w (Err (Bank Down))
-exports_none after all w =
-    record { given = []; rest = all; are = refl; each = tt; wrote = Appends-nil w; why = tt }
-
--- the records of the first rows are a prefix of those of all
-pub records_of_part : (old new : Option (List ℕ)) (after : ℕ) (items rest all : List KeptItem) → items ++ rest ≡ all
-    → AppendsPart old new (records_after after items) → AppendsPart old new (records_after after all)
-records_of_part old new after items rest all same part =
-    same_part old new (sym (records-append after items rest) ∙ ap (records_after after) same)
-    (first_part old new (records_after after items) (records_after after rest) part)

@@ -21,7 +21,7 @@ use Rattle.std.proofs.lemmas.List.Folds.{flat_map-map}
 use Rattle.bank_store.specs.KeptEntries.{answered_in}
 use Rattle.bank_store.proofs.LogEntries.{answered_since}
 use Rattle.bank_replays.proofs.Logged.{tells_after}
-use Rattle.bank_replays.proofs.Exported.{record_of, records_of_part}
+use Rattle.bank_replays.proofs.{Exported.record_of, TextsAfter.texts_part}
 use Rattle.bank_store.proofs.LogRows.{kept_of}
 
 -- the record of a request
@@ -44,7 +44,7 @@ module _ (db : Database) (t : Tables) (log : List Command) (in_file : Shows db t
         → AppendsPart old new (records_after after given) → AppendsPart old new (records_of after (answered_after log))
     part_log given rest are part =
         same_part old new records_log
-        (records_of_part old new after given rest (kept_of db t log in_file shows) are part)
+        (texts_part record_of after old new given rest (kept_of db t log in_file shows) are part)
 
     -- a log's are never cut short by damage
     pub writes_log : (result : Result (Unit {0}) ReplayFault)

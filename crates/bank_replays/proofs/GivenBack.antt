@@ -127,15 +127,6 @@ verdict_alike m m' r (Again first) es es' same = same
 verdict_alike m m' r (Refused outcome) es es' same = ap (λ l. unmoved (refused_entry m r outcome) ∷ l) same
 verdict_alike m m' r (Posted account teller branch) es es' same = ap (λ l. unmoved (posted_entry m r account) ∷ l) same
 
--- a record that the first bank didn't decide changes nothing
-unkept_alike : (m : ℕ) (r : RequestFields) (v : Verdict) (es : List DecidedRequest) → added_by m r v ≡ []
-    → with_verdict m r v es ≡ es
-unfolding added_by
-unkept_alike m r (Unkept outcome) es none = refl
-unkept_alike m r (Again first) es none = refl
-unkept_alike m r (Refused outcome) es none = absurd cc
-unkept_alike m r (Posted account teller branch) es none = absurd cc
-
 abbrev head_of : List ℕ → List (List ℕ) → List ℕ
 head_of d [] = d
 head_of d (x ∷ xs) = x

@@ -20,6 +20,7 @@ pub mod SoundLogs
 pub mod Digested
 pub mod InMemory
 pub mod Leaves
+pub mod TextsAfter
 pub mod Exported
 pub mod ExportedLog
 pub mod Logged

@@ -1,11 +1,8 @@
--- Entries of kept rows, one row more, and those of a log.
-use Rattle.std.proofs.Common.{◌≡◌, ◌<◌, ◌≤◌, ◌++◌, ℕ, Bool, true, false, cond, List, [], ◌∷◌, length, map, filter}
-use Rattle.std.proofs.Common.{drop, Option, Result, refl, sym, ap, subst, ◌∙◌, append-nil, arith}
+-- Entries of kept rows, and those of a log.
+use Rattle.std.proofs.Common.{◌≡◌, ◌<◌, ◌≤◌, ◌++◌, ℕ, true, false, List, [], ◌∷◌, length, map, filter}
+use Rattle.std.proofs.Common.{drop, Option, Result, refl, sym, ap, subst, ◌∙◌, arith}
 use Rattle.std.specs.Prelude.{ℤ, pos, int_lt, nat_abs, get_or, IfOk}
-use Rattle.std.specs.List.{flat_map}
-use Rattle.std.proofs.lemmas.{Int.ints, List.Concat.flat_map-append, List.Elements.filter-append}
-use Rattle.std.proofs.lemmas.{List.Folds.flat_map-map, Result.IfOk-weaker}
-use Rattle.std.proofs.lemmas.List.{map-append}
+use Rattle.std.proofs.lemmas.{Int.ints, List.Folds.flat_map-map, Result.IfOk-weaker}
 use Rattle.sqlite.specs.Effect.{Database}
 use Rattle.posting_rules.specs.believed.{Commands.Command, Entries.decided}
 use Rattle.posting_rules.specs.believed.Tables.{AreTablesOf, Tables}
@@ -20,9 +17,6 @@ use Rattle.store_rows.specs.declared.metas.TheConstants.{VERSION}
 use Rattle.walked_rows.proofs.Shown.{has_meta}
 use Rattle.walked_rows.specs.{OnlyMeta.bank_entry, Rows.HasStoredRows, StoredBeside.meta_entry}
 use Rattle.walked_rows.specs.declared.metas.StoredMeta.{StoredMeta}
-use Rattle.walked_rows.specs.{KeptRows.KeptItem, KeptRows.kept_item, declared.kept.KeptRequest.KeptRequest}
-use Rattle.report_contents.specs.Written.{AppendsPart}
-use Rattle.report_contents.proofs.Written.{first_part, same_part}
 use Rattle.bank_replays.specs.{declared.fault.ReplayFault.ReplayFault}
 use Rattle.bank_replays.specs.Logs.{LogsEntries, LogsRows, decided_in, entries_after}
 use Rattle.bank_replays.specs.Logs.{without_count}
@@ -30,42 +24,6 @@ use Rattle.bank_replays.specs.Writing.{WritesText, is_after}
 use Rattle.bank_store.specs.KeptEntries.{entry_in}
 use Rattle.bank_store.proofs.LogRows.{kept_of}
 use Rattle.bank_store.proofs.LogEntries.{TellsAfter, entries_length, entries_since, kept_length}
-
--- ---- a row more
-
-module _ (after : ℕ) where
-  pub entries-append : (xs ys : List KeptItem)
-      → entries_after after (xs ++ ys) ≡ entries_after after xs ++ entries_after after ys
-  entries-append xs ys =
-      ap (flat_map entry_in) (filter-append (is_after after) xs ys)
-      ∙ flat_map-append entry_in (filter (is_after after) xs) (filter (is_after after) ys)
-
-  pub one_entry : (k : KeptItem) → is_after after k ≡ true → entries_after after (k ∷ []) ≡ entry_in k
-  one_entry k is = ap (λ (b : Bool). flat_map entry_in (cond b (k ∷ []) [])) is ∙ append-nil (entry_in k)
-
-  no_entry : (k : KeptItem) → is_after after k ≡ false → entries_after after (k ∷ []) ≡ []
-  no_entry k is = ap (λ (b : Bool). flat_map entry_in (cond b (k ∷ []) [])) is
-
-  pub entries_more : (rows : List KeptRequest) (row : KeptRequest)
-      → entries_after after (map kept_item rows) ++ entries_after after (kept_item row ∷ [])
-      ≡ entries_after after (map kept_item (rows ++ row ∷ []))
-  entries_more rows row =
-      sym (entries-append (map kept_item rows) (kept_item row ∷ []))
-      ∙ ap (entries_after after) (sym (map-append kept_item rows (row ∷ [])))
-
-  pub entry_more : (rows : List KeptRequest) (row : KeptRequest) → is_after after (kept_item row) ≡ true
-      → entries_after after (map kept_item rows) ++ entry_in (kept_item row)
-      ≡ entries_after after (map kept_item (rows ++ row ∷ []))
-  entry_more rows row is =
-      ap (λ (t : List ℕ). entries_after after (map kept_item rows) ++ t) (sym (one_entry (kept_item row) is))
-      ∙ entries_more rows row
-
--- the entries of the first rows are a prefix of those of all
-pub entries_of_part : (old new : Option (List ℕ)) (after : ℕ) (items rest all : List KeptItem) → items ++ rest ≡ all
-    → AppendsPart old new (entries_after after items) → AppendsPart old new (entries_after after all)
-entries_of_part old new after items rest all same part =
-    same_part old new (sym (entries-append after items rest) ∙ ap (entries_after after) same)
-    (first_part old new (entries_after after items) (entries_after after rest) part)
 
 -- ---- of a log
 

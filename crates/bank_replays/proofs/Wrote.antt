@@ -7,7 +7,7 @@ use Rattle.posting_core.specs.Told.{HasMore, HasWriteFailed, IsFlush, WriteTold}
 use Rattle.posting_core.proofs.Telling.{more_last, more_more}
 use Rattle.posting_rules.specs.declared.{fault.Fault.Fault, fault.Rule.Rule}
 use Rattle.report_contents.specs.Written.{AppendsPart}
-use Rattle.report_contents.proofs.Written.{first_part, later_failed, same_all, same_part, then_part}
+use Rattle.report_contents.proofs.Written.{later_failed, same_all, same_part, then_part}
 use Rattle.bank_replays.specs.Visiting.{IsRefusal}
 use Rattle.bank_replays.specs.Writing.{LeavesWriter, Puts, Wrote, WrotePart}
 use Rattle.bank_replays.specs.declared.fault.ReplayFault.{ReplayFault, TheVariants.Bank, TheVariants.Write}
@@ -34,11 +34,6 @@ pub writer_refuses : (Breaks : Rule → Type 0) (result : Result (Unit {0}) Repl
     → IfErr result (λ fault. fault ≡ Write) → IfErr result (IsRefusal Breaks)
 writer_refuses Breaks (Ok done) only = tt
 writer_refuses Breaks (Err fault) only = rw only tt
-
--- what was written is a prefix of more
-pub part_of : (old new : Option (List ℕ)) {t t' : Option (List WriteTold)} {fault : ReplayFault} (a b text : List ℕ)
-    → a ++ b ≡ text → WrotePart a old new t t' fault → WrotePart text old new t t' fault
-part_of old new a b text same part = (same_part old new same (first_part old new a b part.0), part.1)
 
 -- ---- the end
 

@@ -1,5 +1,5 @@
 -- What a difference says: a table, what stands there under a key, and what is due.
-use Rattle.std.specs.Prelude.{◌≡◌, List, Option, option_map}
+use Rattle.std.specs.Prelude.{List, Option, option_map}
 use Rattle.sqlite.specs.Effect.{Database}
 use Rattle.sqlite.specs.Table.{Table}
 use Rattle.posting_rules.specs.believed.Commands.{Command}
@@ -59,12 +59,6 @@ due_in (Posting s) = option_map posting_entry s.due
 due_in (Request s) = option_map request_entry s.due
 due_in (Floor s) = option_map floor_entry s.due
 due_in (Reference s) = option_map listed_entry s.due
-
--- it is of this table, and says these rows
-pub record TellsIn (table : Table) (d : Difference) (stands due : Option Entry) : Type 0 where
-  pub table_is : table_of d ≡ table
-  pub stands_is : stands_in d ≡ stands
-  pub due_is : due_in d ≡ due
 
 -- the first rows of its table in which these and those of a bank with some log differ
 pub record DiffersFrom (rows : List Entry) (d : Difference) : Type 0 where

@@ -2,7 +2,11 @@
 ghost use Rattle.std.specs.Prelude.{◌≡◌, ◌≢◌, ◌↔◌, pos, List, IsTrue, Some};
 ghost use Rattle.sqlite.specs.Effect.{Database};
 ghost use Rattle.bank_replays.specs.Damaged.{AreHeld};
+ghost use Rattle.bank_replays.specs.Holding.{accounts_held, branches_held, floors_held, history_held, metas_held};
+ghost use Rattle.bank_replays.specs.Holding.{references_held, requests_held, tellers_held};
 ghost use Rattle.bank_replays.specs.NextRows.{AreFirst, HaveRisingKeys, Sets};
+ghost use Rattle.bank_replays.specs.declared.difference.Difference.TheVariants.{Account, Branch, Floor, Meta, Posting};
+ghost use Rattle.bank_replays.specs.declared.difference.Difference.TheVariants.{Reference, Request, Teller};
 
 use crate::difference::{Difference, Sides};
 use crate::visitors::SmallRow;
@@ -94,9 +98,6 @@ pub(crate) fn compare_next<R: Compared>(stands: Option<R>, due: Option<R>) -> St
 }
 
 impl Compared for StoredMeta {
-    ghost use Rattle.bank_replays.specs.Holding.{metas_held};
-    ghost use Rattle.bank_replays.specs.declared.difference.Difference.TheVariants.{Meta};
-
     ghost Says = { λ d s. d ≡ Meta s };
 
     ghost held = { metas_held };
@@ -119,9 +120,6 @@ impl Compared for StoredMeta {
 }
 
 impl Compared for StoredBranch {
-    ghost use Rattle.bank_replays.specs.Holding.{branches_held};
-    ghost use Rattle.bank_replays.specs.declared.difference.Difference.TheVariants.{Branch};
-
     ghost Says = { λ d s. d ≡ Branch s };
 
     ghost held = { branches_held };
@@ -144,9 +142,6 @@ impl Compared for StoredBranch {
 }
 
 impl Compared for StoredTeller {
-    ghost use Rattle.bank_replays.specs.Holding.{tellers_held};
-    ghost use Rattle.bank_replays.specs.declared.difference.Difference.TheVariants.{Teller};
-
     ghost Says = { λ d s. d ≡ Teller s };
 
     ghost held = { tellers_held };
@@ -169,9 +164,6 @@ impl Compared for StoredTeller {
 }
 
 impl Compared for StoredAccount {
-    ghost use Rattle.bank_replays.specs.Holding.{accounts_held};
-    ghost use Rattle.bank_replays.specs.declared.difference.Difference.TheVariants.{Account};
-
     ghost Says = { λ d s. d ≡ Account s };
 
     ghost held = { accounts_held };
@@ -194,9 +186,6 @@ impl Compared for StoredAccount {
 }
 
 impl Compared for StoredPosting {
-    ghost use Rattle.bank_replays.specs.Holding.{history_held};
-    ghost use Rattle.bank_replays.specs.declared.difference.Difference.TheVariants.{Posting};
-
     ghost Says = { λ d s. d ≡ Posting s };
 
     ghost held = { history_held };
@@ -219,9 +208,6 @@ impl Compared for StoredPosting {
 }
 
 impl Compared for StoredRequest {
-    ghost use Rattle.bank_replays.specs.Holding.{requests_held};
-    ghost use Rattle.bank_replays.specs.declared.difference.Difference.TheVariants.{Request};
-
     ghost Says = { λ d s. d ≡ Request s };
 
     ghost held = { requests_held };
@@ -244,9 +230,6 @@ impl Compared for StoredRequest {
 }
 
 impl Compared for StoredFloor {
-    ghost use Rattle.bank_replays.specs.Holding.{floors_held};
-    ghost use Rattle.bank_replays.specs.declared.difference.Difference.TheVariants.{Floor};
-
     ghost Says = { λ d s. d ≡ Floor s };
 
     ghost held = { floors_held };
@@ -269,9 +252,6 @@ impl Compared for StoredFloor {
 }
 
 impl Compared for StoredReference {
-    ghost use Rattle.bank_replays.specs.Holding.{references_held};
-    ghost use Rattle.bank_replays.specs.declared.difference.Difference.TheVariants.{Reference};
-
     ghost Says = { λ d s. d ≡ Reference s };
 
     ghost held = { references_held };

@@ -1,5 +1,5 @@
 //! The log of a bank: an entry of each kept request.
-ghost use Rattle.std.specs.Prelude.{◌≡◌, ◌++◌, ◌∷◌, [], ℤ, pos, List, Err, IfOk, OnOk, length, map, ⊤};
+ghost use Rattle.std.specs.Prelude.{◌≡◌, ◌++◌, ◌∷◌, [], ℤ, pos, List, Err, IfOk, OnOk, length, map};
 ghost use Rattle.sqlite.specs.State.{HasCleanDisk};
 ghost use Rattle.posting_rules.specs.believed.Commands.{Command};
 ghost use Rattle.posting_rules.specs.believed.Counter.{ShowsLog};
@@ -140,10 +140,6 @@ impl Visitor<StoredMeta, StoredMeta> for LastMeta {
     ghost use Rattle.bank_replays.specs.Holding.{bars_held, metas_held};
 
     ghost Visited = { λ visitor first last rows. last.decided ≡ decided_in first.decided rows };
-
-    ghost Part = { λ visitor first last rows next fault. ⊤ };
-
-    ghost Refuses = { λ visitor rule row. ⊥ };
 
     ghost none_yet = { λ visitor last. refl };
 

@@ -1,5 +1,5 @@
 //! The open branches as a plan.
-ghost use Rattle.std.specs.Prelude.{◌≡◌, ◌≢◌, ◌≤◌, ◌+◌, ◌++◌, List, Err, IfOk, length, map, option_map, ⊤};
+ghost use Rattle.std.specs.Prelude.{◌≡◌, ◌≢◌, ◌≤◌, ◌+◌, ◌++◌, List, Err, IfOk, length, map, option_map};
 ghost use Rattle.sqlite.specs.State.{HasCleanDisk};
 ghost use Rattle.posting_rules.specs.believed.Commands.{Command};
 ghost use Rattle.posting_rules.specs.believed.Counter.{ShowsLog};
@@ -79,10 +79,6 @@ impl Visitor<StoredFloor, Vec<StoredFloor>> for Listing {
 
     ghost Visited = { λ visitor first last rows. last.items ≡ first.items ++ rows };
 
-    ghost Part = { λ visitor first last rows next fault. ⊤ };
-
-    ghost Refuses = { λ visitor rule row. ⊥ };
-
     ghost none_yet = { λ visitor floors. sym (append-nil floors.items) };
 
     ghost in_part = { λ visitor first last rows fault many visited. tt };
@@ -124,8 +120,6 @@ impl<W: Sink> Visitor<StoredBranch, W> for Lines {
         WrotePart (plan_lines (map floor_entry visitor.floors.items) (map branch_entry rows)
         ++ plan_lines (map floor_entry visitor.floors.items) (refused_of branch_entry next))
         (W.contents first) (W.contents last) (W.told first) (W.told last) fault };
-
-    ghost Refuses = { λ visitor rule row. ⊥ };
 
     ghost none_yet = { λ visitor writer. wrote_none (W.contents writer) (W.told writer) };
 

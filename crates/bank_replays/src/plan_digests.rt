@@ -1,5 +1,5 @@
 //! The digest of the plan that the open branches are.
-ghost use Rattle.std.specs.Prelude.{◌++◌, ℕ, List, IfOk, map, ⊤};
+ghost use Rattle.std.specs.Prelude.{◌++◌, ℕ, List, IfOk, map};
 ghost use Rattle.sqlite.specs.State.{HasCleanDisk};
 ghost use Rattle.sha2.specs.Hashers.{Holds256};
 ghost use Rattle.walked_rows.specs.Stored.{branch_entry};
@@ -31,10 +31,6 @@ impl Visitor<StoredBranch, Sha256> for Hashing {
 
     ghost Visited = { λ visitor first last rows. (message : List ℕ) → Holds256 first message
         → Holds256 last (message ++ plan_lines (map floor_entry visitor.lines.floors.items) (map branch_entry rows)) };
-
-    ghost Part = { λ visitor first last rows next fault. ⊤ };
-
-    ghost Refuses = { λ visitor rule row. ⊥ };
 
     ghost none_yet = { λ visitor hasher. hashed_none hasher };
 

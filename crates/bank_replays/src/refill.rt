@@ -1,6 +1,6 @@
 //! A second bank, filled with what the rows of a bank say. It may be filled with anything: whatever it is
 //! given, its tables are those of a log. Given the rows of a log, it shows one with the same rows.
-ghost use Rattle.std.specs.Prelude.{◌≤◌, ◌<◌, ◌≡◌, ◌∷◌, [], ℕ, pos, List, Option, IfErr, IfOk, OnOk, length, set, ⊤};
+ghost use Rattle.std.specs.Prelude.{◌≤◌, ◌<◌, ◌≡◌, ◌∷◌, [], ℕ, pos, List, Option, IfErr, IfOk, OnOk, length, set};
 ghost use Rattle.message_records.specs.believed.Outcomes.{code_of};
 ghost use Rattle.message_records.specs.declared.records.Outcome.{Outcome as OfOutcome};
 ghost use Rattle.posting_rules.specs.believed.Commands.{Command, IsCommand, Open, Terms, opened_with};
@@ -268,10 +268,6 @@ impl<T: Alter + Drop, W: Watch + Drop> Visitor<StoredBranch, Refill<T, W>> for F
     ghost Visited = { λ visitor first last rows. (ShowsSome T.Store first.bank → ShowsSome T.Store last.bank)
         × Plans T.Store (λ r. r.branch) with_accounts first last rows };
 
-    ghost Part = { λ visitor first last rows next fault. ⊤ };
-
-    ghost Refuses = { λ visitor rule row. ⊥ };
-
     ghost none_yet = { λ visitor refill. (λ some. some, plans_none (λ r. r.branch) with_accounts refill) };
 
     ghost in_part = { λ visitor first last rows fault many visited. tt };
@@ -297,10 +293,6 @@ impl<T: Alter + Drop, W: Watch + Drop> Visitor<StoredFloor, Refill<T, W>> for Fi
 
     ghost Visited = { λ visitor first last rows. (ShowsSome T.Store first.bank → ShowsSome T.Store last.bank)
         × Plans T.Store (λ r. r.branch) with_floor first last rows };
-
-    ghost Part = { λ visitor first last rows next fault. ⊤ };
-
-    ghost Refuses = { λ visitor rule row. ⊥ };
 
     ghost none_yet = { λ visitor refill. (λ some. some, plans_none (λ r. r.branch) with_floor refill) };
 
@@ -337,10 +329,6 @@ impl<T: Alter + Drop, W: Watch + Drop> Visitor<KeptRequest, Refill<T, W>> for Fi
 
     ghost Visited = { λ visitor first last rows. (ShowsSome T.Store first.bank → ShowsSome T.Store last.bank)
         × FollowsRows T.Store first last (map kept_item rows) };
-
-    ghost Part = { λ visitor first last rows next fault. ⊤ };
-
-    ghost Refuses = { λ visitor rule row. ⊥ };
 
     ghost none_yet = { λ visitor refill. (λ some. some, follows_none refill) };
 

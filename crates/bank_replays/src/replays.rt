@@ -73,32 +73,6 @@ fn refilled<S: Alter, T: Alter + Drop, W: Watch + Drop>(
     }
 }
 
-// Replays a bank beside a second one, whose store is never in doubt.
-fn replay_beside<S: Alter, T: Alter + Drop, W: Watch + Drop>(
-    bank: &mut Bank<S>,
-    due: Bank<T>,
-    watch: W,
-) -> Result<Replay, Fault>
-    requires clean { IsNeverInDoubt T.Store }
-    requires shows { ShowsLog (bank_seen T.Store due) [] }
-    ensures bank { ReadsBank S.Store bank.old bank.new result }
-    ensures why { TellsWhy S.Store (λ fault. fault) bank.old bank.new result }
-    ensures compared { HasLookedAtRows result }
-    ensures agrees { HasCleanDisk (file_of bank.new) → (f : FileTables)
-        → HasTables (database_of S.Store bank.old) f
-        → OnAgrees result (λ d. (log : List Command) × ShowsLog (bank_seen S.Store bank.old) log) }
-    ensures digest { HasCleanDisk (file_of bank.new) → OnAgrees result (AreDigestsIn (database_of S.Store bank.old)) }
-    ensures differs { HasCleanDisk (file_of bank.new) → OnDiffers result (λ d. (rows : List Entry)
-        → HasStoredRows (database_of S.Store bank.old) (table_of d) rows → DiffersFrom rows d) }
-    ensures same { HasCleanDisk (file_of bank.new) → OnDiffers result (λ d. IsOfNoLog (bank_seen S.Store bank.old)) }
-{
-    let mut due = refilled(bank, due, watch)?;
-    if let Some(difference) = compare_all(bank, &mut due)? {
-        return Ok(Replay::Differs(difference));
-    }
-    Ok(Replay::Agrees(digest_both(bank)?))
-}
-
 // The digests of a bank.
 fn digest_both<S: Alter>(bank: &mut Bank<S>) -> Result<Agreed, Fault>
     ensures bank { ReadsBank S.Store bank.old bank.new result }
@@ -146,8 +120,12 @@ fn replay_over<S: Alter, T: Alter + Drop, W: Watch + Drop>(
         → HasStoredRows (database_of S.Store bank.old) (table_of d) rows → DiffersFrom rows d) }
     ensures same { HasCleanDisk (file_of bank.new) → OnDiffers result (λ d. IsOfNoLog (bank_seen S.Store bank.old)) }
 {
-    let due = new_bank(bank.alloc(), conn)?;
-    replay_beside(bank, due, watch)
+    let empty = new_bank(bank.alloc(), conn)?;
+    let mut due = refilled(bank, empty, watch)?;
+    if let Some(difference) = compare_all(bank, &mut due)? {
+        return Ok(Replay::Differs(difference));
+    }
+    Ok(Replay::Agrees(digest_both(bank)?))
 }
 
 // How the second bank is held. Its files lie in memory, so that its log is copied back early.

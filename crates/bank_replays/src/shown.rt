@@ -1,6 +1,8 @@
 //! The text of a difference.
-ghost use Rattle.std.specs.Prelude.{◌≡◌, ◌≤◌, ◌+◌, ◌++◌, ℕ, List, codes, find, pos, length};
+ghost use Rattle.std.specs.Prelude.{◌≡◌, ◌≤◌, ◌+◌, ◌++◌, ℕ, List, codes, find, pos, length, refl};
 ghost use Rattle.std.specs.Fmt.{decimal};
+ghost use Rattle.bank_replays.specs.DifferenceText.{both_accounts, both_branches, both_floors, both_metas};
+ghost use Rattle.bank_replays.specs.DifferenceText.{both_postings, both_references, both_requests, both_tellers};
 ghost use Rattle.bank_replays.specs.DifferenceText.{column_of, difference_text, first_text, is_different, name_text};
 ghost use Rattle.bank_replays.specs.DifferenceText.{sides_text};
 
@@ -201,9 +203,6 @@ impl fmt::Display for Difference {
 }
 
 impl Shown for StoredMeta {
-    ghost use Rattle.std.specs.Prelude.{codes, refl};
-    ghost use Rattle.bank_replays.specs.DifferenceText.{both_metas};
-
     ghost word = { codes "meta" };
 
     ghost under = { λ r. r.id };
@@ -226,9 +225,6 @@ impl Shown for StoredMeta {
 }
 
 impl Shown for StoredBranch {
-    ghost use Rattle.std.specs.Prelude.{codes, refl};
-    ghost use Rattle.bank_replays.specs.DifferenceText.{both_branches};
-
     ghost word = { codes "branch" };
 
     ghost under = { λ r. r.branch };
@@ -255,9 +251,6 @@ impl Shown for StoredBranch {
 }
 
 impl Shown for StoredTeller {
-    ghost use Rattle.std.specs.Prelude.{codes, refl};
-    ghost use Rattle.bank_replays.specs.DifferenceText.{both_tellers};
-
     ghost word = { codes "teller" };
 
     ghost under = { λ r. r.teller };
@@ -277,9 +270,6 @@ impl Shown for StoredTeller {
 }
 
 impl Shown for StoredAccount {
-    ghost use Rattle.std.specs.Prelude.{codes, refl};
-    ghost use Rattle.bank_replays.specs.DifferenceText.{both_accounts};
-
     ghost word = { codes "account" };
 
     ghost under = { λ r. r.account };
@@ -299,9 +289,6 @@ impl Shown for StoredAccount {
 }
 
 impl Shown for StoredPosting {
-    ghost use Rattle.std.specs.Prelude.{codes, refl};
-    ghost use Rattle.bank_replays.specs.DifferenceText.{both_postings};
-
     ghost word = { codes "posting" };
 
     ghost under = { λ r. r.ordinal };
@@ -331,9 +318,6 @@ impl Shown for StoredPosting {
 }
 
 impl Shown for StoredRequest {
-    ghost use Rattle.std.specs.Prelude.{codes, refl};
-    ghost use Rattle.bank_replays.specs.DifferenceText.{both_requests};
-
     ghost word = { codes "request" };
 
     ghost under = { λ r. r.ordinal };
@@ -361,9 +345,6 @@ impl Shown for StoredRequest {
 }
 
 impl Shown for StoredFloor {
-    ghost use Rattle.std.specs.Prelude.{codes, refl};
-    ghost use Rattle.bank_replays.specs.DifferenceText.{both_floors};
-
     ghost word = { codes "floor" };
 
     ghost under = { λ r. r.branch };
@@ -383,9 +364,6 @@ impl Shown for StoredFloor {
 }
 
 impl Shown for StoredReference {
-    ghost use Rattle.std.specs.Prelude.{codes, refl};
-    ghost use Rattle.bank_replays.specs.DifferenceText.{both_references};
-
     ghost word = { codes "reference" };
 
     ghost under = { λ r. r.ordinal };

@@ -1,5 +1,6 @@
 //! Rows of a bank that are visited one by one.
 ghost use Rattle.std.specs.Prelude.{◌≡◌, ◌++◌, ◌∷◌, [], List, Some, None, IfErr, OnOk};
+ghost use Rattle.std.proofs.Common.{lit<};
 ghost use Rattle.sqlite.specs.State.{HasCleanDisk};
 ghost use Rattle.bank_store.specs.Failures.{HasFailedToRead};
 ghost use Rattle.bank_store.specs.Room.{TakesFewBytes};
@@ -26,7 +27,7 @@ pub(crate) trait SmallRow: WalkedRow {
 
 /// What is done with each row of a kind, one after another, and what comes of it in a target.
 pub(crate) trait Visitor<R: WalkedRow, V> {
-    ghost use Rattle.std.specs.Prelude.{Option};
+    ghost use Rattle.std.specs.Prelude.{Option, ⊤};
     ghost use Rattle.bank_replays.specs.declared.fault.ReplayFault.{ReplayFault};
     ghost use Rattle.posting_rules.specs.declared.fault.Fault.{Fault};
     ghost use Rattle.posting_rules.specs.declared.fault.Fault.TheVariants.{Memory};
@@ -36,10 +37,10 @@ pub(crate) trait Visitor<R: WalkedRow, V> {
     ghost Visited: { Self → V → V → List R → Type 0 };
 
     /// It went there by visits to these rows, and then this fault came: at the next row, if there is one.
-    ghost Part: { Self → V → V → List R → Option R → ReplayFault → Type 0 };
+    ghost Part: { Self → V → V → List R → Option R → ReplayFault → Type 0 } = { λ visitor first last rows next fault. ⊤ };
 
     /// The row isn't accepted, by this rule.
-    ghost Refuses: { Self → Rule → R → Type 0 };
+    ghost Refuses: { Self → Rule → R → Type 0 } = { λ visitor rule row. ⊥ };
 
     /// Visits one row more.
     fn visit(&self, row: R, target: &mut V) -> Result<(), ReplayFault>
@@ -130,55 +131,37 @@ pub(crate) fn visit_all<S: Alter, R: SmallRow, V, P: Visitor<R, V>>(
 }
 
 impl SmallRow for StoredMeta {
-    ghost use Rattle.std.proofs.Common.{lit<};
-
     ghost few_bytes = { (lit< tt, lit< tt) };
 }
 
 impl SmallRow for StoredBranch {
-    ghost use Rattle.std.proofs.Common.{lit<};
-
     ghost few_bytes = { (lit< tt, lit< tt) };
 }
 
 impl SmallRow for StoredTeller {
-    ghost use Rattle.std.proofs.Common.{lit<};
-
     ghost few_bytes = { (lit< tt, lit< tt) };
 }
 
 impl SmallRow for StoredAccount {
-    ghost use Rattle.std.proofs.Common.{lit<};
-
     ghost few_bytes = { (lit< tt, lit< tt) };
 }
 
 impl SmallRow for StoredPosting {
-    ghost use Rattle.std.proofs.Common.{lit<};
-
     ghost few_bytes = { (lit< tt, lit< tt) };
 }
 
 impl SmallRow for StoredRequest {
-    ghost use Rattle.std.proofs.Common.{lit<};
-
     ghost few_bytes = { (lit< tt, lit< tt) };
 }
 
 impl SmallRow for StoredFloor {
-    ghost use Rattle.std.proofs.Common.{lit<};
-
     ghost few_bytes = { (lit< tt, lit< tt) };
 }
 
 impl SmallRow for StoredReference {
-    ghost use Rattle.std.proofs.Common.{lit<};
-
     ghost few_bytes = { (lit< tt, lit< tt) };
 }
 
 impl SmallRow for KeptRequest {
-    ghost use Rattle.std.proofs.Common.{lit<};
-
     ghost few_bytes = { (lit< tt, lit< tt) };
 }

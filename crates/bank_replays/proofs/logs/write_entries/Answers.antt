@@ -6,7 +6,8 @@ use Rattle.walked_rows.specs.KeptRows.{KeptItem, kept_item}
 use Rattle.report_contents.proofs.Written.{later_failed, same_all, same_part, whole_part}
 use Rattle.bank_replays.specs.{Visiting.refused_of, Logs.entries_after}
 use Rattle.bank_replays.specs.declared.fault.ReplayFault.TheVariants.{Write}
-use Rattle.bank_replays.proofs.{Visits.whole, Logged.entries-append, Logged.entries_of_part}
+use Rattle.bank_store.specs.KeptEntries.{entry_in}
+use Rattle.bank_replays.proofs.{TextsAfter.texts-append, TextsAfter.texts_part, Visits.whole}
 use Rattle.bank_replays.proofs.Wrote.{bank_err, end_part, end_wrote, writer_err, writer_ok}
 use Rattle.bank_replays.proofs.logs.write_entries.Goals as goal
 
@@ -19,8 +20,8 @@ returns-in_err-count-clause-rows g c clean all has =
     let given = map kept_item it.0 in
     let next = refused_of kept_item it.1 in
     rw same (record {
-      text = entries_of_part _ _ c.args.after (given ++ next) more.0 all (append_assoc given next more.0 ∙ more.1)
-          (same_part _ _ (sym (entries-append c.args.after given next)) it.2.0);
+      text = texts_part entry_in c.args.after _ _ (given ++ next) more.0 all (append_assoc given next more.0 ∙ more.1)
+          (same_part _ _ (sym (texts-append entry_in c.args.after given next)) it.2.0);
       kept = tt;
     })
 
@@ -36,7 +37,7 @@ returns-then-count-clause-rows g c clean all has =
     let most = 2 ^ 64 - 1 in
     let are = ap (λ (l : List KeptItem). l ++ drop most all) (it.3 clean all has) ∙ take-append-drop most all in
     record {
-      text = entries_of_part _ _ c.args.after (map kept_item it.0) (drop most all) all are
+      text = texts_part entry_in c.args.after _ _ (map kept_item it.0) (drop most all) all are
           (whole_part _ _ (entries_after c.args.after (map kept_item it.0)) it.1.0);
       kept = tt;
     }

@@ -15,10 +15,6 @@ not_not : (b : Bool) → not b ≡ false → b ≡ true
 not_not true is = refl
 not_not false is = sym is
 
-not_so : (b : Bool) → not b ≡ true → b ≡ false
-not_so true is = sym is
-not_so false is = refl
-
 pub returns-in_default-clause-part : goal.returns-in_default-clause-part
 returns-in_default-clause-part g c first rows visited =
     records_refused c.args.self.now.after rows c.args.row visited (Damaged Request) (λ is. absurd cc)

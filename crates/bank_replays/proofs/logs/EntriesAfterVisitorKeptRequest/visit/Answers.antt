@@ -4,7 +4,7 @@ use Rattle.posting_rules.specs.declared.fault.{Fault.TheVariants.Damaged, Rule.T
 use Rattle.walked_rows.specs.KeptRows.{kept_item}
 use Rattle.bank_replays.specs.{Logs.entries_after, Prefixes.all_part, Writing.is_after}
 use Rattle.bank_store.specs.KeptEntries.{entry_in}
-use Rattle.bank_replays.proofs.Logged.{entry_more, one_entry}
+use Rattle.bank_replays.proofs.TextsAfter.{one_text, text_more}
 use Rattle.bank_replays.proofs.{Wrote.puts_part, Wrote.puts_visited, Wrote.writer_refuses}
 use Rattle.bank_replays.proofs.logs.EntriesAfterVisitorKeptRequest.visit.Given.{Over}
 use Rattle.bank_replays.proofs.logs.EntriesAfterVisitorKeptRequest.visit.Goals as goal
@@ -34,7 +34,7 @@ returns-clause-visited g c first rows visited =
     (g.W.Sink.contents c.put_bytes.new.writer) (entries_after after (map kept_item rows))
     c.as_slice.result.now _ visited
     (ap (λ (t : List ℕ). entries_after after (map kept_item rows) ++ t) (bytes_are g c)
-    ∙ entry_more after rows c.args.row (after_is g c)) _ c.put_bytes.ensures
+    ∙ text_more entry_in after rows c.args.row (after_is g c)) _ c.put_bytes.ensures
 
 pub returns-clause-part : goal.returns-clause-part
 returns-clause-part g c first rows visited =
@@ -43,7 +43,7 @@ returns-clause-part g c first rows visited =
     (g.W.Sink.contents c.put_bytes.new.writer) (entries_after after (map kept_item rows))
     c.as_slice.result.now _ visited
     (ap (λ (t : List ℕ). entries_after after (map kept_item rows) ++ t)
-    (bytes_are g c ∙ sym (one_entry after (kept_item c.args.row) (after_is g c)))) _ c.put_bytes.ensures
+    (bytes_are g c ∙ sym (one_text entry_in after (kept_item c.args.row) (after_is g c)))) _ c.put_bytes.ensures
 
 pub returns-clause-why : goal.returns-clause-why
 returns-clause-why g c = writer_refuses _ c.put_bytes.result c.put_bytes.ensures.only
