@@ -1,5 +1,5 @@
 -- How a bank stands after some entries, one call more, and how it stops.
-use Rattle.std.proofs.Common.{◌≡◌, ◌+◌, ◌++◌, ◌∙◌, ℕ, List, [], ◌∷◌, length, map, Result, Ok, Err, refl, sym}
+use Rattle.std.proofs.Common.{◌≡◌, ◌<◌, ◌+◌, ◌++◌, ◌∙◌, ℕ, List, [], ◌∷◌, length, map, Result, Ok, Err, refl, sym}
 use Rattle.std.proofs.Common.{ap, subst, append-nil, append_assoc, arith}
 use Rattle.std.specs.Prelude.{MatchResult, Option}
 use Rattle.std.specs.List.{AllByRecursion}
@@ -9,6 +9,7 @@ use Rattle.posting_rules.specs.believed.Counter.{IsCounterCall, Seen, ShowsLog}
 use Rattle.posting_rules.specs.believed.{Runs.followed_by, Runs.posts, Runs.replies_to}
 use Rattle.posting_rules.specs.declared.fault.Fault.{Fault}
 use Rattle.posting_rules.specs.declared.fault.Fault.TheVariants.{Down}
+use Rattle.posting_rules.specs.declared.limits.TheConstants.{RECORDS_PER_BATCH}
 use Rattle.posting_rules.proofs.{CounterCalls.Takes-append, CounterCalls.takes_none, Sequence.replies_to-append}
 use Rattle.posting_core.specs.Entries.{ArePostsOf, IsEntry, IsMomentOf, IsNoEntry, record_text, reply_text}
 use Rattle.posting_core.specs.believed.LogEntries.{AnsweredRequest, entries_of, entry_of}
@@ -119,12 +120,14 @@ module _ {C : Type 0} (seen : C → Seen) (spares : C → C → Type 0) (rows : 
       }
 
       -- it gave others
-      pub differed : (other : OtherReply) → ((seen new).honest → (log : List Command) → ShowsLog (seen mid) log
+      pub differed : (other : OtherReply) → length (done ++ entries) < other.entry + RECORDS_PER_BATCH
+          → ((seen new).honest → (log : List Command) → ShowsLog (seen mid) log
           → IsFirstOther (length done) (replies_to log cs) (map reply_text entries) other)
           → HasDiffered seen spares rows old new (done ++ entries) other
-      differed other first = record {
+      differed other last first = record {
         commands = it.commands ++ cs;
         taken = taken_more;
+        last = last;
         first = λ h log shows.
             let behind =
             other_behind (length done) (map reply_text done) (replies_to (followed_by log it.commands) cs)

@@ -10,7 +10,7 @@ use Rattle.posting_core.specs.Entries.{IsEntry, IsNoEntry, new_after, requests_o
 use Rattle.posting_core.specs.believed.LogEntries.{AnsweredRequest, entries_of, log_entries}
 use Rattle.posting_core.specs.Told.{HasReadFailed}
 use Rattle.posting_core.specs.believed.Batches.{joined}
-use Rattle.posting_core.specs.believed.Told.{EndsWith, IsEndOfInput, ReadTold}
+use Rattle.posting_core.specs.believed.Told.{EndsWith, GrowsBy, IsEndOfInput, ReadTold}
 use Rattle.posting_core.specs.declared.entries.TheConstants.{ENTRY_BYTES}
 use Rattle.branch_loader.specs.Following.{HasDiffered, HasFollowed, IsRefusedFollowing}
 use Rattle.branch_loader.specs.believed.Plans.{Rows}
@@ -28,16 +28,17 @@ EndsFollowing (Err (Truncated n)) r' q q' followed rest =
 EndsFollowing (Err Read) r' q q' followed rest = HasReadFailed q q' × (length rest < ENTRY_BYTES)
 EndsFollowing (Err (NoEntry count)) r' q q' followed rest =
     (count ≡ followed) × (ENTRY_BYTES ≤ length rest) × IsNoEntry (take ENTRY_BYTES rest)
-EndsFollowing (Err Memory) r' q q' followed rest = rest ≡ []
+EndsFollowing (Err Memory) r' q q' followed rest = GrowsBy q q' [] × (rest ≡ [])
 EndsFollowing (Err (Differs other)) r' q q' followed rest = ⊤
 EndsFollowing (Err (Bank fault)) r' q q' followed rest = ⊤
 
--- all of the entries were followed; or it stopped at the last of them
+-- all of the entries were followed; or it stopped at the last of them, or nothing was done
 abbrev pub Did : {C : Type 0} → (C → Seen) → (C → C → Type 0) → (Fault → C → C → Type 0) → Rows → (old new : C)
     → List AnsweredRequest → Result ℕ FollowFault → Type 0
 Did seen spares reason rows old new entries (Err (Bank fault)) =
     IsRefusedFollowing seen spares reason rows old new entries fault
 Did seen spares reason rows old new entries (Err (Differs other)) = HasDiffered seen spares rows old new entries other
+Did seen spares reason rows old new entries (Err Memory) = (entries ≡ []) × (new ≡ old)
 Did seen spares reason rows old new entries result = HasFollowed seen spares rows old new entries
 
 -- it shows a log that has these entries
@@ -59,6 +60,7 @@ LeavesFollowed seen spares reason rows old new entries (Err (Bank fault)) did =
     LeavesTaken (seen old) (seen new) did.followed.commands did.refused
 LeavesFollowed seen spares reason rows old new entries (Err (Differs other)) did =
     LeavesTaken (seen old) (seen new) did.commands []
+LeavesFollowed seen spares reason rows old new entries (Err Memory) did = ⊤
 LeavesFollowed seen spares reason rows old new entries result did = LeavesTaken (seen old) (seen new) did.commands []
 
 pub record FollowsLog {C : Type 0} (seen : C → Seen) (spares : C → C → Type 0) (reason : Fault → C → C → Type 0)

@@ -120,6 +120,8 @@ pub record HasDiffered {C : Type 0} (seen : C → Seen) (spares : C → C → Ty
     (entries : List AnsweredRequest) (other : OtherReply) : Type 0 where
   pub commands : List Command
   pub taken : HasTaken seen spares rows old new entries commands
+  -- those after it were posted with it
+  pub last : length entries < other.entry + RECORDS_PER_BATCH
   pub first : (seen new).honest → (log : List Command) → ShowsLog (seen old) log
       → IsFirstOther 0 (replies_to log commands) (map reply_text entries) other
 

@@ -4,7 +4,7 @@ use Rattle.std.proofs.KnownBytes.{Consumes-nil}
 use Rattle.std.proofs.lemmas.{List.length-append, List.length-map, List.length-take-le, Result.err_from_is_err_and}
 use Rattle.posting_core.specs.{believed.Batches.joined, believed.LogEntries.entries_of, believed.LogEntries.entry_of}
 use Rattle.posting_core.proofs.{Batched.chunks_whole, Streaming.at_ok, Streaming.nothing_read}
-use Rattle.posting_core.proofs.Telling.{made_many, made_none, made_one, other_kind, read_ended, read_failed}
+use Rattle.posting_core.proofs.Telling.{adds-none, made_many, made_none, made_one, other_kind, read_ended, read_failed}
 use Rattle.branch_loader.proofs.{Followed.broke_off, Followed.cut_up, Followed.entries-append, Followed.followed_grows}
 use Rattle.branch_loader.proofs.{Followed.followed_leaves, Followed.moved_up, Followed.read_entries, Followed.read_filled}
 use Rattle.branch_loader.proofs.{Followed.read_on, Following.followed_none}
@@ -20,20 +20,16 @@ few_left filled buffer few long =
 
 -- no memory for the plan
 pub returns-in_default : goal.returns-in_default
-returns-in_default g c =
-    let none = followed_none g.C.Counter.seen g.C.Counter.spares c.args.plan.now c.args.bank.now
-    (g.met.C.Counter.spares_itself c.args.bank.now) in
-    record {
-      entries = [];
-      are = tt;
-      rest = [];
-      read = Consumes-nil (g.R.Source.remaining c.args.reader.now);
-      ends = refl;
-      did = none;
-      survives = followed_leaves g.C.Counter.seen g.C.Counter.spares g.C.Counter.reason c.args.plan.now c.args.bank.now
-          c.args.bank.now [] none;
-      grows = tt;
-    }
+returns-in_default g c = record {
+  entries = [];
+  are = tt;
+  rest = [];
+  read = Consumes-nil (g.R.Source.remaining c.args.reader.now);
+  ends = (adds-none (g.R.Source.told c.args.reader.now), refl);
+  did = (refl, refl);
+  survives = tt;
+  grows = tt;
+}
 
 pub reads-init : goal.reads-init
 reads-init g c = record {

@@ -71,11 +71,15 @@ returns g c first rows done entries it counted texts few =
     let all : length (done ++ entries) ≡ length done + length due = length-append done entries
     ∙ ap (λ (n : ℕ). length done + n) (sym (ap (λ (l : List (List ℕ)). length l) texts.replies_are ∙ length-map entries reply_text)) in
     let before : c.args.before ≡ length done = counted (omega (arith, few, all)) in
+    let ours : length due ≡ length c.args.records.now =
+    ap (λ (l : List (List ℕ)). length l) texts.replies_are ∙ length-map entries reply_text
+    ∙ sym (ap (λ (l : List (List ℕ)). length l) texts.records_are ∙ length-map entries record_text) in
     let shown : length c.as_slice.result.now ≡ length replies = ap (λ (l : List (List ℕ)). length l) c.as_slice.ensures.value in
     let other = c.in-Some.ensures.other (omega (arith, few, all, before, same, shown)) in
     differed g.C.Counter.seen g.C.Counter.spares rows first c.args.counter.now c.submit_all.new.self
     (g.met.C.Counter.spares_then first c.args.counter.now c.submit_all.new.self) done entries it _
     (texts_are_posts (planned rows) c.args.moment c.args.records.now _ entries texts)
     g.C.Counter.contents g.C.Counter.reason _ given.call given.spares c.in-Some.other
+    (omega (arith, all, ours, other.entry, before, c.requires))
     (λ h log shows. same_other _ _ _ _ _ _ c.in-Some.other other before
     (c.as_slice.ensures.value ∙ given.answer h log shows) texts.replies_are)
