@@ -15,7 +15,7 @@ use Rattle.command_line.specs.declared.fault.CommandFault.TheVariants.{Write}
 use Rattle.command_line.specs.Working.{IsRefusedLoad, Loads, LoadsFrom, LoadsOver, ended_by_load}
 
 -- no fault of a plan is one of the output, and none of a bank
-not_write : (fault : PlanFault) → fault_of_plan fault ≡ Write → ⊥
+pub not_write : (fault : PlanFault) → fault_of_plan fault ≡ Write → ⊥
 not_write Memory e = cc e
 not_write other e = cc e
 

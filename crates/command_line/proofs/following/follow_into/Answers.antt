@@ -2,6 +2,7 @@
 use Rattle.std.proofs.Common.{rules, ◌≡◌, Err, Ok, inl, inr, refl}
 use Rattle.std.proofs.KnownBytes.{Keeps-refl}
 use Rattle.command_line.specs.CommandFaults.{fault_of_plan}
+use Rattle.command_line.proofs.LoadEnds.{file_not_write, not_write}
 use Rattle.command_line.proofs.following.follow_into.Goals as goal
 
 pub returns-in_err-source : goal.returns-in_err-source
@@ -14,6 +15,8 @@ returns-in_err-source g c =
         refl,
         refl,
       );
+      unprinted = λ is.
+          absurd (file_not_write c.in_err-source.field-0.0 c.in_err-source.ensures.refused (cc (same, is)));
       spares = g.met.C.Counter.spares_itself c.args.bank.now;
     }
 
@@ -30,6 +33,7 @@ returns-in_err-plan g c =
         c.in_err-plan.ensures,
         (same, Keeps-refl (g.W.Sink.contents c.args.output.now), refl, refl),
       );
+      unprinted = λ is. absurd (not_write fault (cc (same, is)));
       spares = g.met.C.Counter.spares_itself c.args.bank.now;
     }
 
@@ -43,5 +47,6 @@ returns g c = record {
     c.in_ok-plan.ensures,
     c.follow_by.ensures.follows,
   );
+  unprinted = c.follow_by.ensures.unprinted;
   spares = c.follow_by.ensures.spares;
 }

@@ -1,9 +1,15 @@
 -- The entries were followed to the end, or up to a fault.
-use Rattle.std.proofs.Common.{rules, ◌≡◌, Err, Ok}
+use Rattle.std.proofs.Common.{rules, ◌≡◌, Err, Ok, Result, subst}
+use Rattle.std.specs.Prelude.{OnErr}
 use Rattle.std.proofs.KnownBytes.{Keeps-refl}
 use Rattle.command_line.specs.CommandFaults.{fault_of_following}
-use Rattle.command_line.proofs.FollowEnds.{did_spare, followed_printed}
+use Rattle.command_line.proofs.FollowEnds.{did_spare, follow_not_write, followed_printed}
+use Rattle.command_line.specs.declared.fault.CommandFault.{CommandFault}
+use Rattle.command_line.specs.declared.fault.CommandFault.TheVariants.{Write}
 use Rattle.command_line.proofs.following.follow_log.Goals as goal
+
+err_holds : {P : Type 0} (r : Result (Unit {0}) CommandFault) (e : CommandFault) → r ≡ Err e → OnErr r P → P
+err_holds {P} r e is holds = subst (λ (t : Result (Unit {0}) CommandFault). OnErr t P) is holds
 
 pub returns-in_err-followed : goal.returns-in_err-followed
 returns-in_err-followed g c =
@@ -16,8 +22,9 @@ returns-in_err-followed g c =
         follows = it;
         tells = (same, Keeps-refl (g.W.Sink.contents c.args.output.now));
       };
+      unprinted = λ is. absurd (follow_not_write fault (cc (same, is)));
       spares = did_spare g.C.Counter.seen g.C.Counter.spares g.C.Counter.reason c.args.plan.now c.args.bank.now
-          c.follow.new.bank it.entries (Err fault) it.did;
+          c.follow.new.bank it.entries (Err fault) (g.met.C.Counter.spares_itself c.args.bank.now) it.did;
     }
 
 pub returns : goal.returns
@@ -31,6 +38,7 @@ returns g c =
         tells = followed_printed count _ _ _ _ c.print_followed.result c.print_followed.ensures.prints
             c.print_followed.ensures.fault;
       };
+      unprinted = λ is. err_holds c.print_followed.result Write is c.print_followed.ensures.failed;
       spares = did_spare g.C.Counter.seen g.C.Counter.spares g.C.Counter.reason c.args.plan.now c.args.bank.now
-          c.follow.new.bank it.entries (Ok count) it.did;
+          c.follow.new.bank it.entries (Ok count) (g.met.C.Counter.spares_itself c.args.bank.now) it.did;
     }
