@@ -1,12 +1,14 @@
 -- Entries of kept rows, and those of a log.
-use Rattle.std.proofs.Common.{◌≡◌, ◌<◌, ◌≤◌, ◌++◌, ℕ, true, false, List, [], ◌∷◌, length, map, filter}
-use Rattle.std.proofs.Common.{drop, Option, Result, refl, sym, ap, subst, ◌∙◌, arith}
+use Rattle.std.proofs.Common.{◌≡◌, ◌<◌, ◌≤◌, ◌++◌, ℕ, Bool, true, false, cond, List, [], ◌∷◌, length, map, filter}
+use Rattle.std.proofs.Common.{drop, Option, Result, Ok, Err, refl, sym, ap, subst, ◌∙◌, arith}
 use Rattle.std.specs.Prelude.{ℤ, pos, int_lt, nat_abs, get_or, IfOk}
 use Rattle.std.proofs.lemmas.{Int.ints, List.Folds.flat_map-map, Result.IfOk-weaker}
 use Rattle.sqlite.specs.Effect.{Database}
 use Rattle.posting_rules.specs.believed.{Commands.Command, Entries.decided}
 use Rattle.posting_rules.specs.believed.Tables.{AreTablesOf, Tables}
 use Rattle.posting_rules.specs.declared.fault.Fault.{Fault}
+use Rattle.posting_rules.specs.declared.fault.Fault.TheVariants.{Damaged, Down, Memory, Store}
+use Rattle.posting_rules.specs.declared.fault.Rule.{Rule}
 use Rattle.posting_core.specs.believed.LogEntries.{log_entries}
 use Rattle.posting_core.specs.believed.Batches.{joined}
 use Rattle.sql_meanings.specs.believed.Entries.{Entry}
@@ -18,9 +20,10 @@ use Rattle.walked_rows.proofs.Shown.{has_meta}
 use Rattle.walked_rows.specs.{OnlyMeta.bank_entry, Rows.HasStoredRows, StoredBeside.meta_entry}
 use Rattle.walked_rows.specs.declared.metas.StoredMeta.{StoredMeta}
 use Rattle.bank_replays.specs.{declared.fault.ReplayFault.ReplayFault}
+use Rattle.bank_replays.specs.declared.fault.ReplayFault.TheVariants.{Bank, Write}
 use Rattle.bank_replays.specs.Logs.{LogsEntries, LogsRows, decided_in, entries_after}
 use Rattle.bank_replays.specs.Logs.{without_count}
-use Rattle.bank_replays.specs.Writing.{WritesText, is_after}
+use Rattle.bank_replays.specs.Writing.{WritesSound, WritesText, is_after}
 use Rattle.bank_store.specs.KeptEntries.{entry_in}
 use Rattle.bank_store.proofs.LogRows.{kept_of}
 use Rattle.bank_store.proofs.LogEntries.{TellsAfter, entries_length, entries_since, kept_length}
@@ -32,6 +35,17 @@ above m n is = grind (arith, ints)
 
 not_above : (m n : ℕ) → int_lt (pos m) (pos n) ≡ false → n ≤ m
 not_above m n is = grind (arith, ints)
+
+-- without damage
+sound_text : (text : List ℕ) (w w' : Option (List ℕ)) (result : Result ℕ ReplayFault)
+    → WritesText text w w' (without_count result) → ((rule : Rule) → result ≡ Err (Bank (Damaged rule)) → ⊥)
+    → WritesSound text w w' (without_count result)
+sound_text text w w' (Ok count) wrote sound = wrote
+sound_text text w w' (Err Write) wrote sound = wrote
+sound_text text w w' (Err (Bank (Damaged rule))) wrote sound = absurd (sound rule refl)
+sound_text text w w' (Err (Bank Memory)) wrote sound = wrote
+sound_text text w w' (Err (Bank Store)) wrote sound = wrote
+sound_text text w w' (Err (Bank Down)) wrote sound = wrote
 
 -- which rows are written
 pub tells_after : (after : ℕ) → TellsAfter after (int_lt (pos after))
@@ -46,9 +60,11 @@ module _ (db : Database) (t : Tables) (log : List Command) (in_file : Shows db t
 
   -- what was written of the rows is of the log
   pub logs_log : (w w' : Option (List ℕ)) (result : Result ℕ ReplayFault)
-      → LogsRows after (kept_of db t log in_file shows) w w' result → LogsEntries after (log_entries log) w w' result
-  logs_log w w' result it = record {
-    text = subst (λ (text : List ℕ). WritesText text w w' (without_count result)) entries_log it.text;
+      → LogsRows after (kept_of db t log in_file shows) w w' result
+      → ((rule : Rule) → result ≡ Err (Bank (Damaged rule)) → ⊥) → LogsEntries after (log_entries log) w w' result
+  logs_log w w' result it sound = record {
+    text = sound_text _ w w' result
+        (subst (λ (text : List ℕ). WritesText text w w' (without_count result)) entries_log it.text) sound;
     kept = IfOk-weaker result _ _ (λ count is. is ∙ kept_length db t log in_file shows) it.kept;
   }
 
@@ -80,3 +96,13 @@ counts_log db t log in_file shows result counts =
   where
     pos_same : (m n : ℕ) → pos m ≡ pos n → m ≡ n
     pos_same m n is = cc
+
+-- it is never below zero
+pub none_below : (db : Database) (t : Tables) → Shows db t → (n : ℤ)
+    → ((version decided : ℤ) → HasStoredRows db meta_table (bank_entry version decided ∷ []) → n ≡ decided)
+    → int_lt n (pos 0) ≡ true → ⊥
+none_below db t in_file n counts below =
+    not_less t.decided (ap (λ (z : ℤ). int_lt z (pos 0)) (sym (counts (pos (nat_abs VERSION)) (pos t.decided) (has_meta db t in_file))) ∙ below)
+  where
+    not_less : (m : ℕ) → int_lt (pos m) (pos 0) ≡ true → ⊥
+    not_less m is = grind (arith, ints)

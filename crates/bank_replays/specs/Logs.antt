@@ -5,7 +5,7 @@ use Rattle.posting_core.specs.believed.Batches.{joined}
 use Rattle.walked_rows.specs.KeptRows.{KeptItem}
 use Rattle.walked_rows.specs.declared.metas.StoredMeta.{StoredMeta}
 use Rattle.bank_store.specs.KeptEntries.{entry_in}
-use Rattle.bank_replays.specs.Writing.{WritesText, is_after}
+use Rattle.bank_replays.specs.Writing.{WritesSound, WritesText, is_after}
 use Rattle.bank_replays.specs.declared.fault.ReplayFault.{ReplayFault}
 
 -- the entries of the kept rows after an ordinal, one after another
@@ -23,10 +23,10 @@ pub record LogsRows (after : ℕ) (all : List KeptItem) (w w' : Option (List ℕ
   pub text : WritesText (entries_after after all) w w' (without_count result)
   pub kept : IfOk result (λ count. count ≡ length all)
 
--- all but the first so many entries were written, and so many there are
+-- all but the first so many entries were written, never cut short by damage, and so many there are
 pub record LogsEntries (after : ℕ) (entries : List (List ℕ)) (w w' : Option (List ℕ))
     (result : Result ℕ ReplayFault) : Type 0 where
-  pub text : WritesText (joined (drop after entries)) w w' (without_count result)
+  pub text : WritesSound (joined (drop after entries)) w w' (without_count result)
   pub kept : IfOk result (λ count. count ≡ length entries)
 
 -- ---- how many there are

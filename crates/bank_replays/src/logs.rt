@@ -1,9 +1,11 @@
 //! The log of a bank: an entry of each kept request.
-ghost use Rattle.std.specs.Prelude.{◌≡◌, ◌++◌, ◌∷◌, [], ℤ, pos, List, Err, IfOk, OnOk, length, map};
+ghost use Rattle.std.specs.Prelude.{◌≡◌, ◌≢◌, ◌++◌, ◌∷◌, [], ℤ, pos, List, Err, IfOk, OnErr, OnOk, int_lt, length, map};
+ghost use Rattle.std.specs.Prelude.{true, ⊤};
 ghost use Rattle.sqlite.specs.State.{HasCleanDisk};
 ghost use Rattle.posting_rules.specs.believed.Commands.{Command};
 ghost use Rattle.posting_rules.specs.believed.Counter.{ShowsLog};
-ghost use Rattle.posting_rules.specs.declared.fault.Fault.TheVariants.{Down};
+ghost use Rattle.posting_rules.specs.declared.fault.Fault.TheVariants.{Damaged, Down};
+ghost use Rattle.posting_rules.specs.declared.fault.Rule.{Rule};
 ghost use Rattle.posting_core.specs.believed.LogEntries.{log_entries};
 ghost use Rattle.store_rows.specs.believed.BankTables.{meta as meta_table};
 ghost use Rattle.walked_rows.specs.KeptRows.{HasKept, KeptItem, kept_item};
@@ -12,6 +14,7 @@ ghost use Rattle.walked_rows.specs.Rows.{HasStoredRows};
 ghost use Rattle.bank_store.specs.Leaving.{LeavesAsFound, TakesNone};
 ghost use Rattle.bank_store.specs.believed.Seen.{bank_seen, database_of, file_of};
 ghost use Rattle.bank_store.specs.Seen.{fault_of};
+ghost use Rattle.bank_replays.specs.Damaged.{TellsWhy, fault_in};
 ghost use Rattle.bank_replays.specs.Logs.{LogsEntries, LogsRows, decided_in, entries_after};
 ghost use Rattle.bank_replays.specs.Logs.{without_count};
 ghost use Rattle.bank_replays.specs.Reading.{ReadsBank};
@@ -81,6 +84,7 @@ fn write_entries<S: Alter, W: Sink>(
         → HasKept (database_of S.Store bank.old) all
         → LogsRows after all (W.contents writer.old) (W.contents writer.new) result }
     ensures writer { LeavesWriter (W.told writer.old) (W.told writer.new) (without_count result) }
+    ensures why { TellsWhy S.Store fault_in bank.old bank.new result }
 {
     let visitor = EntriesAfter { after };
     let count = visit_first::<S, KeptRequest, W, EntriesAfter>(bank, u64::MAX, &visitor, writer)?;
@@ -119,6 +123,7 @@ pub fn write_log<S: Alter, W: Sink>(
         → ShowsLog (bank_seen S.Store bank.old) log
         → LogsEntries after (log_entries log) (W.contents writer.old) (W.contents writer.new) result }
     ensures writer { LeavesWriter (W.told writer.old) (W.told writer.new) (without_count result) }
+    ensures why { TellsWhy S.Store fault_in bank.old bank.new result }
     ensures bank { TakesNone (bank_seen S.Store bank.old) (bank_seen S.Store bank.new) (HasAnswered result) }
     ensures down { (bank_seen S.Store bank.old).is_down
         → (result ≡ Err (OfBank Down)) × (bank.new ≡ bank.old) × (writer.new ≡ writer.old) }
@@ -156,7 +161,8 @@ impl Visitor<StoredMeta, StoredMeta> for LastMeta {
 
 // The count of requests that a row has.
 fn counted(row: &StoredMeta) -> Result<u64, Fault>
-    ensures { IfOk result (λ count. pos count ≡ row.now.decided) }
+    ensures count { IfOk result (λ count. pos count ≡ row.now.decided) }
+    ensures below { OnErr result (int_lt row.now.decided (pos 0) ≡ true) }
 {
     if row.decided < 0 {
         return Err(Fault::Damaged(Rule::Meta));
@@ -170,6 +176,8 @@ fn stored_count<S: Alter>(bank: &mut Bank<S>) -> Result<u64, Fault>
     ensures rows { HasCleanDisk (file_of bank.new) → (version decided : ℤ)
         → HasStoredRows (database_of S.Store bank.old) meta_table (bank_entry version decided ∷ [])
         → IfOk result (λ count. pos count ≡ decided) }
+    ensures sound { HasCleanDisk (file_of bank.new) → (log : List Command)
+        → ShowsLog (bank_seen S.Store bank.old) log → (rule : Rule) → result ≢ Err (Damaged rule) }
 {
     let mut last = StoredMeta::default();
     match visit_all::<S, StoredMeta, StoredMeta, LastMeta>(bank, &LastMeta, &mut last) {
@@ -196,6 +204,8 @@ pub fn count_requests<S: Alter>(bank: &mut Bank<S>) -> Result<u64, Fault>
     ensures log { (bank_seen S.Store bank.new).honest → (log : List Command)
         → ShowsLog (bank_seen S.Store bank.old) log
         → IfOk result (λ count. count ≡ length (log_entries log)) }
+    ensures sound { (bank_seen S.Store bank.new).honest → (log : List Command)
+        → ShowsLog (bank_seen S.Store bank.old) log → (rule : Rule) → result ≢ Err (Damaged rule) }
     ensures bank { TakesNone (bank_seen S.Store bank.old) (bank_seen S.Store bank.new) (HasAnswered result) }
     ensures same { (bank_seen S.Store bank.new).honest
         → OnOk result (database_of S.Store bank.new ≡ database_of S.Store bank.old) }

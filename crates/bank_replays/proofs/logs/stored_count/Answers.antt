@@ -1,19 +1,33 @@
 -- The one row of `meta` was visited.
-use Rattle.std.proofs.Common.{◌∙◌}
+use Rattle.std.proofs.Common.{◌≡◌, ◌∙◌, ℕ, Result, true, refl, sym, subst}
+use Rattle.std.specs.Prelude.{OnErr, int_lt, pos}
 use Rattle.std.proofs.lemmas.Result.{IfOk-weaker}
-use Rattle.bank_replays.proofs.{Logged.one_decided, Read.read_any, Read.read_fails}
+use Rattle.posting_rules.specs.declared.fault.Fault.{Fault}
+use Rattle.bank_store.specs.believed.Seen.{database_of}
+use Rattle.bank_replays.proofs.{Logged.none_below, Logged.one_decided, Read.read_any, Read.read_fails}
+use Rattle.bank_replays.proofs.{SoundLogs.sound_log, Whys.err_is}
 use Rattle.bank_replays.proofs.logs.stored_count.Goals as goal
 
 pub returns-in-Ok : goal.returns-in-Ok
 returns-in-Ok g c =
     let it = c.in-Ok.ensures in
+    let last = c.visit_all.new.target in
     record {
       bank = read_any it.bank _;
       rows = λ clean version decided has.
           IfOk-weaker c.counted.result _ _
           (λ count is. is ∙ it.visits.1 ∙ one_decided _ version decided it.visits.0 (it.visits.2 clean _ has))
-          c.counted.ensures;
+          c.counted.ensures.count;
+      sound = λ clean log shows rule is.
+          none_below (database_of g.S.Store c.args.bank.now) shows.tables shows.are last.decided
+          (λ version decided has. it.visits.1 ∙ one_decided _ version decided it.visits.0 (it.visits.2 clean _ has))
+          (subst (λ (r : Result ℕ Fault). OnErr r (int_lt last.decided (pos 0) ≡ true)) is c.counted.ensures.below);
     }
 
 pub returns-in-Err : goal.returns-in-Err
-returns-in-Err g c = record { bank = read_fails _ c.in-Err.ensures.bank; rows = λ clean version decided has. tt }
+returns-in-Err g c = record {
+  bank = read_fails _ c.in-Err.ensures.bank;
+  rows = λ clean version decided has. tt;
+  sound = λ clean log shows rule is.
+      sound_log clean log shows _ c.in-Err.fault c.in-Err.ensures.why refl rule (sym c.told.ensures ∙ err_is _ _ is);
+}
