@@ -29,10 +29,10 @@ use Rattle.store_rows.specs.Lying.{SetsLying}
 use Rattle.store_rows.specs.declared.fault.TableFault.{TableFault}
 use Rattle.bank_transactions.specs.{believed.Causes.Damage, Doing.DoesBy, Doing.Ends, Doing.Reads, Doing.ReadsWhere, Doing.expected}
 use Rattle.bank_transactions.specs.Doing.{Stays}
-use Rattle.bank_transactions.specs.Memory.{Fits, Follows, IsBlank, IsFollowed, Keeps, Recalls, Remembers}
+use Rattle.bank_transactions.specs.Memory.{Fits, FitsBefore, Follows, IsBlank, IsFollowed, Keeps, Recalls, Remembers}
 use Rattle.bank_transactions.specs.declared.memory.Memory.{Memory}
 use Rattle.bank_transactions.specs.declared.first_try.Tried.{Tried, TheVariants.Answered, TheVariants.Again}
-use Rattle.bank_transactions.specs.Tries.{batch_of, replies_of}
+use Rattle.bank_transactions.specs.Tries.{IsAsBefore, batch_of, replies_of}
 
 -- where nothing is remembered, it lies in any file
 pub blank : {S : Type 0} (g : Ghosts S) (conn : Held S) (memory : Memory) → IsBlank memory → ∥ Remembers g conn memory ∥₁
@@ -308,3 +308,48 @@ since {g = g} {old = old} {mid = mid} new reads answer memory then said =
     IfSome_then (replies_of answer) said (λ replies it. ∥∥₁_map it (λ keeps live clean file.
     let before : HasCleanDisk (state g mid.conn.now) = omega (arith, then.clean, clean) in
     keeps (still_in (state g old.conn.now) (state g mid.conn.now) (reads.says.leaves before).0.goes_on live) clean file))
+
+-- ---- what is remembered of a try that was given up
+
+-- what was read lies in the file as it was
+pub recalls_read : {S X : Type 0} {g : Ghosts S} {old new : Transaction S} {So : Tables → Type 0} {w : Tables → X} {x : X}
+    (memory : Memory) → ReadsWhere g old new So w (Ok x) → ∥ Remembers g new.conn.now memory ∥₁
+    → ∥ FitsBefore g old new memory ∥₁
+recalls_read memory reads it = ∥∥₁_map it (λ fits clean file.
+    let same = (reads.says.leaves clean).0.now in
+    subst (λ (db : Database). Fits db memory) same (fits clean (subst IsBankFile (sym same) file)))
+
+-- whatever was written then
+pub recalls_then : {S : Type 0} (g : Ghosts S) (old mid new : Transaction S) (memory : Memory)
+    → (HasCleanDisk (state g new.conn.now) → HasCleanDisk (state g mid.conn.now)) → ∥ FitsBefore g old mid memory ∥₁
+    → ∥ FitsBefore g old new memory ∥₁
+recalls_then g old mid new memory before it = ∥∥₁_map it (λ fits clean. fits (before clean))
+
+-- what was remembered before a look-up lies there too
+pub recalls_itself : {S X : Type 0} {g : Ghosts S} {old new : Transaction S} {So : Tables → Type 0} {w : Tables → X}
+    {x : X} (memory : Memory) → ReadsWhere g old new So w (Ok x) → ∥ Remembers g old.conn.now memory ∥₁
+    → ∥ FitsBefore g old new memory ∥₁
+recalls_itself memory reads it =
+    ∥∥₁_map it (λ fits clean. fits (omega (arith, reads.says.survives.clean, clean)))
+
+-- and so does that of a try after one
+pub recalls_since : {S X : Type 0} {g : Ghosts S} {old mid : Transaction S} {So : Tables → Type 0} {w : Tables → X} {x : X}
+    (new : Transaction S) → ReadsWhere g old mid So w (Ok x) → (answer : Result Tried TableFault) (memory : Memory)
+    → Survives (state g mid.conn.now) (state g new.conn.now) (λ _. ⊥)
+    → IfSome (batch_of answer) (λ _. ∥ FitsBefore g mid new memory ∥₁)
+    → IfSome (batch_of answer) (λ _. ∥ FitsBefore g old new memory ∥₁)
+recalls_since {g = g} {old = old} {mid = mid} new reads answer memory then said =
+    IfSome_then (batch_of answer) said (λ batch it. ∥∥₁_map it (λ fits clean file.
+    let before : HasCleanDisk (state g mid.conn.now) = omega (arith, then.clean, clean) in
+    let same = (reads.says.leaves before).0.now in
+    subst (λ (db : Database). Fits db memory) same (fits clean (subst IsBankFile (sym same) file))))
+
+-- once all is undone, it lies in the file again
+pub recalls_undone : {S : Type 0} (g : Ghosts S) (old : Held S) (begun last : Transaction S) (new : Held S) (memory : Memory)
+    → begun.conn.now ≡ record old { in_transaction = true } → IsAsBefore g old new
+    → (HasCleanDisk (state g new) → HasCleanDisk (state g last.conn.now)) → ∥ FitsBefore g begun last memory ∥₁
+    → ∥ Remembers g new memory ∥₁
+recalls_undone g old begun last new memory is undone before it = ∥∥₁_map it (λ fits clean file.
+    let began : (state g begun.conn.now).now ≡ (state g old).now = rw is refl in
+    let same : (state g begun.conn.now).now ≡ (state g new).now = began ∙ sym (undone.same clean).2 in
+    subst (λ (db : Database). Fits db memory) same (fits (before clean) (subst IsBankFile (sym same) file)))

@@ -41,6 +41,11 @@ Remembers g conn memory = HasCleanDisk (state g conn) → IsBankFile (state g co
 abbrev pub Keeps : {S : Type 0} → Ghosts S → Transaction S → Transaction S → Memory → Type 0
 Keeps g old new memory = IsTrue (state g old.conn.now).in_transaction → Remembers g new.conn.now memory
 
+-- it lies in the file as that was before a part of a transaction, whatever the part wrote
+abbrev pub FitsBefore : {S : Type 0} → Ghosts S → Transaction S → Transaction S → Memory → Type 0
+FitsBefore g old new memory = HasCleanDisk (state g new.conn.now) → IsBankFile (state g old.conn.now).now
+    → Fits (state g old.conn.now).now memory
+
 -- as a part that writes is done, what lay in the file before it lies there again, as it was changed with it
 abbrev pub IsFollowed : {S : Type 0} → Ghosts S → Transaction S → Transaction S → Memory → Memory → Type 0
 IsFollowed g old new before after = AfterWrite g old new (λ was now. IsBankFile now × (Fits was before → Fits now after))

@@ -1,5 +1,5 @@
 //! A batch is tried as if none of its requests were kept, which spares them their look-ups. Where the first one is
-//! kept, or the INSERT of one says otherwise, all is undone.
+//! kept, or the INSERT of one says otherwise, all is undone, and what was read is remembered.
 ghost use Rattle.std.specs.Prelude.{◌≡◌, ◌&&◌, ◌==◌, not, ℕ, List, length, false, true, is_some, IfSome, IsTrue, None, OnOk, ⊤};
 ghost use Rattle.sqlite.specs.State.{HasCleanDisk, KeepsCommit};
 ghost use Rattle.sqlite.specs.Held.{state};
@@ -15,7 +15,7 @@ ghost use Rattle.bank_transactions.specs.Additions.{AddsTried};
 ghost use Rattle.bank_transactions.specs.believed.Additions.{AddsForRecords};
 ghost use Rattle.bank_transactions.specs.believed.Batches.{DecidesNone, HasRoomFor};
 ghost use Rattle.bank_transactions.specs.Doing.{Acts, Reads, Transacts};
-ghost use Rattle.bank_transactions.specs.Memory.{Keeps, Remembers};
+ghost use Rattle.bank_transactions.specs.Memory.{FitsBefore, Keeps, Remembers};
 ghost use Rattle.bank_transactions.specs.believed.Answered.{AnswersAll};
 ghost use Rattle.bank_transactions.specs.Tries.{IsAsBefore, IsMadeAgain, answer_of, batch_of, replies_of};
 ghost use Rattle.bank_transactions.specs.Tries.{first_kept, may_be_kept};
@@ -104,6 +104,7 @@ fn answer_unkept<S: Alter>(
     ensures again { IfSome (batch_of result) (IsMadeAgain batch) }
     ensures quiet { Says S.Store tx.old tx.new (λ _ _. ⊤) (Inside KeepsCommit) }
     ensures remembers { IfSome (replies_of result) (λ _. ∥ Keeps S.Store tx.old tx.new memory.new ∥₁) }
+    ensures recalls { IfSome (batch_of result) (λ _. ∥ FitsBefore S.Store tx.old tx.new memory.new ∥₁) }
 {
     fill_known(tx, memory, &mut batch.overlay)?;
     let before = batch.overlay.decided;
@@ -147,6 +148,7 @@ fn answer_new<S: Alter>(
     ensures again { IfSome (batch_of result) (IsMadeAgain batch) }
     ensures quiet { Says S.Store tx.old tx.new (λ _ _. ⊤) (Inside KeepsCommit) }
     ensures remembers { IfSome (replies_of result) (λ _. ∥ Keeps S.Store tx.old tx.new memory.new ∥₁) }
+    ensures recalls { IfSome (batch_of result) (λ _. ∥ FitsBefore S.Store tx.old tx.new memory.new ∥₁) }
 {
     if keeps_first(tx, &batch.overlay)? {
         return Ok(Tried::Again(batch));
@@ -187,7 +189,6 @@ pub(crate) fn try_new<S: Alter>(
     let tried = answer_new(&mut tx, memory, moment, batch);
     if let Ok(Tried::Again(batch)) = tried {
         tx.rollback();
-        memory.forget();
         // The store is asked whether it is open still.
         probe_table(conn, BankTable::Meta)?;
         return Ok(Tried::Again(batch));

@@ -3,6 +3,7 @@ use Rattle.std.proofs.Common.{◌≡◌, Err, rules}
 use Rattle.posting_batch.specs.View.{IsMadeOf}
 use Rattle.bank_transactions.proofs.AfterLookUp.{busy_since, quiet_since, says_since, stored_since}
 use Rattle.bank_transactions.proofs.{Chained.acts_read, LookUps.does_fail, Remembered.keeps_read, Remembered.since}
+use Rattle.bank_transactions.proofs.{Remembered.recalls_itself, Remembered.recalls_since}
 use Rattle.bank_transactions.proofs.first_try.answer_new.Goals as goal
 
 pub returns-in_err-keeps_first-clause-says : goal.returns-in_err-keeps_first-clause-says
@@ -37,3 +38,12 @@ pub returns-clause-remembers : goal.returns-clause-remembers
 returns-clause-remembers g c =
     since c.answer_unkept.new.tx c.in_ok-keeps_first.ensures c.answer_unkept.result c.answer_unkept.new.memory
     c.answer_unkept.ensures.quiet.survives c.answer_unkept.ensures.remembers
+
+pub returns-then-branch-clause-recalls : goal.returns-then-branch-clause-recalls
+returns-then-branch-clause-recalls g c =
+    recalls_itself c.args.memory.now c.in_ok-keeps_first.ensures c.requires
+
+pub returns-clause-recalls : goal.returns-clause-recalls
+returns-clause-recalls g c =
+    recalls_since c.answer_unkept.new.tx c.in_ok-keeps_first.ensures c.answer_unkept.result c.answer_unkept.new.memory
+    c.answer_unkept.ensures.quiet.survives c.answer_unkept.ensures.recalls

@@ -7,6 +7,7 @@ use Rattle.posting_batch.specs.{Overlay.Overlay, View.view, declared.slots.Reque
 use Rattle.bank_transactions.proofs.{Added.adds_tried, JudgedSlots.judging_all, ShownSlots.shown_filled}
 use Rattle.bank_transactions.proofs.{Chained.acts_read, Chained.does_adds, HeldBatch.homes_made}
 use Rattle.bank_transactions.proofs.{OwnRows.none_other, Remembered.followed_next, Remembered.keeps_followed}
+use Rattle.bank_transactions.proofs.{Remembered.recalls_read, Remembered.recalls_then}
 use Rattle.bank_transactions.proofs.{Tries.tried_own, Chained.still_in, Running.ran_since, Together.all_ran, Together.requests_ran}
 use Rattle.bank_transactions.proofs.{HeldBatch.answers_all, LookUps.does_fail, LookUps.does_look, NewBatch.all_held}
 use Rattle.bank_transactions.proofs.{NewBatch.answered_new, NewBatch.decided_all, NewBatch.is_again, NewBatch.refused_new}
@@ -172,3 +173,13 @@ returns-in_ok-write_after-in-Ok-clause-remembers g c =
     keeps_followed m c.write_after.new.memory c.in_ok-fill_known.ensures.says (all_written o puts end.does)
     (followed_next c.write_after.new.tx m m c.write_after.new.memory puts (λ clean. omega (arith, end.does.says.survives.clean, clean))
     (c.in-Ok.ensures.follows m) end.follows) c.in_ok-fill_known.ensures.remembers
+
+pub returns-then-not-all_decided-clause-recalls : goal.returns-then-not-all_decided-clause-recalls
+returns-then-not-all_decided-clause-recalls g c =
+    recalls_read c.fill_known.new.memory c.in_ok-fill_known.ensures.says c.in_ok-fill_known.ensures.remembers
+
+pub returns-in-Err-clause-recalls : goal.returns-in-Err-clause-recalls
+returns-in-Err-clause-recalls g c =
+    recalls_then g.S.Store c.args.tx.now c.fill_known.new.tx c.put_requests.new.tx c.fill_known.new.memory
+    (λ clean. omega (arith, c.in-Err.ensures.puts.says.survives.clean, clean))
+    (recalls_read c.fill_known.new.memory c.in_ok-fill_known.ensures.says c.in_ok-fill_known.ensures.remembers)

@@ -1,10 +1,14 @@
 -- A try in a transaction of its own, which is dropped where a request may be kept.
-use Rattle.std.proofs.Common.{◌≡◌, Err, None, refl, rules}
+use Rattle.std.proofs.Common.{◌≡◌, Err, None, Ok, arith, false, refl, rules, true}
+use Rattle.std.specs.Prelude.{Bool}
+use Rattle.sqlite.specs.State.{IsUnchanged, State}
+use Rattle.sqlite.specs.Table.{Table}
+use Rattle.sql_meanings.specs.StatementAnswers.{TellsProbe}
 use Rattle.posting_batch.specs.View.{IsMadeOf}
 use Rattle.store_rows.specs.declared.fault.TableFault.TheVariants.{Sqlite}
 use Rattle.bank_transactions.specs.Tries.{batch_of}
-use Rattle.bank_transactions.proofs.Remembered.{begins, tried_ends}
-use Rattle.bank_transactions.proofs.Tries.{not_asked, tried_busy, tried_says, tried_stored, tried_undone}
+use Rattle.bank_transactions.proofs.Remembered.{begins, recalls_undone, tried_ends}
+use Rattle.bank_transactions.proofs.Tries.{as_before, not_asked, tried_busy, tried_says, tried_stored, tried_undone}
 use Rattle.bank_transactions.proofs.first_try.try_new.Goals.{in-Ok+in-Answered-1, in-Err-1}
 use Rattle.bank_transactions.proofs.first_try.try_new.Goals as goal
 
@@ -91,3 +95,22 @@ returns-clause-remembers g c =
     c.conn-2-1.given.0 c.answer_new-tried.result c.finish.result c.answer_new-tried.new.memory
     (rw same at c.finish.ensures) (search rules) none (rw c.begin-tx.ensures.begun refl)
     c.answer_new-tried.ensures.remembers
+
+-- a probe changes nothing, whether it is understood or not
+unchanged_by : (old new : State) (table : Table) (is_understood : Bool) → TellsProbe old new table (Ok is_understood)
+    → IsUnchanged old new
+unchanged_by old new table true told = told.1
+unchanged_by old new table false told = told.1
+
+pub returns-in-Ok-Again-clause-remembers : goal.returns-in-Ok-Again-clause-remembers
+returns-in-Ok-Again-clause-remembers g c =
+    let back : c.rollback.new.self.0 ≡ c.conn-1.given.0 = search rules in
+    let left = rw back at c.rollback.ensures.survives in
+    let more = c.probe_table.ensures.survives in
+    recalls_undone g.S.Store c.args.conn.now c.begin-tx.result c.answer_new-tried.new.tx c.probe_table.new.conn
+    c.answer_new-tried.new.memory c.begin-tx.ensures.begun
+    (as_before g.S.Store c.args.conn.now c.begin-tx.result c.answer_new-tried.new.tx c.conn-1.given.0
+    c.probe_table.new.conn c.begin-tx.ensures.begun c.begin-tx.ensures.settled c.in-Ok-Again.ensures.quiet
+    (rw back at c.rollback.ensures.undone) left (c.probe_table.ensures.mode (rw back at c.rollback.ensures.ended)) more
+    (λ clean. unchanged_by _ _ _ c.in_ok-probe_table.field-0 (c.in_ok-probe_table.ensures.told clean)))
+    (λ clean. omega (arith, left.clean, more.clean, clean)) (rw c.in-Ok-Again.field-0-is at c.in-Ok-Again.ensures.recalls)
