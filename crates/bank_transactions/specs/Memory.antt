@@ -1,5 +1,5 @@
 -- What is remembered of the rows of a bank's file.
-use Rattle.std.specs.Prelude.{Option, IfSome, IsTrue, OnOk, Result, Ok, Err}
+use Rattle.std.specs.Prelude.{◌≡◌, ℤ, Option, IfSome, IsTrue, OnOk, Result, Ok, Err}
 use Rattle.sqlite.specs.Effect.{Database}
 use Rattle.sqlite.specs.Held.{Held, state}
 use Rattle.sqlite.specs.State.{State, HasCleanDisk}
@@ -15,7 +15,8 @@ use Rattle.store_rows.specs.believed.Rules.{StoredRows}
 use Rattle.store_rows.specs.believed.Stored.{FindsStored}
 use Rattle.store_rows.specs.declared.fault.TableFault.{TableFault}
 use Rattle.store_rows.specs.Lying.{AfterWrite, BalanceLies, BranchLies, CountLies, FloorLies, IsBankFile}
-use Rattle.store_rows.specs.declared.holders.Member.TheVariants.{Account, Teller}
+use Rattle.store_rows.specs.declared.holders.Member.{Member, TheVariants.Account, TheVariants.Teller}
+use Rattle.known_rows.specs.declared.table.Known.{Known}
 use Rattle.bank_transactions.specs.KnownRows.{AllKnown}
 use Rattle.bank_transactions.specs.Doing.{Stays}
 use Rattle.bank_transactions.specs.declared.memory.Memory.{Memory}
@@ -28,6 +29,11 @@ pub record Fits (db : Database) (memory : Memory) : Type 0 where
   pub floors : AllKnown memory.floors (λ branch row. FloorLies branch db row)
   pub tellers : AllKnown memory.tellers (λ teller balance. BalanceLies (Teller teller) db balance)
   pub accounts : AllKnown memory.accounts (λ account balance. BalanceLies (Account account) db balance)
+
+-- the balances that are remembered of accounts, or of tellers
+abbrev pub balances_of : Memory → Member → Known (Option ℤ)
+balances_of memory (Account account) = memory.accounts
+balances_of memory (Teller teller) = memory.tellers
 
 -- nothing is remembered that a database would have to hold
 abbrev pub IsBlank : Memory → Type 0
@@ -59,6 +65,10 @@ Follows g old new before after result = OnOk result (IsFollowed g old new before
 abbrev pub StaysOrFails : {X : Type 0} → State → State → Result X TableFault → Type 0
 StaysOrFails old new (Ok x) = Stays old new
 StaysOrFails old new (Err fault) = WriteFails old new × HasReason old new fault
+
+-- what is remembered is answered, and the tables aren't asked
+abbrev pub AsksOnce : {S X E : Type 0} → Transaction S → Transaction S → Option X → Result X E → Type 0
+AsksOnce old new remembered result = IfSome remembered (λ x. (result ≡ Ok x) × (new.conn.now ≡ old.conn.now))
 
 -- what the row reads as is reported, whatever rows are held
 abbrev pub Recalls : {S X : Type 0} → Ghosts S → Transaction S → Transaction S → (StoredRows → Option Entry)

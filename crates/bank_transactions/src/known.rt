@@ -1,12 +1,14 @@
 //! What is looked up where it isn't remembered.
-ghost use Rattle.std.specs.Prelude.{◌≤◌, ◌≤ℤ◌, pos, IfOk, IfSome, OnOk};
+ghost use Rattle.std.specs.Prelude.{◌≡◌, ◌<◌, ◌≤◌, ◌≤ℤ◌, pos, IfOk, IfSome, OnOk, Some};
+ghost use Rattle.known_rows.specs.Known.{Knows, known_under, places};
 ghost use Rattle.sqlite.specs.Held.{state};
 ghost use Rattle.sqlite.specs.State.{HasCleanDisk};
-ghost use Rattle.store_rows.specs.Holders.{entry_under};
+ghost use Rattle.store_rows.specs.Holders.{entry_under, holder_of};
+ghost use Rattle.store_rows.specs.Lying.{holder_key};
 ghost use Rattle.store_rows.specs.believed.Readings.{read_balance, read_branch, read_floor};
 ghost use Rattle.store_rows.specs.believed.Rules.{OfRows, row_under};
 ghost use Rattle.bank_transactions.specs.Doing.{Reads};
-ghost use Rattle.bank_transactions.specs.Memory.{Recalls, Remembers};
+ghost use Rattle.bank_transactions.specs.Memory.{AsksOnce, Recalls, Remembers, balances_of};
 ghost use Rattle.bank_transactions.specs.believed.Stored.{HoldsDecided};
 
 use crate::{Memory, decided};
@@ -25,6 +27,8 @@ pub(crate) fn known_decided<S: Alter>(
     ensures says { Reads S.Store tx.old tx.new (λ tables. tables.decided) result }
     ensures stored { IfOk result (λ decided. HasCleanDisk (state S.Store tx.new.conn.now)
         → OfRows (λ rows. HoldsDecided rows decided) (state S.Store tx.old.conn.now).now) }
+    ensures once { AsksOnce tx.old tx.new memory.old.decided result }
+    ensures noted { IfOk result (λ decided. memory.new.decided ≡ Some decided) }
     ensures remembers { OnOk result (∥ Remembers S.Store tx.new.conn.now memory.new ∥₁) }
 {
     if let Some(decided) = memory.decided {
@@ -43,6 +47,8 @@ pub(crate) fn known_branch_row<S: Alter>(
 ) -> Result<Option<BranchRow>, TableFault>
     requires { ∥ Remembers S.Store tx.old.conn.now memory.old ∥₁ }
     ensures recalls { Recalls S.Store tx.old tx.new (λ rows. row_under rows.branches branch) read_branch result }
+    ensures once { AsksOnce tx.old tx.new (known_under memory.old.branches branch) result }
+    ensures noted { IfOk result (λ row. 0 < places memory.old.branches → Knows memory.new.branches branch row) }
     ensures remembers { OnOk result (∥ Remembers S.Store tx.new.conn.now memory.new ∥₁) }
 {
     if let Some(row) = memory.branch_row(branch) {
@@ -62,6 +68,8 @@ pub(crate) fn known_floor_row<S: Alter>(
     requires { ∥ Remembers S.Store tx.old.conn.now memory.old ∥₁ }
     ensures recalls { Recalls S.Store tx.old tx.new (λ rows. row_under rows.floors branch) read_floor result }
     ensures within { IfOk result (λ found. IfSome found (λ row. row.lowest ≤ℤ pos 0)) }
+    ensures once { AsksOnce tx.old tx.new (known_under memory.old.floors branch) result }
+    ensures noted { IfOk result (λ row. 0 < places memory.old.floors → Knows memory.new.floors branch row) }
     ensures remembers { OnOk result (∥ Remembers S.Store tx.new.conn.now memory.new ∥₁) }
 {
     if let Some(row) = memory.floor_row(branch) {
@@ -80,6 +88,10 @@ pub(crate) fn known_balance<S: Alter>(
 ) -> Result<Option<Cents>, TableFault>
     requires { ∥ Remembers S.Store tx.old.conn.now memory.old ∥₁ }
     ensures recalls { Recalls S.Store tx.old tx.new (entry_under member.now) read_balance result }
+    ensures once { AsksOnce tx.old tx.new
+        (known_under (balances_of memory.old member.now) (holder_key (holder_of member.now))) result }
+    ensures noted { IfOk result (λ balance. 0 < places (balances_of memory.old member.now)
+        → Knows (balances_of memory.new member.now) (holder_key (holder_of member.now)) balance) }
     ensures remembers { OnOk result (∥ Remembers S.Store tx.new.conn.now memory.new ∥₁) }
 {
     if let Some(balance) = memory.balance(member) {

@@ -50,6 +50,7 @@ pub struct Memory {
 
 impl Memory {
     ghost use Rattle.std.specs.Prelude.{◌≡◌, ◌≤ℤ◌, pos, Some};
+    ghost use Rattle.known_rows.specs.Known.{Knows, known_under, places};
     ghost use Rattle.sqlite.specs.Effect.{Database};
     ghost use Rattle.store_rows.specs.believed.BankTables.{branch as branch_table, floor as floor_table, meta};
     ghost use Rattle.store_rows.specs.Holders.{holder_of, holder_table};
@@ -57,7 +58,7 @@ impl Memory {
     ghost use Rattle.store_rows.specs.Lying.{SetsBalance, holder_key};
     ghost use Rattle.store_rows.specs.declared.holders.Holder.TheVariants as holder;
     ghost use Rattle.store_rows.specs.believed.Inserts.{meta_key};
-    ghost use Rattle.bank_transactions.specs.Memory.{Fits, IsBlank};
+    ghost use Rattle.bank_transactions.specs.Memory.{Fits, IsBlank, balances_of};
 
     /// Nothing is remembered yet, and there is room for what will be: some 800 KiB. Where no memory is to be had, no rows
     /// are ever remembered.
@@ -110,7 +111,8 @@ impl Memory {
     /// Notes how many requests are decided, as it was read or written.
     pub(crate) fn note(&mut self, decided: u64)
         requires { decided ≤ MAX_DECIDED }
-        ensures { (was now : Database) → LeavesOthers meta meta_key was now → CountLies now decided
+        ensures noted { self.new.decided ≡ Some decided }
+        ensures fits { (was now : Database) → LeavesOthers meta meta_key was now → CountLies now decided
             → Fits was self.old → Fits now self.new }
     {
         self.decided = Some(decided);
@@ -118,14 +120,16 @@ impl Memory {
 
     /// The row of a branch, if it is known.
     pub(crate) fn branch_row(&self, branch: Branch) -> Option<Option<BranchRow>>
-        ensures { (db : Database) → Fits db self.now → IfSome result (BranchLies branch db) }
+        ensures value { result ≡ known_under self.now.branches branch }
+        ensures lies { (db : Database) → Fits db self.now → IfSome result (BranchLies branch db) }
     {
         self.branches.get(branch.get())
     }
 
     /// Notes the row of a branch, as it was read.
     pub(crate) fn note_branch(&mut self, branch: Branch, row: &Option<BranchRow>)
-        ensures { (was now : Database) → LeavesOthers branch_table branch was now → BranchLies branch now row.now
+        ensures noted { 0 < places self.old.branches → Knows self.new.branches branch row.now }
+        ensures fits { (was now : Database) → LeavesOthers branch_table branch was now → BranchLies branch now row.now
             → Fits was self.old → Fits now self.new }
     {
         self.branches.put(branch.get(), *row);
@@ -133,6 +137,7 @@ impl Memory {
 
     /// The floor of a branch, if it is known.
     pub(crate) fn floor_row(&self, branch: Branch) -> Option<Option<FloorRow>>
+        ensures value { result ≡ known_under self.now.floors branch }
         ensures lies { (db : Database) → Fits db self.now → IfSome result (FloorLies branch db) }
         ensures within { IfSome result (λ found. IfSome found (λ row. row.lowest ≤ℤ pos 0)) }
     {
@@ -142,7 +147,8 @@ impl Memory {
     /// Notes the floor of a branch, as it was read.
     pub(crate) fn note_floor(&mut self, branch: Branch, row: &Option<FloorRow>)
         requires { IfSome row.now (λ r. r.lowest ≤ℤ pos 0) }
-        ensures { (was now : Database) → LeavesOthers floor_table branch was now → FloorLies branch now row.now
+        ensures noted { 0 < places self.old.floors → Knows self.new.floors branch row.now }
+        ensures fits { (was now : Database) → LeavesOthers floor_table branch was now → FloorLies branch now row.now
             → Fits was self.old → Fits now self.new }
     {
         self.floors.put(branch.get(), *row);
@@ -150,7 +156,9 @@ impl Memory {
 
     /// The balance of an account or a teller, if it is known.
     pub(crate) fn balance(&self, member: &Member) -> Option<Option<Cents>>
-        ensures { (db : Database) → Fits db self.now → IfSome result (BalanceLies member.now db) }
+        ensures value { result
+            ≡ known_under (balances_of self.now member.now) (holder_key (holder_of member.now)) }
+        ensures lies { (db : Database) → Fits db self.now → IfSome result (BalanceLies member.now db) }
     {
         match member {
             Member::Account(account) => self.accounts.get(account.get()),
@@ -160,7 +168,9 @@ impl Memory {
 
     /// Notes the balance of an account or a teller, as it was read or written.
     pub(crate) fn note_balance(&mut self, member: &Member, balance: &Option<Cents>)
-        ensures { (was now : Database)
+        ensures noted { 0 < places (balances_of self.old member.now)
+            → Knows (balances_of self.new member.now) (holder_key (holder_of member.now)) balance.now }
+        ensures fits { (was now : Database)
             → LeavesOthers (holder_table (holder_of member.now)) (holder_key (holder_of member.now)) was now
             → BalanceLies member.now now balance.now → Fits was self.old → Fits now self.new }
     {

@@ -128,4 +128,4 @@ returns-clause-follows g c =
     followed_next c.write_decided.new.tx m m5 c.note.new.self s5.does
     (λ clean. omega (arith, c.in_ok-write_decided.ensures.writes.does.says.survives.clean, clean)) f5
     (followed_change g.S.Store c.make_all-4.new.tx c.write_decided.new.tx bank.meta meta_key
-    (λ was now. CountLies now o.decided) m5 c.note.new.self c.in_ok-write_decided.ensures.lies c.note.ensures)
+    (λ was now. CountLies now o.decided) m5 c.note.new.self c.in_ok-write_decided.ensures.lies c.note.ensures.fits)

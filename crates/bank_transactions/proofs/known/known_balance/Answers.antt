@@ -13,7 +13,7 @@ pub returns-in-Some-clause-recalls : goal.returns-in-Some-clause-recalls
 returns-in-Some-clause-recalls g c =
     looks_known c.args.memory.now (entry_under c.args.member.now) read_balance c.in-Some.balance (λ db found. BalanceLies c.args.member.now db found)
     (search rules)
-    (λ db fits. subst (λ o. IfSome o (BalanceLies c.args.member.now db)) c.in-Some.is (c.balance.ensures db fits))
+    (λ db fits. subst (λ o. IfSome o (BalanceLies c.args.member.now db)) c.in-Some.is (c.balance.ensures.lies db fits))
     (λ db rows has lies. finds_balance db rows has c.args.member.now c.in-Some.balance lies) c.requires
 
 pub returns-clause-recalls : goal.returns-clause-recalls
@@ -23,4 +23,4 @@ returns-clause-recalls g c =
 pub returns-clause-remembers : goal.returns-clause-remembers
 returns-clause-remembers g c =
     noted_look c.in_ok-balance.balance c.args.memory.now c.note_balance.new.self (λ db found. BalanceLies c.args.member.now db found) c.in_ok-balance.ensures.looks_up c.in_ok-balance.ensures.lies
-    (λ db file. c.note_balance.ensures db db (leaves_same (holder_table (holder_of c.args.member.now)) (holder_key (holder_of c.args.member.now)) db file)) c.requires
+    (λ db file. c.note_balance.ensures.fits db db (leaves_same (holder_table (holder_of c.args.member.now)) (holder_key (holder_of c.args.member.now)) db file)) c.requires

@@ -13,7 +13,7 @@ pub returns-in-Some-clause-recalls : goal.returns-in-Some-clause-recalls
 returns-in-Some-clause-recalls g c =
     looks_known c.args.memory.now (λ rows. row_under rows.branches c.args.branch) read_branch c.in-Some.row (λ db found. BranchLies c.args.branch db found)
     (search rules)
-    (λ db fits. subst (λ o. IfSome o (BranchLies c.args.branch db)) c.in-Some.is (c.branch_row.ensures db fits))
+    (λ db fits. subst (λ o. IfSome o (BranchLies c.args.branch db)) c.in-Some.is (c.branch_row.ensures.lies db fits))
     (λ db rows has lies. finds_branch db rows has c.args.branch c.in-Some.row lies) c.requires
 
 pub returns-clause-recalls : goal.returns-clause-recalls
@@ -23,4 +23,4 @@ returns-clause-recalls g c =
 pub returns-clause-remembers : goal.returns-clause-remembers
 returns-clause-remembers g c =
     noted_look c.in_ok-row.row c.args.memory.now c.note_branch.new.self (λ db found. BranchLies c.args.branch db found) c.in_ok-row.ensures.looks_up c.in_ok-row.ensures.lies
-    (λ db file. c.note_branch.ensures db db (leaves_same bank.branch c.args.branch db file)) c.requires
+    (λ db file. c.note_branch.ensures.fits db db (leaves_same bank.branch c.args.branch db file)) c.requires

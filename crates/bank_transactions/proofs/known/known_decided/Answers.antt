@@ -19,4 +19,4 @@ returns-clause-remembers g c =
     let it = c.in_ok-decided.ensures in
     noted g.S.Store c.args.tx.now.conn.now c.decided.new.tx.conn.now c.args.memory.now c.note.new.self c.in_ok-decided.decided CountLies
     (λ clean. omega (arith, it.says.says.survives.clean, clean)) (λ clean. (it.says.says.leaves clean).0.now) it.lies
-    (λ db file lies. c.note.ensures db db (leaves_same bank.meta meta_key db file) lies) c.requires
+    (λ db file lies. c.note.ensures.fits db db (leaves_same bank.meta meta_key db file) lies) c.requires

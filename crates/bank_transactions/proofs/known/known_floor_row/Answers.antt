@@ -23,4 +23,4 @@ returns-clause-recalls g c =
 pub returns-clause-remembers : goal.returns-clause-remembers
 returns-clause-remembers g c =
     noted_look c.in_ok-row.row c.args.memory.now c.note_floor.new.self (λ db found. FloorLies c.args.branch db found) c.in_ok-row.ensures.looks_up c.in_ok-row.ensures.lies
-    (λ db file. c.note_floor.ensures db db (leaves_same bank.floor c.args.branch db file)) c.requires
+    (λ db file. c.note_floor.ensures.fits db db (leaves_same bank.floor c.args.branch db file)) c.requires

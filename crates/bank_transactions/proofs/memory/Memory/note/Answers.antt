@@ -3,5 +3,5 @@ use Rattle.std.proofs.Common.{refl}
 use Rattle.bank_transactions.proofs.Fitting.{count_noted}
 use Rattle.bank_transactions.proofs.memory.Memory.note.Goals as goal
 
-pub returns : goal.returns
-returns c was now left lies fits = count_noted c.args.self.now _ was now fits refl refl refl refl left lies
+pub returns-clause-fits : goal.returns-clause-fits
+returns-clause-fits c was now left lies fits = count_noted c.args.self.now _ was now fits refl refl refl refl left lies

@@ -8,8 +8,8 @@ pub invariant_of-self-clause-low : goal.invariant_of-self-clause-low
 invariant_of-self-clause-low c = low_noted c.args.self.now.floors c.put.new.self c.args.branch c.args.row.now
     (rw c.get.ensures.value at c.put.ensures.true_after) c.requires c.args.self.now.low
 
-pub returns : goal.returns
-returns c was now left lies fits =
+pub returns-clause-fits : goal.returns-clause-fits
+returns-clause-fits c was now left lies fits =
     floors_noted c.args.self.now _ was now fits c.args.branch refl refl refl refl left (λ still.
     known_put (λ k row. FloorLies k was row) (λ k row. FloorLies k now row) c.args.branch still c.args.self.now.floors
     c.put.new.self c.args.row.now (rw c.get.ensures.value at c.put.ensures.true_after) lies fits.floors)
