@@ -1,6 +1,6 @@
 -- Parts of a call that write, one after another, and what they ran.
-use Rattle.std.proofs.Common.{◌≡◌, ◌++◌, true, false, List, [], ◌∷◌, Ok, Err, Result, refl, sym, subst, arith}
-use Rattle.std.specs.Prelude.{Bool, IsTrue, OnOk, ℕ}
+use Rattle.std.proofs.Common.{◌≡◌, ◌++◌, true, false, List, [], ◌∷◌, Ok, Err, Result, refl, subst, arith}
+use Rattle.std.specs.Prelude.{Bool, IsTrue, ℕ}
 use Rattle.std.proofs.lemmas.Result.{on_ok_weaker}
 use Rattle.sqlite.specs.{Effect.Database, Held.state, Order.Row, State.HasCleanDisk, State.Survives, Table.Table}
 use Rattle.sqlite.specs.{declared.error.Error.Error, declared.transaction.Transaction.Transaction}
@@ -8,7 +8,7 @@ use Rattle.sqlite_trees.specs.declared.store.Store.{Ghosts}
 use Rattle.posting_rules.specs.{believed.Tables.Tables, declared.fault.Rule.Rule}
 use Rattle.store_rows.specs.{Calls.AddsRow, Calls.SetsNumber, Sparing.MakesIfOk, declared.fault.TableFault.TableFault}
 use Rattle.store_rows.specs.believed.{Failures.Additions, Failures.IsUpdateOf, Made.Makes}
-use Rattle.bank_transactions.specs.{Doing.Does, Doing.expected, Running.Leads, Running.RunsIfOk, Running.Writes}
+use Rattle.bank_transactions.specs.{Doing.expected, Running.Leads, Running.RunsIfOk, Running.Writes}
 use Rattle.bank_transactions.specs.believed.Ran.{LeadTo, Runs, Statements}
 use Rattle.bank_transactions.proofs.Chained.{does_adds, does_err, does_for, does_none, does_then, still_in}
 use Rattle.bank_transactions.proofs.{Leading.lead_none, Leading.lead_then, Statements.does_add, Statements.does_write}

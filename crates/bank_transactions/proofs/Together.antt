@@ -9,7 +9,6 @@ use Rattle.sqlite_trees.specs.declared.store.Store.{Ghosts}
 use Rattle.posting_rules.specs.declared.rows.{BranchRow.BranchRow, RequestRow.RequestRow}
 use Rattle.posting_rules.specs.believed.Tables.{Tables, row_at, branch_key}
 use Rattle.posting_batch.specs.declared.slots.BranchSlot.{BranchSlot}
-use Rattle.posting_batch.specs.Batch.{ChangesRows}
 use Rattle.posting_batch.specs.Overlay.{Overlay, accounts_over, tellers_over, branches_over, history_put}
 use Rattle.posting_batch.specs.Overlay.{requests_put, references_put, tables_over}
 use Rattle.posting_batch.specs.Slots.{account_slot_key, teller_slot_key, branch_slot_key}

@@ -1,5 +1,5 @@
 -- One request more is put in.
-use Rattle.std.proofs.Common.{◌≡◌, ◌<◌, ◌+◌, ◌++◌, [], ◌∷◌, List, Err, Ok, take, length, rules, arith, refl, ◌∙◌, subst}
+use Rattle.std.proofs.Common.{◌≡◌, ◌<◌, ◌+◌, ◌++◌, [], ◌∷◌, List, Err, Ok, take, length, rules, arith, ◌∙◌, subst}
 use Rattle.std.proofs.Common.{sym, ap}
 use Rattle.std.proofs.{lemmas.List.take_more, Math.Seq.take-length}
 use Rattle.sqlite.specs.{Held.state, State.HasCleanDisk}
