@@ -14,5 +14,5 @@ pub mod Broken
 pub mod OncePosted
 pub mod LogFiles
 pub mod FaultsTold
-pub mod Summed
+pub mod Visited
 pub mod ReadsThen

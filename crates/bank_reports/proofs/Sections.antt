@@ -9,7 +9,8 @@ use Rattle.report_contents.specs.declared.form.Form.{Form}
 use Rattle.report_contents.proofs.Joined.{text_of-append}
 use Rattle.report_contents.proofs.Written.{first_part, same_all, same_part, then_part}
 use Rattle.bank_reports.specs.declared.fault.ReportFault.{ReportFault, TheVariants.Write}
-use Rattle.bank_reports.specs.Postings.{WritesPostings, WritesStatement, closing_after, form_lines, text_so_far}
+use Rattle.bank_reports.specs.Postings.{WritesStatement, closing_after, form_lines, text_so_far}
+use Rattle.bank_reports.proofs.Further.{WritesPostings}
 
 module _ (account : ℕ) (form : Form) (all : List Pair) (old : Option (List ℕ)) where
   later : List StatedPosting → List Pair → List ℕ

@@ -1,6 +1,8 @@
 -- What reports of a bank in a file write.
 pub mod ReportFaults
 pub mod Postings
+pub mod Refusals
+pub mod Visitors
 pub mod StatedLines
 pub mod Files
 pub mod Adding

@@ -21,8 +21,6 @@ use Rattle.report_contents.specs.declared.query.Layout.TheVariants as layout
 use Rattle.report_contents.specs.declared.query.Query.{Query}
 use Rattle.report_contents.specs.declared.query.Selection.{Selection}
 use Rattle.report_contents.specs.declared.range.Range.{Range}
-use Rattle.report_contents.specs.declared.range_sums.RangeSums.{RangeSums}
-use Rattle.report_contents.specs.Ranges.{HasSummed}
 use Rattle.report_contents.specs.Written.{AppendsPart}
 use Rattle.bank_reports.specs.declared.fault.ReportFault.{ReportFault}
 use Rattle.bank_reports.specs.declared.fault.ReportFault.TheVariants.{NoAccount, Write, Bank}
@@ -81,25 +79,6 @@ WritesText text old new (Err e) = AppendsPart old new text
 abbrev pub form_lines : Form → List StatedPosting → List (List ℕ)
 form_lines form rows = lines_by (line_of form) (pos 0) rows
 
--- of these rows the first were given and the rest weren't, and the lines of those that were given were
--- written
-pub record WritesPostings (form : Form) (all : List Pair) (old new : Option (List ℕ))
-    (result : Result (Unit {0}) ReportFault) : Type 0 where
-  pub given : List StatedPosting
-  pub rest : List Pair
-  pub are : map stated_pair given ++ rest ≡ all
-  pub why : Why given rest result
-  pub wrote : WritesText (text_of (form_lines form given)) old new result
-
--- of these rows the first were added and the rest weren't
-pub record AddsPostings (range : Range) (all : List Pair) (sums : RangeSums)
-    (result : Result (Unit {0}) ReportFault) : Type 0 where
-  pub given : List StatedPosting
-  pub rest : List Pair
-  pub are : map stated_pair given ++ rest ≡ all
-  pub why : Why given rest result
-  pub summed : HasSummed range sums given
-
 -- the closing line is after the last posting
 abbrev pub closing_after : Form → List Pair → List (List ℕ)
 closing_after form [] = last_of form ∷ []
@@ -111,7 +90,7 @@ text_so_far account form given rest =
     text_of (heading_of form account ∷ names_of form
     ∷ (form_lines form given ++ closing_after form rest))
 
--- the same of the whole statement
+-- of these rows the first were given and the rest weren't, and the statement of those that were given was written
 pub record WritesStatement (account : ℕ) (form : Form) (all : List Pair) (old new : Option (List ℕ))
     (result : Result (Unit {0}) ReportFault) : Type 0 where
   pub given : List StatedPosting

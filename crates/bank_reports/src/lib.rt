@@ -52,8 +52,8 @@ mod lines;
 mod passes;
 mod postings;
 mod statement;
-mod summing;
 mod sums;
+mod visitors;
 
 pub use audits::audit;
 pub use fault::ReportFault;

@@ -1,5 +1,5 @@
-//! The lines of an account's postings.
-ghost use Rattle.std.specs.Prelude.{◌≡◌, List, Err, OnOk, Some, filter};
+//! Visits to the postings of an account.
+ghost use Rattle.std.specs.Prelude.{◌≡◌, [], List, Err, OnOk, Some, filter};
 ghost use Rattle.sqlite.specs.State.{HasCleanDisk};
 ghost use Rattle.posting_core.specs.Told.{HasMore, HasWriteFailed};
 ghost use Rattle.store_rows.specs.believed.BankTables.{history as history_table, reference as reference_table};
@@ -9,60 +9,59 @@ ghost use Rattle.bank_store.specs.believed.Seen.{database_of, file_of};
 ghost use Rattle.bank_store.specs.Walking.{HasToldFault, lent, lent_state, loan_of, postings_to_come};
 ghost use Rattle.bank_reports.specs.declared.fault.ReportFault.TheVariants.{Write};
 ghost use Rattle.bank_reports.specs.Leaving.{ReadsRows};
-ghost use Rattle.bank_reports.specs.Postings.{WritesPostings};
+ghost use Rattle.bank_reports.specs.Visitors.{VisitsPostings};
 
 use crate::fault::ReportFault;
-use crate::lines::write_line;
+use crate::visitors::Visitor;
 use bank_store::{Bank, Walk, history_of};
-use message_records::{Account, Cents};
+use message_records::Account;
 use posting_core::Sink;
 use posting_rules::{Fault, Rule};
-use report_contents::Form;
 use sqlite::Alter;
 use walked_rows::StatedPosting;
 
-// Writes the lines of the postings that a walk gives, in a form. A fault of the rows leaves the bank as it was.
-fn write_rows<S: Alter, W: Sink>(
+// Visits the postings that a walk gives. A fault of the rows leaves the bank as it was.
+fn visit_rows<S: Alter, V: Visitor, W: Sink>(
     walk: &mut Walk<'_, S, StatedPosting>,
-    form: &Form,
+    visitor: &mut V,
     writer: &mut W,
 ) -> Result<(), ReportFault>
     requires fresh { HasToldFault walk.old → ⊥ }
+    requires none { V.Visited visitor.old (W.contents writer.old) [] visitor.old (W.contents writer.old) }
     ensures same_reference { loan_of walk.new ≡ loan_of walk.old }
     ensures told { HasCleanDisk (lent_state S.Store walk.new) → (rows : List Pair)
         → HasPairs (lent_state S.Store walk.old).now history_table reference_table rows
-        → WritesPostings form.now (postings_to_come rows walk.old) (W.contents writer.old)
+        → VisitsPostings V.Visited V.Refused visitor.old visitor.new (postings_to_come rows walk.old) (W.contents writer.old)
         (W.contents writer.new) result }
     ensures reads { ReadsRows S.Store (lent walk.old) (lent walk.new) result }
     ensures more { OnOk result (HasMore (W.told writer.old) (W.told writer.new)) }
     ensures failed { result ≡ Err Write → HasWriteFailed (W.told writer.old) (W.told writer.new) }
 {
-    let mut balance = Cents::zero(); // an account opens at zero
-    'lines: for _ in 0..u64::MAX {
+    'rows: for _ in 0..u64::MAX {
         let Some(row) = walk.next()? else {
             return Ok(());
         };
-        balance = write_line(form, &row, balance, writer)?;
+        visitor.visit(&row, writer)?;
     }
     Err(ReportFault::Bank(Fault::Damaged(Rule::Value)))
 }
 
-/// Writes the lines of an account's postings in a form, by their ordinals. A fault of the rows leaves the bank as it
-/// was.
-pub(crate) fn write_postings<S: Alter, W: Sink>(
+/// Visits an account's postings, by their ordinals. A fault of the rows leaves the bank as it was.
+pub(crate) fn visit_postings<S: Alter, V: Visitor, W: Sink>(
     bank: &mut Bank<S>,
     account: Account,
-    form: &Form,
+    visitor: &mut V,
     writer: &mut W,
 ) -> Result<(), ReportFault>
+    requires none { V.Visited visitor.old (W.contents writer.old) [] visitor.old (W.contents writer.old) }
     ensures told { HasCleanDisk (file_of bank.new) → (rows : List Pair)
         → HasPairs (database_of S.Store bank.old) history_table reference_table rows
-        → WritesPostings form.now (filter (is_stated_of (Some account)) rows) (W.contents writer.old)
-        (W.contents writer.new) result }
+        → VisitsPostings V.Visited V.Refused visitor.old visitor.new (filter (is_stated_of (Some account)) rows)
+        (W.contents writer.old) (W.contents writer.new) result }
     ensures reads { ReadsRows S.Store bank.old bank.new result }
     ensures more { OnOk result (HasMore (W.told writer.old) (W.told writer.new)) }
     ensures failed { result ≡ Err Write → HasWriteFailed (W.told writer.old) (W.told writer.new) }
 {
     let mut walk = history_of(bank, account)?;
-    write_rows(&mut walk, form, writer)
+    visit_rows(&mut walk, visitor, writer)
 }

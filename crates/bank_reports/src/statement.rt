@@ -16,8 +16,8 @@ ghost use Rattle.bank_reports.specs.Statements.{LeavesWriter, RefusesBalance, St
 ghost use Rattle.bank_reports.specs.Statements.{StatesFileSelected};
 
 use crate::fault::ReportFault;
-use crate::postings::write_postings;
-use crate::summing::sum_postings;
+use crate::postings::visit_postings;
+use crate::visitors::Lines;
 use bank_store::Bank;
 use message_records::{Account, Cents};
 use posting_core::Sink;
@@ -42,7 +42,8 @@ fn write_lines<S: Alter, W: Sink>(
 {
     put(writer, form.heading(account).as_str())?;
     put(writer, form.names().as_str())?;
-    write_postings(bank, account, form, writer)?;
+    let mut lines = Lines::none(form);
+    visit_postings(bank, account, &mut lines, writer)?;
     put_last(writer, form.closing().as_str())?;
     Ok(())
 }
@@ -64,7 +65,7 @@ fn write_part<S: Alter, W: Sink>(
     ensures failed { result ≡ Err Write → HasWriteFailed (W.told writer.old) (W.told writer.new) }
 {
     let mut sums = RangeSums::none(range);
-    sum_postings(bank, account, &mut sums)?;
+    visit_postings(bank, account, &mut sums, writer)?;
     let part = Form::of_sums(selection, &sums);
     write_lines(bank, account, &part, writer)
 }

@@ -1,11 +1,13 @@
 -- The heading, the names, the postings and the closing line.
 use Rattle.std.proofs.Common.{rules, ◌≡◌, Err, Some, filter, refl, sym, ◌∙◌}
 use Rattle.posting_rules.specs.declared.fault.Fault.TheVariants.{Down, Memory, Store}
+use Rattle.std.proofs.KnownBytes.{Appends-nil}
 use Rattle.posting_core.specs.Told.{IsFlush}
 use Rattle.posting_core.proofs.Telling.{more_last, more_more}
 use Rattle.walked_rows.specs.Stored.{is_stated_of}
 use Rattle.report_contents.proofs.Written.{later_failed, same_all, same_part}
 use Rattle.bank_reports.specs.declared.fault.ReportFault.TheVariants.{Write}
+use Rattle.bank_reports.proofs.Further.{lines_in}
 use Rattle.bank_reports.proofs.ReportEnds.{not_both, not_ok, not_write}
 use Rattle.bank_reports.proofs.Sections.{all_written, closing_err, heading_err, names_err, postings_err}
 use Rattle.bank_store.proofs.StepsKeep.{still_undone}
@@ -54,17 +56,22 @@ returns-in_err-put-2 g c =
       };
     }
 
-pub returns-in_err-write_postings : goal.returns-in_err-write_postings
-returns-in_err-write_postings g c =
-    let fault = c.in_err-write_postings.field-0.0 in
-    let same : c.from_residual-in_err-write_postings.result ≡ Err fault = search rules in
-    let says = c.in_err-write_postings.ensures in
+pub visit_postings-requires : goal.visit_postings-requires
+visit_postings-requires g c = record {
+  none = record { form = refl; wrote = Appends-nil _; balance = c.none-lines.ensures.balance };
+}
+
+pub returns-in_err-visit_postings : goal.returns-in_err-visit_postings
+returns-in_err-visit_postings g c =
+    let fault = c.in_err-visit_postings.field-0.0 in
+    let same : c.from_residual-in_err-visit_postings.result ≡ Err fault = search rules in
+    let says = c.in_err-visit_postings.ensures in
     record {
       told = λ clean rows has.
           rw same (postings_err c.args.account c.args.form.now (filter (is_stated_of (Some c.args.account)) rows) _ _
           (same_all _ _ (c.as_str.ensures.value ∙ c.heading.ensures) c.in_ok-put.ensures.ok) _
           (same_all _ _ (c.as_str-2.ensures.value ∙ c.names.ensures) c.in_ok-put-2.ensures.ok) _
-          fault (says.told clean rows has));
+          fault (lines_in c.none-lines.ensures.form (says.told clean rows has)));
       flushed = rw same tt;
       failed = λ write.
           later_failed (more_more c.in_ok-put.ensures.more c.in_ok-put-2.ensures.more)
@@ -84,13 +91,13 @@ returns-in_err-write_postings g c =
 pub returns-in_err-put_last : goal.returns-in_err-put_last
 returns-in_err-put_last g c =
     let same : c.from_residual-in_err-put_last.result ≡ Err Write = search rules in
-    let says = c.in_ok-write_postings.ensures in
+    let says = c.in_ok-visit_postings.ensures in
     record {
       told = λ clean rows has.
           rw same (closing_err c.args.account c.args.form.now (filter (is_stated_of (Some c.args.account)) rows) _ _
           (same_all _ _ (c.as_str.ensures.value ∙ c.heading.ensures) c.in_ok-put.ensures.ok) _
           (same_all _ _ (c.as_str-2.ensures.value ∙ c.names.ensures) c.in_ok-put-2.ensures.ok) _
-          (says.told clean rows has) _
+          (lines_in c.none-lines.ensures.form (says.told clean rows has)) _
           (same_part _ _ (c.as_str-3.ensures.value ∙ c.closing.ensures)
           c.in_err-put_last.ensures.err));
       flushed = rw same tt;
@@ -111,13 +118,13 @@ returns-in_err-put_last g c =
 
 pub returns : goal.returns
 returns g c =
-    let says = c.in_ok-write_postings.ensures in
+    let says = c.in_ok-visit_postings.ensures in
     record {
       told = λ clean rows has.
           all_written c.args.account c.args.form.now (filter (is_stated_of (Some c.args.account)) rows) _ _
           (same_all _ _ (c.as_str.ensures.value ∙ c.heading.ensures) c.in_ok-put.ensures.ok) _
           (same_all _ _ (c.as_str-2.ensures.value ∙ c.names.ensures) c.in_ok-put-2.ensures.ok) _
-          (says.told clean rows has) _
+          (lines_in c.none-lines.ensures.form (says.told clean rows has)) _
           (same_all _ _ (c.as_str-3.ensures.value ∙ c.closing.ensures)
           c.in_ok-put_last.ensures.ok);
       flushed =

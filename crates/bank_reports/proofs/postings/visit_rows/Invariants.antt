@@ -1,9 +1,10 @@
--- The postings that the walk gave were added.
+-- The postings that the walk gave were visited.
 use Rattle.std.proofs.Common.{◌≡◌}
 use Rattle.sqlite.specs.{State.HasCleanDisk, State.Survives, Held.state}
+use Rattle.posting_core.specs.Told.{HasMore}
 use Rattle.bank_store.specs.{Walks.IsStill, Walking.HasToldFault, Walking.postings_to_come}
-use Rattle.bank_reports.proofs.Summed.{AreSummed}
-use Rattle.bank_reports.proofs.summing.sum_rows.Given as goal
+use Rattle.bank_reports.proofs.Visited.{AreVisited}
+use Rattle.bank_reports.proofs.postings.visit_rows.Given as goal
 
 abbrev pub invariant-rows : goal.invariant-rows
 invariant-rows g l =
@@ -15,6 +16,8 @@ invariant-rows g l =
       up : l.walk.bank.now.fault ≡ l.fn.walk.bank.now.fault;
       fresh : HasToldFault l.walk → ⊥;
       still : HasCleanDisk now → IsStill old now;
-      summed : AreSummed l.fn.sums.range (HasCleanDisk now) old.now (λ rows. postings_to_come rows l.fn.walk)
-          (λ rows. postings_to_come rows l.walk) l.sums l.counter;
+      more : HasMore (g.W.Sink.told l.fn.writer) (g.W.Sink.told l.writer);
+      visited : AreVisited g.V.Visitor.Visited l.fn.visitor (g.W.Sink.contents l.fn.writer) old.now
+          (λ rows. postings_to_come rows l.fn.walk) (HasCleanDisk now) (λ rows. postings_to_come rows l.walk) l.visitor
+          (g.W.Sink.contents l.writer) l.counter;
     }

@@ -1,15 +1,16 @@
--- The sums of the walk over the account's postings.
-use Rattle.std.proofs.Common.{rules, ◌≡◌, List, [], Err, Some, filter, refl, sym, subst}
+-- The postings that the walk gave were visited.
+use Rattle.std.proofs.Common.{rules, ◌≡◌, List, [], Err, Some, filter, refl, sym, subst, inl}
 use Rattle.sqlite.specs.{State.HasCleanDisk, Held.state}
+use Rattle.posting_rules.specs.declared.fault.Fault.TheVariants.{Down}
 use Rattle.store_rows.specs.believed.BankTables.{history as history_table, reference as reference_table}
 use Rattle.walked_rows.specs.{Pairs.HasPairs, Pairs.Pair, Stored.is_stated_of}
 use Rattle.bank_store.specs.believed.Seen.{bank_seen, connection_of, database_of}
 use Rattle.bank_reports.specs.declared.fault.ReportFault.TheVariants.{Bank}
 use Rattle.bank_store.specs.Failures.{HasFailedToRead}
-use Rattle.bank_reports.specs.Postings.{AddsPostings}
+use Rattle.bank_reports.specs.Visitors.{VisitsPostings}
 use Rattle.bank_reports.proofs.Passed.{failed_at_end}
 use Rattle.bank_reports.proofs.ReportEnds.{down_not_memory, down_not_store, not_missing, not_write}
-use Rattle.bank_reports.proofs.summing.sum_postings.Goals as goal
+use Rattle.bank_reports.proofs.postings.visit_postings.Goals as goal
 
 pub returns-in_err-walk : goal.returns-in_err-walk
 returns-in_err-walk g c =
@@ -22,10 +23,10 @@ returns-in_err-walk g c =
             given = [];
             rest = filter (is_stated_of (Some c.args.account)) rows;
             are = refl;
-            why = tt;
-            summed = c.requires.none;
+            ends = inl (record { visited = c.requires.none; why = tt; read = not_write _ Down refl });
           };
-      unwritten = λ write. not_write _ fault same write;
+      more = rw same tt;
+      failed = λ write. absurd (not_write _ fault same write);
       reads = record {
         found = not_missing _ fault same;
         frugal = λ is. down_not_memory _ fault same was.0 is;
@@ -41,8 +42,8 @@ returns-in_err-walk g c =
 pub returns : goal.returns
 returns g c =
     let begins = c.in_ok-walk.ensures.begins in
-    let says = c.sum_rows.ensures in
-    let last = c.sum_rows.new.walk.bank.now in
+    let says = c.visit_rows.ensures in
+    let last = c.visit_rows.new.walk.bank.now in
     let there = λ (rows : List Pair) (has : HasPairs (database_of g.S.Store c.args.bank.now) history_table
     reference_table rows).
     subst (λ bank. HasPairs (database_of g.S.Store bank) history_table reference_table rows) (sym begins.same) has
@@ -50,9 +51,11 @@ returns g c =
     record {
       told = λ clean rows has.
           let late : HasCleanDisk (state g.S.Store last.conn) = search rules in
-          subst (λ (all : List Pair). AddsPostings c.args.sums.now.range all c.sum_rows.new.sums c.sum_rows.result)
-          (begins.all rows has) (says.told late rows (there rows has));
-      unwritten = says.unwritten;
+          subst (λ (all : List Pair). VisitsPostings g.V.Visitor.Visited g.V.Visitor.Refused c.args.visitor.now
+          c.visit_rows.new.visitor all (g.W.Sink.contents c.args.writer.now) (g.W.Sink.contents c.visit_rows.new.writer)
+          c.visit_rows.result) (begins.all rows has) (says.told late rows (there rows has));
+      more = says.more;
+      failed = says.failed;
       reads = record {
         found = says.reads.found;
         frugal = says.reads.frugal;
