@@ -6,7 +6,7 @@ mod readers;
 mod waiting;
 mod writers;
 
-pub use bank::{Failing, FailingBank, open_both};
+pub use bank::{Failing, FailingBank, balances, open_both};
 pub use readers::{CutReader, Pieces};
 pub use waiting::{HeardWriter, WaitingReader};
 pub use writers::{CutWriter, SlowWriter};

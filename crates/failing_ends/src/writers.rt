@@ -1,4 +1,5 @@
 //! Writers that cut, fail, count, or take their time.
+use std::alloc::Global;
 use std::io;
 use std::io::{ErrorKind, Write};
 
@@ -9,6 +10,18 @@ pub struct CutWriter {
     pub most: usize,
     pub fault: Option<ErrorKind>,
     pub writes: u64,
+}
+
+impl CutWriter {
+    /// One that has taken nothing yet.
+    pub fn new(alloc: Global, most: usize, fault: Option<ErrorKind>) -> CutWriter {
+        CutWriter {
+            taken: Vec::new(alloc),
+            most,
+            fault,
+            writes: 0,
+        }
+    }
 }
 
 impl Write for CutWriter {
