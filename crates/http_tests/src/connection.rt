@@ -1,8 +1,7 @@
 //! Connections that are served, and what comes of them.
-use crate::bank::balances;
 use counter_http::{ServeFault, Served, serve_connection};
-use failing_ends::{CutReader, CutWriter, Failing, FailingBank, open_both};
-use posting_core::{Followed, PlainBank, RECORDS_PER_BATCH, StoredClock};
+use failing_ends::{CutReader, CutWriter, Failing, FailingBank, balances};
+use posting_core::{Followed, StoredClock};
 use std::alloc::{Alloc, Global};
 use std::io::ErrorKind;
 use std::process::Abort;
@@ -51,13 +50,7 @@ impl<'a> Connection<'a> {
 
 /// Serves connections, one after another, on a new bank.
 pub fn play(rt: &(impl Abort + Alloc<A = Global>), connections: &[Connection]) {
-    let mut bank = FailingBank {
-        bank: PlainBank::new(rt.alloc()),
-        left: 0,
-        most: RECORDS_PER_BATCH,
-        failing: Failing::Memory,
-        down: false,
-    };
+    let mut bank = FailingBank::new(rt.alloc(), 0, Failing::Memory).expect(rt, "a bank");
     play_on(rt, connections, &mut bank);
 }
 
@@ -66,7 +59,6 @@ fn play_on(
     connections: &[Connection],
     bank: &mut FailingBank,
 ) {
-    assert!(rt; open_both(&mut bank.bank).is_ok());
     for connection in connections {
         bank.left = connection.calls;
         serve(rt, connection, bank);
@@ -85,12 +77,7 @@ fn serve<C: Followed>(
         fault: connection.read_fault,
         after: connection.after,
     };
-    let mut writer = CutWriter {
-        taken: Vec::new(rt.alloc()),
-        most: connection.most,
-        fault: connection.write_fault,
-        writes: 0,
-    };
+    let mut writer = CutWriter::new(rt.alloc(), connection.most, connection.write_fault);
     let mut clock = StoredClock::new(Vec::new(rt.alloc()));
     let ended = serve_connection(rt.alloc(), &mut reader, &mut writer, &mut clock, bank);
     assert_eq!(rt; ended, connection.ended);

@@ -58,14 +58,8 @@ impl<'a> Teller<'a> {
     }
 
     fn writer(&self, alloc: Global) -> SlowWriter {
-        let writer = CutWriter {
-            taken: Vec::new(alloc),
-            most: self.most,
-            fault: self.write_fault,
-            writes: 0,
-        };
         SlowWriter {
-            writer,
+            writer: CutWriter::new(alloc, self.most, self.write_fault),
             piece: self.piece,
             rests: false,
         }

@@ -3,15 +3,11 @@
 #![tactic(auto)]
 
 #[cfg(test)]
-mod bank;
-#[cfg(test)]
 mod connection;
 #[cfg(test)]
 mod crowd;
 #[cfg(test)]
 mod failing;
-#[cfg(test)]
-mod failing_twice;
 #[cfg(test)]
 mod first_message;
 #[cfg(test)]

@@ -1,4 +1,5 @@
 //! The log and the plan over HTTP.
+use crate::texts::{NOT_ALLOWED, NOT_FOUND};
 use counter_http::serve_connection;
 use failing_ends::open_both;
 use message_records::{Branch, Cents, Moment};
@@ -117,13 +118,6 @@ fn entries_after_a_place(rt: HostRuntime) -> Result<(), Fail> {
     }
     Ok(())
 }
-
-const NOT_FOUND: &[u8] =
-    b"HTTP/1.1 404 Not Found\r\nContent-Type: text/plain\r\nContent-Length: 14\r\n\r\n404 Not Found\n";
-
-const NOT_ALLOWED: &[u8] =
-    b"HTTP/1.1 405 Method Not Allowed\r\nContent-Type: text/plain\r\nContent-Length: 23\r\n\
-    Allow: GET, HEAD\r\n\r\n405 Method Not Allowed\n";
 
 // A message, its answer but for the last text, and that text.
 const OTHERS: &[(&[u8], &[u8], &[u8])] = &[

@@ -1,9 +1,10 @@
 //! Messages and their answers.
-use crate::bank::balances;
 use crate::connection::{Connection, play};
 use crate::first_message::first_message;
-use crate::texts::{BAD, FIRST_AND_REMOTE, FIRST_ANSWER, FIRST_TWICE, REMOTE_ANSWER, joined};
-use failing_ends::open_both;
+use crate::texts::{
+    BAD, FIRST_AND_REMOTE, FIRST_ANSWER, FIRST_TWICE, NOT_ALLOWED, NOT_FOUND, REMOTE_ANSWER, joined,
+};
+use failing_ends::{balances, open_both};
 use posting_core::{PlainBank, StoredClock};
 use std::alloc::{Alloc, Global};
 use std::process::Abort;
@@ -20,20 +21,6 @@ fn a_record_in_a_message(rt: HostRuntime) {
     let answers = first_message(rt.alloc(), &mut bank, &mut clock, &record);
     assert_eq!(rt; answers.expect(&rt, "an answer").as_slice(), FIRST_ANSWER);
     assert_eq!(rt; balances(&mut bank), Some((500, 0)));
-}
-
-// Two messages with the same record, cut at every byte: it is posted once, and there are two equal answers.
-#[test]
-fn two_messages_in_a_row(rt: HostRuntime) {
-    let answers = [FIRST_ANSWER, FIRST_ANSWER];
-    for at in 0..=FIRST_TWICE.len() {
-        let (before, after) = FIRST_TWICE.split_at(at);
-        let connection = Connection {
-            after,
-            ..Connection::new(before, 2, answers, (500, 0))
-        };
-        play(&rt, &[connection]);
-    }
 }
 
 // The input ends after one whole message, or after none, and within the next.
@@ -85,21 +72,13 @@ const CASES: &[(&[u8], u128, &[u8])] = &[
         1,
         b"HTTP/1.1 200 OK\r\nContent-Type: text/plain\r\nContent-Length: 28\r\n\r\n",
     ),
-    (
-        b"GET /account/4 HTTP/1.1\r\n\r\n",
-        1,
-        b"HTTP/1.1 404 Not Found\r\nContent-Type: text/plain\r\nContent-Length: 14\r\n\r\n404 Not Found\n",
-    ),
+    (b"GET /account/4 HTTP/1.1\r\n\r\n", 1, NOT_FOUND),
     (
         b"HEAD /account/4 HTTP/1.1\r\n\r\n",
         1,
         b"HTTP/1.1 404 Not Found\r\nContent-Type: text/plain\r\nContent-Length: 14\r\n\r\n",
     ),
-    (
-        b"GET /account/01 HTTP/1.1\r\n\r\n",
-        1,
-        b"HTTP/1.1 404 Not Found\r\nContent-Type: text/plain\r\nContent-Length: 14\r\n\r\n404 Not Found\n",
-    ),
+    (b"GET /account/01 HTTP/1.1\r\n\r\n", 1, NOT_FOUND),
     (
         b"GET /teller/1 HTTP/1.1\r\n\r\n",
         1,
@@ -110,28 +89,11 @@ const CASES: &[(&[u8], u128, &[u8])] = &[
         1,
         b"HTTP/1.1 200 OK\r\nContent-Type: text/plain\r\nContent-Length: 20\r\n\r\n",
     ),
-    (
-        b"GET /teller/21 HTTP/1.1\r\n\r\n",
-        1,
-        b"HTTP/1.1 404 Not Found\r\nContent-Type: text/plain\r\nContent-Length: 14\r\n\r\n404 Not Found\n",
-    ),
-    (
-        b"GET /teller/000000001 HTTP/1.1\r\n\r\n",
-        1,
-        b"HTTP/1.1 404 Not Found\r\nContent-Type: text/plain\r\nContent-Length: 14\r\n\r\n404 Not Found\n",
-    ),
+    (b"GET /teller/21 HTTP/1.1\r\n\r\n", 1, NOT_FOUND),
+    (b"GET /teller/000000001 HTTP/1.1\r\n\r\n", 1, NOT_FOUND),
     // A connection that is served by itself has no figures.
-    (
-        b"GET /metrics HTTP/1.1\r\n\r\n",
-        1,
-        b"HTTP/1.1 404 Not Found\r\nContent-Type: text/plain\r\nContent-Length: 14\r\n\r\n404 Not Found\n",
-    ),
-    (
-        b"PUT /metrics HTTP/1.1\r\n\r\n",
-        1,
-        b"HTTP/1.1 405 Method Not Allowed\r\nContent-Type: text/plain\r\nContent-Length: 23\r\n\
-              Allow: GET, HEAD\r\n\r\n405 Method Not Allowed\n",
-    ),
+    (b"GET /metrics HTTP/1.1\r\n\r\n", 1, NOT_FOUND),
+    (b"PUT /metrics HTTP/1.1\r\n\r\n", 1, NOT_ALLOWED),
     (
         b"GET /post HTTP/1.1\r\n\r\n",
         1,
@@ -163,8 +125,7 @@ const CASES: &[(&[u8], u128, &[u8])] = &[
     (
         b"A-METHOD-OF-MANY-LETTERS /branches HTTP/1.1\r\n\r\n",
         1,
-        b"HTTP/1.1 405 Method Not Allowed\r\nContent-Type: text/plain\r\nContent-Length: 23\r\n\
-              Allow: GET, HEAD\r\n\r\n405 Method Not Allowed\n",
+        NOT_ALLOWED,
     ),
     (
         b"POST /post HTTP/1.1\r\n\r\n",

@@ -1,6 +1,5 @@
 //! Clients who are served at once: each gets the answers to what it sent, however the bytes of all interleave, and
 //! what it may have where the bank fails.
-use crate::bank::balances;
 use crate::crowd::{Closed, Teller, serve};
 use crate::texts::{
     BAD, BALANCE_ANSWER, CLOSES, FIGURES_ANSWER, FIRST_AND_REMOTE, FIRST_ANSWER, FIRST_TWICE,
@@ -8,8 +7,8 @@ use crate::texts::{
     OTHER_LAST_ANSWER, OTHER_TWO, POSTS_AND_WATCHES, READS_BETWEEN, REMOTE_ANSWER, UNAVAILABLE,
 };
 use counter_http::ListenFault;
-use failing_ends::{Failing, FailingBank, open_both};
-use posting_core::{Fault, PlainBank, RECORDS_PER_BATCH};
+use failing_ends::{Failing, FailingBank, balances};
+use posting_core::{Fault, RECORDS_PER_BATCH};
 use std::alloc::{Alloc, Global};
 use std::io::ErrorKind;
 use std::process::Abort;
@@ -42,15 +41,10 @@ const WELL: Serving<'static> = Serving {
 };
 
 fn new_bank(rt: &(impl Abort + Alloc<A = Global>), serving: &Serving) -> FailingBank {
-    let mut bank = PlainBank::new(rt.alloc());
-    assert!(rt; open_both(&mut bank).is_ok());
-    FailingBank {
-        bank,
-        left: serving.calls,
-        most: serving.most,
-        failing: serving.failing,
-        down: false,
-    }
+    let bank = FailingBank::new(rt.alloc(), serving.calls, serving.failing);
+    let mut bank = bank.expect(rt, "a bank");
+    bank.most = serving.most;
+    bank
 }
 
 // The bytes are so many of the answers, and then a 503 or nothing.

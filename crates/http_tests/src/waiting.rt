@@ -1,8 +1,7 @@
 //! A client that waits for its answers before it sends more.
-use crate::bank::balances;
 use crate::texts::{FIRST_AND_REMOTE, FIRST_ANSWER, REMOTE_ANSWER};
 use counter_http::serve_connection;
-use failing_ends::{HeardWriter, WaitingReader, open_both};
+use failing_ends::{HeardWriter, WaitingReader, balances, open_both};
 use posting_core::{PlainBank, StoredClock};
 use std::alloc::{Alloc, Global};
 use std::cell::Cell;
