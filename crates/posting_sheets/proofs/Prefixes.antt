@@ -2,8 +2,12 @@
 use Rattle.std.proofs.Common.{◌≤◌, ◌++◌, ◌∙◌, ℕ, List, length, take, drop, sym, ap, subst, append_assoc}
 use Rattle.std.proofs.Common.{take-append-drop}
 use Rattle.std.proofs.lemmas.List.{take-take, length-take-le}
+use Rattle.std.proofs.Math.Seq.{take-length}
 use lib.Seq.{take-append_seam}
 use Rattle.posting_sheets.specs.Encoding.{IsPrefixOf}
+
+pub prefix-all : (xs : List ℕ) → IsPrefixOf xs xs
+prefix-all xs = sym (take-length xs)
 
 pub prefix-append : (xs ys : List ℕ) → IsPrefixOf xs (xs ++ ys)
 prefix-append xs ys = sym (take-append_seam xs ys)

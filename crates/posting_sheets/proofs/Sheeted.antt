@@ -12,20 +12,20 @@ use Rattle.posting_sheets.proofs.Prefixes.{prefix-append}
 
 -- ---- the steps
 
-by-ok : (form : Form) (before : List RequestFields) (x : Fields) (rest : Records) (r : RequestFields)
+pub by-ok : (form : Form) (before : List RequestFields) (x : Fields) (rest : Records) (r : RequestFields)
     → request_of_row form x ≡ Ok r
     → sheet_by form before (x ∷ rest) ≡ sheet_by form (before ++ r ∷ []) rest
 unfolding sheet_by
 by-ok form before x rest r e = rw (e, sheet_by) refl
 
-by-err : (form : Form) (before : List RequestFields) (x : Fields) (rest : Records) (f : BadRow)
+pub by-err : (form : Form) (before : List RequestFields) (x : Fields) (rest : Records) (f : BadRow)
     → request_of_row form x ≡ Err f
     → sheet_by form before (x ∷ rest)
     ≡ record { requests = before; fault = Some (Fault.Row (length before + 1) f) }
 unfolding sheet_by
 by-err form before x rest f e = rw (e, sheet_by) refl
 
-by-none : (form : Form) (before : List RequestFields)
+pub by-none : (form : Form) (before : List RequestFields)
     → sheet_by form before [] ≡ record { requests = before; fault = None }
 unfolding sheet_by
 by-none form before = refl
@@ -34,18 +34,18 @@ pub sheet-empty : sheet_of_records [] ≡ record { requests = []; fault = Some F
 unfolding sheet_of_records
 sheet-empty = refl
 
-sheet-no_header : (fields : Fields) (rest : Records) → form_of fields ≡ None
+pub sheet-no_header : (fields : Fields) (rest : Records) → form_of fields ≡ None
     → sheet_of_records (fields ∷ rest) ≡ record { requests = []; fault = Some Fault.Header }
 unfolding sheet_of_records
 sheet-no_header fields rest e = rw e refl
 
-sheet-header : (form : Form) (fields : Fields) (rest : Records) → form_of fields ≡ Some form
+pub sheet-header : (form : Form) (fields : Fields) (rest : Records) → form_of fields ≡ Some form
     → sheet_of_records (fields ∷ rest) ≡ sheet_by form [] rest
 unfolding sheet_of_records
 sheet-header form fields rest e = rw e refl
 
 -- the requests before are the first of the sheet
-prefix-by : (form : Form) (before : List RequestFields) (rest : Records) → (more : List RequestFields)
+pub prefix-by : (form : Form) (before : List RequestFields) (rest : Records) → (more : List RequestFields)
     × ((sheet_by form before rest).requests ≡ before ++ more)
 prefix-by form before [] = ([], ap (λ (s : Sheet). s.requests) (by-none form before) ∙ sym (append-nil before))
 prefix-by form before (x ∷ rest) =

@@ -4,7 +4,7 @@ use Rattle.std.specs.Prelude.{Option, None, Some}
 use Rattle.std.specs.Prelude.{Result, Ok, Err, codes}
 use Rattle.std.specs.Fmt.{decimal, signed_decimal}
 use Rattle.std.specs.List.{flat_map}
-use Rattle.std.specs.Io.KnownBytes.{Appends, Consumes, IsAtEnd, Keeps}
+use Rattle.std.specs.Io.KnownBytes.{Appends, Consumes, IsAtEnd}
 use Rattle.message_records.specs.believed.Outcomes.{code_of, name_of}
 use Rattle.message_records.specs.Reading.{reply_of}
 use Rattle.message_records.specs.believed.Records.{ReplyFields, RequestFields}
@@ -18,7 +18,7 @@ use Rattle.posting_sheets.specs.Encoding.{IsPrefixOf}
 use Rattle.posting_sheets.specs.declared.money.Money.{Money}
 use Rattle.posting_sheets.specs.declared.money.Money.TheVariants.{Cents, Decimals}
 use Rattle.posting_sheets.specs.declared.fault.RepliesFault.{RepliesFault}
-use Rattle.posting_sheets.specs.declared.fault.RepliesFault.TheVariants.{Truncated, Reply, Read, Write, Memory}
+use Rattle.posting_sheets.specs.declared.fault.RepliesFault.TheVariants.{Truncated, Reply, Read, Write, Memory, Sheet, Header}
 
 -- ---- the sheet
 
@@ -47,10 +47,13 @@ abbrev pub balance_text : Money → Option ℤ → List ℕ
 balance_text money None = []
 balance_text money (Some z) = money_text money z
 
--- the line of a reply: its code and its name, the request, and the account's new balance
+-- the fields of a reply: its code and its name, the request, and the account's new balance
+abbrev pub reply_text : Money → ReplyFields → List ℕ
+reply_text money r = decimal (code_of r.outcome) ++ codes "," ++ name_of r.outcome ++ codes ","
+    ++ request_text money r.request ++ codes "," ++ balance_text money r.balance
+
 abbrev pub reply_line : Money → ReplyFields → List ℕ
-reply_line money r = decimal (code_of r.outcome) ++ codes "," ++ name_of r.outcome ++ codes ","
-    ++ request_text money r.request ++ codes "," ++ balance_text money r.balance ++ 10 ∷ []
+reply_line money r = reply_text money r ++ 10 ∷ []
 
 -- a header, and a line for each reply
 abbrev pub replies_sheet : Money → List ReplyFields → List ℕ
@@ -62,34 +65,19 @@ replies_sheet money replies = heading money ++ flat_map (reply_line money) repli
 abbrev pub replies_spelling : List ReplyFields → List ℕ
 replies_spelling replies = flat_map reply_spelling replies
 
--- These bytes were read after the replies, and this was written. At Ok there were none; where they were no reply, or too
--- few for one, the sheet has the replies before them.
-abbrev pub IsDecodedSo : Money → List ReplyFields → List ℕ → Result ℕ RepliesFault → List ℕ → Type 0
-IsDecodedSo money replies rest (Ok count) written =
-    (rest ≡ []) × (count ≡ length replies) × (written ≡ replies_sheet money replies)
-IsDecodedSo money replies rest (Err (Truncated n)) written =
-    (1 ≤ n) × (n < REPLY_BYTES) × (length rest ≡ n) × (written ≡ replies_sheet money replies)
-IsDecodedSo money replies rest (Err (Reply place bad)) written =
-    (length rest ≡ REPLY_BYTES) × (reply_of rest ≡ Err bad) × (place ≡ length replies + 1)
-    × (written ≡ replies_sheet money replies)
-IsDecodedSo money replies rest (Err Read) written = (length rest < REPLY_BYTES) × (written ≡ replies_sheet money replies)
-IsDecodedSo money replies rest (Err Write) written = (rest ≡ []) × IsPrefixOf written (replies_sheet money replies)
-IsDecodedSo money replies rest (Err Memory) written = (rest ≡ []) × IsPrefixOf written (replies_sheet money replies)
-
--- what was written of bytes, after so many replies: the line of the reply that they are, or a prefix of it, or
--- nothing where they are none; and what the sink's calls returned
-abbrev pub IsLineSo : Money → List ℕ → ℕ → (w w' : Option (List ℕ)) → (u u' : Option (List WriteTold))
-    → Result (Unit {0}) RepliesFault → Type 0
-IsLineSo money bytes before w w' u u' (Ok done) =
-    (r : ReplyFields) × IsReply r × (bytes ≡ reply_spelling r) × Appends w w' (reply_line money r) × EndsWith IsFlush u u'
-IsLineSo money bytes before w w' u u' (Err (Reply place bad)) =
-    (reply_of bytes ≡ Err bad) × (place ≡ before + 1) × Keeps w w' × (u' ≡ u)
-IsLineSo money bytes before w w' u u' (Err Write) =
-    (r : ReplyFields) × IsReply r × (bytes ≡ reply_spelling r)
-    × ((n : ℕ) × (n ≤ length (reply_line money r)) × Appends w w' (take n (reply_line money r))) × HasWriteFailed u u'
-IsLineSo money bytes before w w' u u' (Err Memory) =
-    (r : ReplyFields) × IsReply r × (bytes ≡ reply_spelling r) × Keeps w w' × (u' ≡ u)
-IsLineSo money bytes before w w' u u' (Err _) = ⊥
+-- These bytes were read after the replies, and this was written of their sheet. At Ok there were none; where they were
+-- no reply, or too few for one, all of the sheet was written.
+abbrev pub IsDecodedSo : (sheet : List ℕ) → List ReplyFields → List ℕ → Result ℕ RepliesFault → List ℕ → Type 0
+IsDecodedSo sheet replies rest (Ok count) written =
+    (rest ≡ []) × (count ≡ length replies) × (written ≡ sheet)
+IsDecodedSo sheet replies rest (Err (Truncated n)) written =
+    (1 ≤ n) × (n < REPLY_BYTES) × (length rest ≡ n) × (written ≡ sheet)
+IsDecodedSo sheet replies rest (Err (Reply place bad)) written =
+    (length rest ≡ REPLY_BYTES) × (reply_of rest ≡ Err bad) × (place ≡ length replies + 1) × (written ≡ sheet)
+IsDecodedSo sheet replies rest (Err Read) written = (length rest < REPLY_BYTES) × (written ≡ sheet)
+IsDecodedSo sheet replies rest (Err Write) written = (rest ≡ []) × IsPrefixOf written sheet
+IsDecodedSo sheet replies rest (Err Memory) written = (rest ≡ []) × IsPrefixOf written sheet
+IsDecodedSo sheet replies rest (Err _) written = ⊥
 
 -- replies were read, and a sheet of them was written; the reader's known bytes before and after are r and r', the
 -- writer's w and w'
@@ -100,7 +88,7 @@ pub record Decodes (money : Money) (r r' w w' : Option (List ℕ)) (result : Res
   pub read : Consumes r r' (replies_spelling replies ++ rest)
   pub written : List ℕ
   pub wrote : Appends w w' written
-  pub decoded : IsDecodedSo money replies rest result written
+  pub decoded : IsDecodedSo (replies_sheet money replies) replies rest result written
 
 -- A fault of an end comes where that end failed, and the other ends of the input where it was read to its end. What
 -- was written was flushed unless the writer failed. The source's calls are known as q and q', the sink's as u and u'.
@@ -112,4 +100,6 @@ RepliesFaultIsOfItsEnd (Err (Truncated n)) r' q q' u u' =
     IsAtEnd r' × EndsWith IsEndOfInput q q' × EndsWith IsFlush u u'
 RepliesFaultIsOfItsEnd (Err Read) r' q q' u u' = HasReadFailed q q' × EndsWith IsFlush u u'
 RepliesFaultIsOfItsEnd (Err Write) r' q q' u u' = HasWriteFailed u u'
+RepliesFaultIsOfItsEnd (Err Sheet) r' q q' u u' = ⊥
+RepliesFaultIsOfItsEnd (Err Header) r' q q' u u' = ⊥
 RepliesFaultIsOfItsEnd (Err _) r' q q' u u' = EndsWith IsFlush u u'

@@ -81,8 +81,9 @@ impl fmt::Display for SheetFault {
 
 impl std::error::Error for SheetFault {}
 
-/// Why replies weren't translated to the end of their input. Replies count from 1. Unless the sink failed or
-/// memory was refused, the header and the lines of the replies before were written, and nothing else.
+/// Why replies weren't translated to the end of their input. Replies count from 1, and so do the rows of a sheet beside
+/// them. Unless the sink failed, memory was refused or there is no sheet, the header and the lines of the replies before
+/// were written, and nothing else.
 #[derive(Clone, Copy, Debug, PartialEq, Eq)]
 pub enum RepliesFault {
     /// The input ended so many bytes, 1..=199, into a reply.
@@ -95,6 +96,16 @@ pub enum RepliesFault {
     Write,
     /// Memory was refused. A prefix of the sheet was written.
     Memory,
+    /// The source of the sheet of postings failed. Nothing was written.
+    Sheet,
+    /// The first record of the sheet of postings isn't the header, or there is none. Nothing was written.
+    Header,
+    /// The row in the reply's place states no posting, and this is what is wrong with it.
+    Row(u64, BadRow),
+    /// The row in the reply's place states another posting than the one that the reply answers.
+    OtherPosting(u64),
+    /// There is no row in the reply's place.
+    MoreReplies,
 }
 
 /// A text of a line, as `reply 2 faulty tag`.
@@ -111,6 +122,11 @@ impl fmt::Display for RepliesFault {
             RepliesFault::Read => write!(f, "read failed"),
             RepliesFault::Write => write!(f, "write failed"),
             RepliesFault::Memory => write!(f, "no memory"),
+            RepliesFault::Sheet => write!(f, "postings unreadable"),
+            RepliesFault::Header => write!(f, "postings header"),
+            RepliesFault::Row(row, bad) => write!(f, "postings row {row} {bad}"),
+            RepliesFault::OtherPosting(row) => write!(f, "row {row} is another posting"),
+            RepliesFault::MoreReplies => write!(f, "more replies than rows"),
         }
     }
 }

@@ -1,6 +1,6 @@
 //! Postings and replies as sheets, texts of CSV, for who writes and reads them by hand. [`encode_sheet`] writes
-//! the records of the postings of a sheet, and [`decode_replies`] a sheet of the replies to them. Both read
-//! from any source, write to any sink, and touch no bank. The test `first_sheet` of `counter_tests` makes a
+//! the records of the postings of a sheet, [`decode_replies`] a sheet of the replies to them, and [`decode_beside`] one
+//! that has their rows of the first sheet too. All read from any source, write to any sink, and touch no bank. The test `first_sheet` of `counter_tests` makes a
 //! record of a posting:
 //!
 //! ```rust
@@ -24,8 +24,8 @@
 //! wrong ([`BadRow`]); or that an end failed, or that memory was refused. The rows before it are written.
 //! [`RepliesFault`] says the same of replies.
 //!
-//! Read next: [`encode_sheet`] and [`decode_replies`]; `specs/Sheets`, which says what a sheet states, and
-//! `specs/Replies`, what the sheet of replies is.
+//! Read next: [`encode_sheet`] and [`decode_replies`]; `specs/Sheets`, which says what a sheet states, `specs/Replies`,
+//! what the sheet of replies is, and `specs/Beside`, what it is with rows. [`reference_field`] is a reference as CSV has it.
 #![tactic(auto)]
 
 mod decode;
@@ -34,10 +34,13 @@ mod fault;
 mod form;
 mod line;
 mod money;
+mod quoting;
 mod row;
+mod rows;
 
-pub use decode::decode_replies;
+pub use decode::{decode_beside, decode_replies};
 pub use encode::encode_sheet;
 pub use fault::{BadRow, RepliesFault, SheetFault};
 pub use money::Money;
+pub use quoting::{REFERENCE_FIELD, ReferenceField, push_text, reference_field};
 pub use row::reference_of;

@@ -1,9 +1,11 @@
 //! The line of a reply.
 ghost use Rattle.std.specs.Prelude.{◌≡◌, IfOk, string_bytes};
-ghost use Rattle.posting_sheets.specs.Replies.{reply_line, sign_text};
+ghost use Rattle.posting_sheets.specs.Replies.{sign_text};
+ghost use Rattle.posting_sheets.specs.Walking.{line_with};
 
 use crate::money::Money;
-use message_records::{Cents, Reply, Request};
+use crate::quoting::reference_field;
+use message_records::{Cents, Reference, Reply, Request};
 use std::alloc::{AllocError, Global};
 use std::fmt;
 
@@ -99,19 +101,26 @@ impl fmt::Display for ShownBalance {
     }
 }
 
-// A reply as a line of the sheet.
+/// The row of a posting: its number, counted from 1, and the posting's reference.
 #[derive(Clone, Copy)]
-struct ReplyLine {
+pub(crate) struct PostingRow {
+    pub(crate) number: u64,
+    pub(crate) reference: Option<Reference>,
+}
+
+// The fields of a reply.
+#[derive(Clone, Copy)]
+struct ShownReply {
     money: Money,
     reply: Reply,
 }
 
 /// Its code and its name, the request, and the account's new balance.
-impl fmt::Display for ReplyLine {
+impl fmt::Display for ShownReply {
     ghost use Rattle.std.specs.Prelude.{Some};
-    ghost use Rattle.posting_sheets.specs.Replies.{reply_line};
+    ghost use Rattle.posting_sheets.specs.Replies.{reply_text};
 
-    ghost output = { λ line. Some (reply_line line.money line.reply) };
+    ghost output = { λ shown. Some (reply_text shown.money shown.reply) };
 
     fn fmt<W: fmt::Write>(&self, f: &mut fmt::Formatter<W>) -> fmt::Result {
         let outcome = self.reply.outcome();
@@ -124,17 +133,51 @@ impl fmt::Display for ReplyLine {
             money: self.money,
             balance: self.reply.balance(),
         };
-        write!(f, "{code},{outcome},{request},{balance}\n")
+        write!(f, "{code},{outcome},{request},{balance}")
     }
 }
 
-/// The line of a reply.
-pub(crate) fn line_of(alloc: Global, money: Money, reply: &Reply) -> Result<String, AllocError>
-    ensures { IfOk result (λ line. string_bytes line ≡ reply_line money reply.now) }
+// A reply as a line of the sheet, with the row that it answers, where there is one.
+#[derive(Clone, Copy)]
+struct ReplyLine {
+    reply: ShownReply,
+    row: Option<PostingRow>,
+}
+
+impl fmt::Display for ReplyLine {
+    ghost use Rattle.std.specs.Prelude.{Some};
+    ghost use Rattle.posting_sheets.specs.Walking.{line_with};
+
+    ghost output = { λ line. Some (line_with line.reply.money line.row line.reply.reply) };
+
+    fn fmt<W: fmt::Write>(&self, f: &mut fmt::Formatter<W>) -> fmt::Result {
+        let reply = self.reply;
+        match self.row {
+            Some(row) => {
+                let number = row.number;
+                let reference = reference_field(&row.reference);
+                write!(f, "{reply},{number},{reference}\n")
+            }
+            None => write!(f, "{reply}\n"),
+        }
+    }
+}
+
+/// The line of a reply, with the row that it answers, where there is one.
+pub(crate) fn line_of(
+    alloc: Global,
+    money: Money,
+    reply: &Reply,
+    row: Option<PostingRow>,
+) -> Result<String, AllocError>
+    ensures { IfOk result (λ line. string_bytes line ≡ line_with money row reply.now) }
 {
     let line = ReplyLine {
-        money,
-        reply: *reply,
+        reply: ShownReply {
+            money,
+            reply: *reply,
+        },
+        row,
     };
     line.to_string(alloc)
 }
