@@ -10,7 +10,8 @@ use Rattle.posting_rules.specs.believed.{Entries.posted_entry, Tables.history_ro
 use Rattle.report_contents.specs.{Audit.audit_of, Stored.StoredTables, Stored.posting_stored}
 use Rattle.report_contents.specs.StatementText.{form_for, stated_text}
 use Rattle.report_contents.specs.Queries.{whole_query}
-use Rattle.report_contents.specs.Sheet.{reference_field, sheet_line, time_text}
+use Rattle.posting_sheets.specs.References.{reference_field}
+use Rattle.report_contents.specs.Sheet.{sheet_line, time_text}
 use Rattle.report_contents.specs.declared.{form.Form.Form, form.Style.TheVariants.Sheet}
 use Rattle.civil_times.specs.Zoned.{date_of}
 use Rattle.csv.specs.Writing.{escaped}

@@ -6,8 +6,6 @@ pub mod OfTables
 pub mod Joined
 pub mod Written
 pub mod OneMore
-pub mod Printable
-pub mod Trimmed
 pub mod OfRows
 pub mod Examples
 pub mod Added

@@ -1,12 +1,12 @@
--- The text of a statement as CSV: the times, the amounts and the references of its rows.
-use Rattle.std.specs.Prelude.{ℕ, ℤ, pos, ◌/◌, ◌%◌, ◌==◌, nat_abs, int_lt, List, [], ◌∷◌, ◌++◌, Option, Some, None}
+-- The text of a statement as CSV: the times and the amounts of its rows.
+use Rattle.std.specs.Prelude.{ℕ, ℤ, pos, ◌/◌, ◌%◌, nat_abs, int_lt, List, ◌++◌}
 use Rattle.std.specs.Prelude.{codes, decimal, if◌then◌else◌}
 use Rattle.std.specs.Fmt.{signed_decimal}
-use Rattle.csv.specs.Writing.{default_writer, field_text}
 use Rattle.civil_times.specs.declared.zoned.Date.{Date}
 use Rattle.civil_times.specs.declared.zoned.ZonedTime.{ZonedTime}
 use Rattle.civil_times.specs.Zoned.{zoned_time}
 use Rattle.posting_sheets.specs.declared.money.Money.TheVariants.{Decimals}
+use Rattle.posting_sheets.specs.References.{reference_field}
 use Rattle.posting_sheets.specs.Replies.{money_text}
 use Rattle.walked_rows.specs.declared.stated.StatedPosting.{StatedPosting}
 use Rattle.report_contents.specs.Lines.{filled_to, line}
@@ -35,22 +35,6 @@ offset_text ahead = offset_sign ahead ++ two_digits (nat_abs ahead / 3600) ++ co
 -- as 2026-11-28T09:30:00+01:00
 unfoldable pub time_text : ZonedTime → List ℕ
 time_text t = date_text t.date ++ codes "T" ++ day_time_text t ++ offset_text t.ahead
-
--- ---- references
-
-abbrev pub space_or : ℕ → List ℕ → List ℕ
-space_or c [] = if c == 32 then [] else c ∷ []
-space_or c (d ∷ ds) = c ∷ d ∷ ds
-
--- a text without the spaces at its end
-abbrev pub trimmed : List ℕ → List ℕ
-trimmed [] = []
-trimmed (c ∷ cs) = space_or c (trimmed cs)
-
--- the field of a reference, which stands in quotes where it has a comma or a quote
-unfoldable pub reference_field : Option (List ℕ) → List ℕ
-reference_field None = []
-reference_field (Some text) = field_text default_writer (trimmed text)
 
 -- ---- rows
 

@@ -1,7 +1,6 @@
 //! Texts in columns, put together without memory.
-ghost use Rattle.std.specs.Prelude.{◌≡◌, ◌≤◌, ◌<◌, ◌+◌, ◌++◌, length, replicate, IsTrue};
+ghost use Rattle.std.specs.Prelude.{◌≡◌, ◌≤◌, ◌<◌, ◌+◌, ◌++◌, length, replicate};
 ghost use Rattle.std.specs.Fmt.{signed_decimal};
-ghost use Rattle.message_records.specs.believed.Records.{is_printable};
 ghost use Rattle.report_contents.specs.Lines.{filled_to, right_in, with_sign};
 
 use arrayvec::ArrayString;
@@ -26,17 +25,6 @@ pub(crate) fn push_repeated<const SIZE: usize>(
 {
     'repeats: for _ in 0..count {
         line.push(character);
-    }
-}
-
-/// Appends a text of printable ASCII.
-pub fn push_text<const SIZE: usize>(line: &mut ArrayString<SIZE>, text: &[u8])
-    requires ascii { IsTrue (is_printable text.now) }
-    requires room { length line.old.bytes + length text.now ≤ SIZE }
-    ensures { line.new.bytes ≡ line.old.bytes ++ text.now }
-{
-    for byte in text {
-        line.push(char::from(*byte));
     }
 }
 

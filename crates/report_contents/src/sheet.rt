@@ -4,13 +4,14 @@ ghost use Rattle.std.specs.Fmt.{signed_decimal};
 ghost use Rattle.report_contents.specs.Sheet.{sheet_heading, sheet_line};
 ghost use Rattle.report_contents.specs.declared.statement_text.TheConstants.{STATEMENT_LINE};
 
-use crate::sheet_fields::{push_amount, push_reference_field};
+use crate::sheet_fields::push_amount;
 use crate::sheet_times::push_time;
 use crate::statement_text::StatementLine;
 use arrayvec::ArrayString;
 use civil_times::zoned_time;
 use itoa::Buffer;
 use message_records::Cents;
+use posting_sheets::reference_field;
 use walked_rows::StatedPosting;
 
 /// The first line: the names of the columns.
@@ -64,7 +65,7 @@ pub(crate) fn sheet_line(ahead: i64, row: &StatedPosting, balance: Cents) -> Sta
     line.push_str(",");
     push_amount(&mut line, balance.get());
     line.push_str(",");
-    push_reference_field(&mut line, reference);
+    line.push_str(reference_field(reference).as_str());
     line.push_str("\n");
     line
 }

@@ -6,11 +6,12 @@ ghost use Rattle.report_contents.specs.StatementText.{closing_line, heading_of, 
 ghost use Rattle.report_contents.specs.StatementText.{opening_line, styled_line};
 
 use crate::form::{Form, Style};
-use crate::lines::{push_delta, push_filled, push_number, push_text};
+use crate::lines::{push_delta, push_filled, push_number};
 use crate::sheet::{sheet_heading, sheet_line};
 use arrayvec::ArrayString;
 use itoa::Buffer;
 use message_records::{Account, Cents, Reference};
+use posting_sheets::push_text;
 use walked_rows::StatedPosting;
 
 /// The most that a line takes.
