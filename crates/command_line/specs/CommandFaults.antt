@@ -40,6 +40,9 @@ status_of fault.Write = System
 status_of (fault.Truncated count) = Input
 status_of (fault.Plan plan) = Input
 status_of (fault.Postings sheet) = Input
+status_of fault.NoSheet = Input
+status_of (fault.OtherPosting row) = Input
+status_of fault.MoreReplies = Input
 status_of (fault.Reply place bad) = Input
 status_of (fault.NoEntry count) = Input
 status_of (fault.Differs other) = Differs
@@ -63,6 +66,9 @@ fault_text fault.Write = codes "write failed"
 fault_text (fault.Truncated count) = codes "truncated " ++ decimal count ++ codes " bytes"
 fault_text (fault.Plan plan) = plan_text plan
 fault_text (fault.Postings sheet) = sheet_text sheet
+fault_text fault.NoSheet = codes "postings unreadable"
+fault_text (fault.OtherPosting row) = codes "row " ++ decimal row ++ codes " is another posting"
+fault_text fault.MoreReplies = codes "more replies than rows"
 fault_text (fault.Reply place bad) = codes "reply " ++ decimal place ++ codes " " ++ reply_text bad
 fault_text (fault.NoEntry count) = codes "no entry after " ++ decimal count
 fault_text (fault.Differs other) = other_text other
@@ -111,13 +117,18 @@ fault_of_sheet sheet.Write = fault.Write
 fault_of_sheet sheet.Memory = fault.Memory
 fault_of_sheet other = fault.Postings other
 
--- why replies ended before their input did, or within one
+-- why replies ended before their input did, within one or at one that the sheet beside them has no row of
 abbrev pub fault_of_replies : RepliesFault → CommandFault
 fault_of_replies (replies.Truncated count) = fault.Truncated count
 fault_of_replies (replies.Reply place bad) = fault.Reply place bad
 fault_of_replies replies.Read = fault.Read
 fault_of_replies replies.Write = fault.Write
 fault_of_replies replies.Memory = fault.Memory
+fault_of_replies replies.Sheet = fault.NoSheet
+fault_of_replies replies.Header = fault.Postings sheet.Header
+fault_of_replies (replies.Row row bad) = fault.Postings (sheet.Row row bad)
+fault_of_replies (replies.OtherPosting row) = fault.OtherPosting row
+fault_of_replies replies.MoreReplies = fault.MoreReplies
 
 -- why a log was followed no further
 abbrev pub fault_of_following : FollowFault → CommandFault

@@ -170,9 +170,13 @@ why_app = let why = with_rule (new_app (codes "why")) file_rule in
 abbrev pub encode_app : App
 encode_app = new_app (codes "encode")
 
--- `decode [--words]`
+-- FILE, the sheet of the postings that replies answer
+abbrev pub sheet_rule : Rule
+sheet_rule = text_rule (codes "sheet")
+
+-- `decode [--words] [--sheet FILE]`
 abbrev pub decode_app : App
-decode_app = with_rule (new_app (codes "decode")) (flag_rule (codes "words"))
+decode_app = with_rule (with_rule (new_app (codes "decode")) (flag_rule (codes "words"))) sheet_rule
 
 -- `bank` before it has its commands: it wants one, and shows its help where no word follows its name
 abbrev pub bank_alone : App

@@ -9,5 +9,5 @@ prompt_line false command = []
 prompt_line true (Post file) = codes "bank: waiting for records of 100 bytes; end with Ctrl-D\n"
 prompt_line true (Follow file plan) = codes "bank: waiting for entries of 308 bytes; end with Ctrl-D\n"
 prompt_line true Encode = codes "bank: waiting for a sheet of postings; end with Ctrl-D\n"
-prompt_line true (Decode money) = codes "bank: waiting for replies of 200 bytes; end with Ctrl-D\n"
+prompt_line true (Decode money sheet) = codes "bank: waiting for replies of 200 bytes; end with Ctrl-D\n"
 prompt_line true other = []

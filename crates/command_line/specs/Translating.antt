@@ -1,13 +1,16 @@
 -- What `encode` and `decode` read and write, and how they end.
-use Rattle.std.specs.Prelude.{◌≡◌, ℕ, List, Option, Result, Ok, Err}
+use Rattle.std.specs.Prelude.{◌≡◌, ◌⊎◌, ℕ, List, Option, Result, Ok, Err}
+use Rattle.std.specs.Io.KnownBytes.{Keeps}
 use Rattle.posting_core.specs.believed.Told.{ReadTold}
 use Rattle.posting_core.specs.Told.{WriteTold}
+use Rattle.posting_sheets.specs.Beside.{BesideFaultIsOfItsEnd, DecodesBeside}
 use Rattle.posting_sheets.specs.Encoding.{Encodes, SheetFaultIsOfItsEnd}
 use Rattle.posting_sheets.specs.Replies.{Decodes, RepliesFaultIsOfItsEnd}
 use Rattle.posting_sheets.specs.declared.fault.RepliesFault.{RepliesFault}
 use Rattle.posting_sheets.specs.declared.fault.SheetFault.{SheetFault}
 use Rattle.posting_sheets.specs.declared.money.Money.{Money}
 use Rattle.command_line.specs.CommandFaults.{fault_of_replies, fault_of_sheet}
+use Rattle.command_line.specs.Looking.{IsOfSheetFile}
 use Rattle.command_line.specs.declared.fault.CommandFault.{CommandFault}
 use Rattle.command_line.specs.declared.status.Status.{Status}
 use Rattle.command_line.specs.declared.status.Status.TheVariants.{Done}
@@ -41,3 +44,33 @@ pub record DecodesReplies (money : Money) (r r' : Option (List ℕ)) (q q' : Opt
   -- the input was read to its end, or why not
   pub ends : RepliesFaultIsOfItsEnd replies r' q q' t t'
   pub ended : told ≡ ended_by_replies replies
+
+-- A sheet of replies was written with their rows of the sheet of postings that they answer, and the command ended as they
+-- did. The known bytes of that sheet before and after are s and s', and what its reads are known to have returned is p
+-- and p'.
+pub record DecodesPostings (money : Money) (s s' : Option (List ℕ)) (p p' : Option (List ReadTold))
+    (r r' : Option (List ℕ)) (q q' : Option (List ReadTold)) (w w' : Option (List ℕ)) (t t' : Option (List WriteTold))
+    (told : Result Status CommandFault) : Type 0 where
+  pub replies : Result ℕ RepliesFault
+  pub decodes : DecodesBeside money s s' r r' w w' replies
+  -- both inputs were read to their ends, or why not
+  pub ends : BesideFaultIsOfItsEnd replies s' p p' r' q q' t t'
+  pub ended : told ≡ ended_by_replies replies
+
+-- the sheet of postings wasn't opened, and nothing was read or written
+pub record OpensNoSheet (r r' w w' : Option (List ℕ)) (told : Result Status CommandFault) : Type 0 where
+  pub fault : CommandFault
+  pub ended : told ≡ Err fault
+  pub of_sheet : IsOfSheetFile fault
+  pub unread : r' ≡ r
+  pub unwritten : Keeps w w'
+
+-- the same of a sheet that was opened by its name; or none was. IsNamed says of a source that the name is its, and
+-- known what is known of one
+abbrev pub DecodesOver : {P : Type 0} → Money → (IsNamed : P → Type 0)
+    → (known : P → Option (List ℕ) × Option (List ReadTold)) → (r r' : Option (List ℕ)) → (q q' : Option (List ReadTold))
+    → (w w' : Option (List ℕ)) → (t t' : Option (List WriteTold)) → Result Status CommandFault → Type 0
+DecodesOver {P = P} money IsNamed known r r' q q' w w' t t' told =
+    OpensNoSheet r r' w w' told
+    ⊎ ((sheet : P) × (left : P) × IsNamed sheet × DecodesPostings money (known sheet).0 (known left).0 (known sheet).1
+    (known left).1 r r' q q' w w' t t' told)

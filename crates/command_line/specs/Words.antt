@@ -1,6 +1,6 @@
 -- Which command the words of the command line tell, and which words ask for help.
 use Rattle.std.specs.Prelude.{◌≡◌, ◌⊎◌, ◌≤◌, ◌&&◌, ⊤, ℕ, List, [], ◌∷◌, Option, Some, None, true, IfSome, IsSomeAnd}
-use Rattle.std.specs.Prelude.{codes, if◌then◌else◌, is_some}
+use Rattle.std.specs.Prelude.{codes, if◌then◌else◌, is_some, option_map}
 use Rattle.std.specs.Str.{bytes_eq}
 use Rattle.std.specs.Str.Parse.{digits_value, without_leading_plus}
 use Rattle.clap.specs.Words.{IsUnsignedIn, Row, Text, fault_of, first_of, kind_of, one_of, subcommand_of}
@@ -113,7 +113,8 @@ IsCommandOf p (Serve file address connections) = (p.0 ≡ codes "serve") × IsTe
 IsCommandOf p (Migrate file) = (p.0 ≡ codes "migrate") × IsText (codes "file") p.1 file.now
 IsCommandOf p (Why file) = (p.0 ≡ codes "why") × IsText (codes "file") p.1 file.now
 IsCommandOf p Encode = p.0 ≡ codes "encode"
-IsCommandOf p (Decode money) = (p.0 ≡ codes "decode") × (money ≡ money_in p.1)
+IsCommandOf p (Decode money sheet) = (p.0 ≡ codes "decode") × (money ≡ money_in p.1)
+    × (option_map (λ s. s.now) sheet ≡ first_of (codes "sheet") p.1)
 
 -- the command's numbers are in their ranges
 abbrev pub AreInRange : Command → Type 0

@@ -208,7 +208,11 @@ fn decode_command<'a>(alloc: Global) -> Result<Command<'a>, AllocError>
     ensures { IfOk result (IsApp decode_app) }
 {
     let decode = command_alone(alloc, "decode", texts::DECODE);
-    with_argument(decode, flag(alloc, "words", texts::WORDS))
+    let sheet = optional_text(alloc, "sheet", "FILE", texts::SHEET);
+    with_argument(
+        with_argument(decode, flag(alloc, "words", texts::WORDS)),
+        sheet,
+    )
 }
 
 // A command of this name with its texts, which takes no argument.

@@ -1,7 +1,8 @@
 //! Why a command ends before its work is done, and what each fault of a library becomes.
 ghost use Rattle.std.specs.Prelude.{◌≡◌};
 ghost use Rattle.std.specs.IoError.{error_kind};
-ghost use Rattle.command_line.specs.Looking.{IsOfLook, IsOfPlanFile, fault_of_look, fault_of_plan_file};
+ghost use Rattle.command_line.specs.Looking.{IsOfLook, IsOfPlanFile, IsOfSheetFile, fault_of_look};
+ghost use Rattle.command_line.specs.Looking.{fault_of_plan_file, fault_of_sheet_file};
 ghost use Rattle.command_line.specs.CommandFaults.{fault_of_bank, fault_of_drive, fault_of_following, fault_of_opening};
 ghost use Rattle.command_line.specs.CommandFaults.{fault_of_plan, fault_of_replies, fault_of_serving, fault_of_sheet};
 ghost use Rattle.command_line.specs.CommandFaults.{fault_of_stream, status_of};
@@ -37,8 +38,16 @@ pub enum CommandFault {
     Truncated(u16),
     /// Status 4. The plan is no table of branches and accounts, or can't be read. No branch was opened.
     Plan(PlanFault),
-    /// Status 4. The sheet of postings is none, or a row of it. The records of the rows before it were written.
+    /// Status 4. The sheet of postings is none, or a row of it. The records of the rows before it were written, or the
+    /// lines of their replies.
     Postings(SheetFault),
+    /// Status 4. The sheet of postings beside replies can't be read. Nothing was written.
+    NoSheet,
+    /// Status 4. The row of the sheet in a reply's place, which is counted from 1, is another posting than the one that the
+    /// reply answers. The lines of the replies before it were written.
+    OtherPosting(u64),
+    /// Status 4. The sheet has no row in a reply's place. The lines of the replies before it were written.
+    MoreReplies,
     /// Status 4. The bytes are no reply, which is counted from 1, and this field is the first that shows it. The
     /// lines of those before it were written.
     Reply(u64, BadReply),
@@ -91,6 +100,18 @@ impl CommandFault {
         }
     }
 
+    /// Why the file of a sheet of postings isn't opened, from why it would be none of a plan: it can't be read, or memory
+    /// was refused.
+    pub fn of_sheet_file(fault: CommandFault) -> CommandFault
+        ensures is { result ≡ fault_of_sheet_file fault }
+        ensures kind { IsOfSheetFile result }
+    {
+        match fault {
+            CommandFault::Memory => CommandFault::Memory,
+            _ => CommandFault::NoSheet,
+        }
+    }
+
     /// How the program ends after this fault: [`Status::System`], [`Status::Input`] or [`Status::Differs`].
     pub fn status(self) -> Status
         ensures { result ≡ status_of self }
@@ -105,6 +126,9 @@ impl CommandFault {
             CommandFault::Truncated(_)
             | CommandFault::Plan(_)
             | CommandFault::Postings(_)
+            | CommandFault::NoSheet
+            | CommandFault::OtherPosting(_)
+            | CommandFault::MoreReplies
             | CommandFault::Reply(_, _)
             | CommandFault::NoEntry(_)
             | CommandFault::AlreadyBank
@@ -139,6 +163,9 @@ impl fmt::Display for CommandFault {
             CommandFault::Truncated(count) => write!(f, "truncated {count} bytes"),
             CommandFault::Plan(fault) => write!(f, "{fault}"),
             CommandFault::Postings(fault) => write!(f, "{fault}"),
+            CommandFault::NoSheet => write!(f, "postings unreadable"),
+            CommandFault::OtherPosting(row) => write!(f, "row {row} is another posting"),
+            CommandFault::MoreReplies => write!(f, "more replies than rows"),
             CommandFault::Reply(place, bad) => write!(f, "reply {place} {bad}"),
             CommandFault::NoEntry(count) => write!(f, "no entry after {count}"),
             CommandFault::Differs(other) => write!(f, "{other}"),
@@ -226,7 +253,7 @@ impl From<SheetFault> for CommandFault {
     }
 }
 
-/// Why `decode` ended before its input did, or within a reply.
+/// Why `decode` ended before its input did, within a reply or at one that the sheet beside it has no row of.
 impl From<RepliesFault> for CommandFault {
     ghost from_gives = { λ replies fault. fault ≡ fault_of_replies replies };
 
@@ -237,6 +264,11 @@ impl From<RepliesFault> for CommandFault {
             RepliesFault::Read => CommandFault::Read,
             RepliesFault::Write => CommandFault::Write,
             RepliesFault::Memory => CommandFault::Memory,
+            RepliesFault::Sheet => CommandFault::NoSheet,
+            RepliesFault::Header => CommandFault::Postings(SheetFault::Header),
+            RepliesFault::Row(row, bad) => CommandFault::Postings(SheetFault::Row(row, bad)),
+            RepliesFault::OtherPosting(row) => CommandFault::OtherPosting(row),
+            RepliesFault::MoreReplies => CommandFault::MoreReplies,
         }
     }
 }

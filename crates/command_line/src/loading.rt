@@ -12,7 +12,8 @@ use branch_loader::{Loaded, load, read_plan};
 use posting_core::{Counter, Sink, Source};
 use std::alloc::Global;
 
-/// What opens the plans of branches by their names. A type of its own may also know which source is which plan's.
+/// What opens the plans of branches, and sheets of postings, by their names. A type of its own may also know which source
+/// is which plan's.
 pub trait Plans {
     type Plan: Source + Drop;
 

@@ -1,6 +1,6 @@
 //! Which of the program's commands the words of the command line ask for, and on which files.
 ghost use Rattle.std.specs.Prelude.{◌≡◌, ℕ, IfErr, IfOk, IsErrAnd, IsSomeAnd, codes, map, option_map, true};
-ghost use Rattle.clap.specs.Words.{FailsBy, fault_of, found_of, kind_of, rows_of, subcommand_of};
+ghost use Rattle.clap.specs.Words.{FailsBy, fault_of, first_of, found_of, kind_of, rows_of, subcommand_of};
 ghost use Rattle.clap.specs.Words.{subcommand_rows_of, takes};
 ghost use Rattle.command_line.specs.CommandLine.{bank_app};
 ghost use Rattle.command_line.specs.Queries.{query_in};
@@ -95,9 +95,11 @@ pub enum Command<'a> {
     },
     /// Make records of the sheet of postings of standard input.
     Encode,
-    /// Make a sheet of the replies of standard input, which writes money so.
+    /// Make a sheet of the replies of standard input, which writes money so, and with their rows of the sheet of postings
+    /// that they answer, if it is given.
     Decode {
         money: Money,
+        sheet: Option<&'a str>,
     },
 }
 
@@ -152,7 +154,8 @@ fn command_of<'a>(name: &str, values: &ArgMatches<'a>) -> Command<'a>
         "encode" => Command::Encode,
         "decode" => {
             let money = money_in(values);
-            Command::Decode { money }
+            let sheet = text_if_any(values, "sheet");
+            Command::Decode { money, sheet }
         }
         _ => command_on_file(name, values),
     }
@@ -268,6 +271,13 @@ fn text_in<'a>(values: &ArgMatches<'a>, id: &str) -> &'a str
     ensures { IsText id.now (rows_of (found_of values.now)) result.now }
 {
     values.get_str(id).unwrap()
+}
+
+// The value of an argument that may have been left out.
+fn text_if_any<'a>(values: &ArgMatches<'a>, id: &str) -> Option<&'a str>
+    ensures { option_map (λ s. s.now) result ≡ first_of id.now (rows_of (found_of values.now)) }
+{
+    values.get_str(id)
 }
 
 // The number of an argument that has one, within each range that its value keeps.

@@ -1,10 +1,12 @@
 //! What `encode` and `decode` do, which need no bank.
-ghost use Rattle.command_line.specs.Translating.{DecodesReplies, EncodesSheet};
+ghost use Rattle.command_line.specs.Translating.{DecodesOver, DecodesReplies, EncodesSheet};
+ghost use Rattle.command_line.specs.Working.{known_source};
 
 use crate::fault::CommandFault;
+use crate::loading::Plans;
 use crate::status::Status;
 use posting_core::{Sink, Source};
-use posting_sheets::{Money, decode_replies, encode_sheet};
+use posting_sheets::{Money, decode_beside, decode_replies, encode_sheet};
 use std::alloc::Global;
 
 /// Reads a sheet of postings, and writes their records.
@@ -33,6 +35,29 @@ pub fn translate_replies<R: Source, W: Sink>(
         (W.contents output.old) (W.contents output.new) (W.told output.old) (W.told output.new) result }
 {
     match decode_replies(alloc, money, input, output) {
+        Ok(_) => Ok(Status::Done),
+        Err(fault) => Err(CommandFault::from(fault)),
+    }
+}
+
+/// Does the same beside the sheet of this name, whose postings the replies answer, and writes their rows too.
+pub fn translate_beside<P: Plans, R: Source, W: Sink>(
+    alloc: Global,
+    money: Money,
+    plans: &P,
+    sheet: &str,
+    input: &mut R,
+    output: &mut W,
+) -> Result<Status, CommandFault>
+    ensures { DecodesOver money (P.is_named plans.now sheet.now) (known_source P.Plan.remaining P.Plan.told)
+        (R.remaining input.old) (R.remaining input.new) (R.told input.old) (R.told input.new)
+        (W.contents output.old) (W.contents output.new) (W.told output.old) (W.told output.new) result }
+{
+    let mut postings = match plans.open_plan(sheet) {
+        Ok(postings) => postings,
+        Err(fault) => return Err(CommandFault::of_sheet_file(fault)),
+    };
+    match decode_beside(alloc, money, &mut postings, input, output) {
         Ok(_) => Ok(Status::Done),
         Err(fault) => Err(CommandFault::from(fault)),
     }
