@@ -2,3 +2,4 @@ pub mod Endings
 pub mod Told
 pub mod Spared
 pub mod FollowTold
+pub mod Unnamed

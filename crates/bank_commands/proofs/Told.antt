@@ -221,7 +221,7 @@ written_done Why Did told (inr works) ends =
 -- the command has a file
 abbrev pub HasFile : Command → Type 0
 HasFile commands.Encode = ⊥
-HasFile (commands.Decode money) = ⊥
+HasFile (commands.Decode money sheet) = ⊥
 HasFile _ = ⊤
 
 pub tells_idle : (c : Command) (f : CommandFault) (r w : Option (List ℕ)) → HasFile c → Tells c r r w w (Err f)
@@ -241,13 +241,13 @@ tells_idle (commands.Serve file address connections) f r w has = inl (Keeps-refl
 tells_idle (commands.Migrate file) f r w has = inl ((f, refl), Keeps-refl w)
 tells_idle (commands.Why file) f r w has = inl ((f, refl), Keeps-refl w)
 tells_idle commands.Encode f r w has = absurd has
-tells_idle (commands.Decode money) f r w has = absurd has
+tells_idle (commands.Decode money sheet) f r w has = absurd has
 
 pub input_left : (c : Command) (r : Option (List ℕ)) → LeavesInput c r r
 input_left (commands.Post file) r = tt
 input_left (commands.Follow file plan) r = tt
 input_left commands.Encode r = tt
-input_left (commands.Decode money) r = tt
+input_left (commands.Decode money sheet) r = tt
 input_left other r = refl
 
 pub clock_left : (c : Command) (k : Option (List ℕ)) → LeavesClock c k k
@@ -267,6 +267,9 @@ fault_ends fault.Write = inl refl
 fault_ends (fault.Truncated count) = inr (inl refl)
 fault_ends (fault.Plan plan) = inr (inl refl)
 fault_ends (fault.Postings sheet) = inr (inl refl)
+fault_ends fault.NoSheet = inr (inl refl)
+fault_ends (fault.OtherPosting row) = inr (inl refl)
+fault_ends fault.MoreReplies = inr (inl refl)
 fault_ends (fault.Reply place bad) = inr (inl refl)
 fault_ends (fault.NoEntry count) = inr (inl refl)
 fault_ends (fault.Differs other) = inr (inr refl)
@@ -373,4 +376,8 @@ told_is_not_usage (commands.Migrate file) r r' w w' status (inr told) = done_is_
 told_is_not_usage (commands.Why file) r r' w w' status (inl none) = not_a_fault status _ none.0.1
 told_is_not_usage (commands.Why file) r r' w w' status (inr told) = done_is_not_usage status told.0
 told_is_not_usage commands.Encode r r' w w' status told = encoded_is_not_usage told.sheet status told.ended
-told_is_not_usage (commands.Decode money) r r' w w' status told = decoded_is_not_usage told.replies status told.ended
+told_is_not_usage (commands.Decode money None) r r' w w' status told =
+    decoded_is_not_usage told.replies status told.ended
+told_is_not_usage (commands.Decode money (Some sheet)) r r' w w' status (inl none) = not_a_fault status _ none.ended
+told_is_not_usage (commands.Decode money (Some sheet)) r r' w w' status (inr told) =
+    decoded_is_not_usage told.replies status told.ended

@@ -1,7 +1,8 @@
 -- What a command does over a connection, by its words; how a run of the program ends, and what it prints. r and r'
 -- are the known bytes of the input before and after, w and w' those of the output, k and k' the clock's known
 -- readings.
-use Rattle.std.specs.Prelude.{⊤, ◌≡◌, ◌≢◌, ◌⊎◌, ℕ, Bool, true, List, [], Option, None, Result, Ok, Err, IfOk, unwrap_or}
+use Rattle.std.specs.Prelude.{⊤, ◌≡◌, ◌≢◌, ◌⊎◌, ℕ, Bool, true, List, [], Option, None, Some, Result, Ok, Err}
+use Rattle.std.specs.Prelude.{IfOk, unwrap_or}
 use Rattle.std.specs.Io.KnownBytes.{Keeps}
 use Rattle.clap.specs.Words.{IsAmong, Text, fault_of, takes}
 use Rattle.clap.specs.declared.error.kind.ErrorKind.{ErrorKind}
@@ -19,7 +20,7 @@ use Rattle.command_line.specs.CommandLine.{bank_app}
 use Rattle.command_line.specs.CommandFaults.{status_of}
 use Rattle.command_line.specs.Lines.{IsHelpOrVersion, created_line, fault_line, usable_line}
 use Rattle.command_line.specs.Prompting.{prompt_line}
-use Rattle.command_line.specs.Translating.{DecodesReplies, EncodesSheet}
+use Rattle.command_line.specs.Translating.{DecodesOver, DecodesPostings, DecodesReplies, EncodesSheet, OpensNoSheet}
 use Rattle.command_line.specs.Words.{IsReadFrom}
 use Rattle.command_line.specs.declared.fault.CommandFault.{CommandFault}
 use Rattle.command_line.specs.declared.reading.Command.{Command}
@@ -80,8 +81,10 @@ DoesOver g conn back IsNamed known r r' w w' k k' (commands.Migrate file) told =
 DoesOver g conn back IsNamed known r r' w w' k k' (commands.Why file) told = LooksOver g conn back w w' told
 DoesOver g conn back IsNamed known r r' w w' k k' commands.Encode told =
     (back ≡ conn) × EncodesSheet r r' None None w w' None None told
-DoesOver g conn back IsNamed known r r' w w' k k' (commands.Decode money) told =
+DoesOver g conn back IsNamed known r r' w w' k k' (commands.Decode money None) told =
     (back ≡ conn) × DecodesReplies money r r' None None w w' None None told
+DoesOver g conn back IsNamed known r r' w w' k k' (commands.Decode money (Some sheet)) told =
+    (back ≡ conn) × DecodesOver money (IsNamed sheet.now) known r r' None None w w' None None told
 
 -- ---- how it ends and what it prints, whatever bank is there; the text of `post`, `statement`, `export`, `log` and
 -- `plan` is the bank's
@@ -111,7 +114,10 @@ Tells (commands.Migrate file) r r' w w' told =
     PrintsNone w w' told ((migrated : Migrated) × TellsLine w w' (migration_line migrated) told)
 Tells (commands.Why file) r r' w w' told = PrintsNone w w' told (TellsLine w w' usable_line told)
 Tells commands.Encode r r' w w' told = EncodesSheet r r' None None w w' None None told
-Tells (commands.Decode money) r r' w w' told = DecodesReplies money r r' None None w w' None None told
+Tells (commands.Decode money None) r r' w w' told = DecodesReplies money r r' None None w w' None None told
+-- whatever the sheet of postings was
+Tells (commands.Decode money (Some sheet)) r r' w w' told =
+    OpensNoSheet r r' w w' told ⊎ DecodesPostings money None None None None r r' None None w w' None None told
 
 -- ---- what it leaves alone
 
@@ -120,7 +126,7 @@ abbrev pub LeavesInput : Command → (r r' : Option (List ℕ)) → Type 0
 LeavesInput (commands.Post file) r r' = ⊤
 LeavesInput (commands.Follow file plan) r r' = ⊤
 LeavesInput commands.Encode r r' = ⊤
-LeavesInput (commands.Decode money) r r' = ⊤
+LeavesInput (commands.Decode money sheet) r r' = ⊤
 LeavesInput _ r r' = r' ≡ r
 
 -- and so is the clock, but for the commands that post

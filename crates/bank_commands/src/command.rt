@@ -11,7 +11,7 @@ use crate::{
 };
 use bank_replays::Watch;
 use branch_loader::FollowWatch;
-use command_line::{Command, Network, Plans, translate_replies, translate_sheet};
+use command_line::{Command, Network, Plans, translate_beside, translate_replies, translate_sheet};
 use counter_http::ServeWatch;
 use posting_core::Clock;
 use sqlite::{Alter, Connection};
@@ -20,7 +20,7 @@ use std::alloc::Global;
 use std::io::{Read, Write};
 
 /// Does the command with the bank of a connection, whatever the command's file is, and hands the connection back. A
-/// command that needs no bank hands it back as it was given. It reaches plans by their names, the network, and who
+/// command that needs no bank hands it back as it was given. It reaches plans, and sheets, by their names, the network, and who
 /// watches a replay, a log that is followed or the serving, and no file.
 pub fn command_over<
     S: Alter + Drop,
@@ -86,8 +86,15 @@ pub fn command_over<
             told: translate_sheet(alloc, input, output),
             conn,
         },
-        Command::Decode { money } => Ended {
+        Command::Decode { money, sheet: None } => Ended {
             told: translate_replies(alloc, money, input, output),
+            conn,
+        },
+        Command::Decode {
+            money,
+            sheet: Some(sheet),
+        } => Ended {
+            told: translate_beside(alloc, money, plans, sheet, input, output),
             conn,
         },
     }

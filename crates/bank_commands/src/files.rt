@@ -13,7 +13,9 @@ use crate::progress::Progress;
 use crate::reasons::look_into;
 use crate::reports::why_over;
 use bank_files::open;
-use command_line::{Command, CommandFault, Plans, Status, translate_replies, translate_sheet};
+use command_line::{
+    Command, CommandFault, Plans, Status, translate_beside, translate_replies, translate_sheet,
+};
 use posting_core::{Clock, SystemClock};
 use sqlite::{Connection, Error, ErrorCode, FileFrom, FileStore, Start};
 use std::alloc::Global;
@@ -43,7 +45,7 @@ impl<'r, S: Start> Machine<'r, S> {
     }
 }
 
-/// The plans in files, by their paths.
+/// The plans and the sheets in files, by their paths.
 #[derive(Drop)]
 pub struct PlanFiles<'r> {
     rt: &'r HostRuntime,
@@ -83,7 +85,16 @@ pub(crate) fn command_in<S: Start, R: Read, W: Write, K: Clock>(
     let Machine { rt, start, is_full } = machine;
     let (file, finds_bank) = match *command {
         Command::Encode => return translate_sheet(rt.alloc(), input, output),
-        Command::Decode { money } => return translate_replies(rt.alloc(), money, input, output),
+        Command::Decode { money, sheet: None } => {
+            return translate_replies(rt.alloc(), money, input, output);
+        }
+        Command::Decode {
+            money,
+            sheet: Some(sheet),
+        } => {
+            let files = PlanFiles::new(rt);
+            return translate_beside(rt.alloc(), money, &files, sheet, input, output);
+        }
         Command::Why { file } => return why_in(rt, file, output),
         Command::Init { file } => (file, false),
         Command::Load { file, .. }
