@@ -2,7 +2,9 @@
 use crate::plans::{LINE_ENDS, write};
 use failing_ends::{CutReader, CutWriter};
 use message_records::{BadReply, REPLY_BYTES, REQUEST_BYTES};
-use posting_sheets::{BadRow, Money, RepliesFault, SheetFault, decode_replies, encode_sheet};
+use posting_sheets::{
+    BadRow, Money, RepliesFault, SheetFault, decode_beside, decode_replies, encode_sheet,
+};
 use std::alloc::{Alloc, Global};
 use std::io::{ErrorKind, Read};
 use std::process::Abort;
@@ -402,4 +404,83 @@ fn replies_changed(rt: HostRuntime) {
         assert_eq!(rt; end, Err(RepliesFault::Reply(2, want)));
         assert_eq!(rt; sheet.as_slice(), lines(&rt, 1).as_slice());
     }
+}
+
+// The postings of the three, and one that has no reply.
+const POSTINGS: &[u8] = b"account,teller,number,delta,reference
+100001,1,2,-700,\"rent, \"\"May\"\"\"
+1,1,3,-9999999999,
+7,1,4,5, fee  
+1,1,5,1,last
+";
+
+// The sheet of the three beside them.
+const BESIDE: &[u8] = b"outcome,name,account,teller,branch,number,delta,balance,row,reference
+0,POSTED,100001,1,1,2,-700,-700,1,\"rent, \"\"May\"\"\"
+17,BELOW FLOOR,1,1,1,3,-9999999999,,2,
+90,MALFORMED,,,,,,,3, fee
+";
+
+#[test]
+fn replies_beside_postings(rt: HostRuntime) {
+    let replies = filled(&rt, &REPLIES, REPLY_BYTES);
+    let mut sheet: Vec<u8> = Vec::new(rt.alloc());
+    let end = decode_beside(
+        rt.alloc(),
+        Money::Cents,
+        &mut first_lines(POSTINGS, 5),
+        &mut replies.as_slice(),
+        &mut sheet,
+    );
+    assert_eq!(rt; end, Ok(3));
+    assert_eq!(rt; sheet.as_slice(), BESIDE);
+}
+
+// The sheet of postings ends, or fails, after so many bytes: a reply whose row isn't there has no line.
+#[test]
+fn postings_cut_off(rt: HostRuntime) {
+    let replies = filled(&rt, &REPLIES, REPLY_BYTES);
+    for i in 0..POSTINGS.len() {
+        let mut sheet: Vec<u8> = Vec::new(rt.alloc());
+        let mut source = CutReader {
+            before: &POSTINGS[..i],
+            fault: Some(ErrorKind::Other),
+            after: b"",
+        };
+        let end = decode_beside(
+            rt.alloc(),
+            Money::Cents,
+            &mut source,
+            &mut replies.as_slice(),
+            &mut sheet,
+        );
+        assert_eq!(rt; end, Err(RepliesFault::Sheet));
+        assert!(rt; sheet.is_empty());
+    }
+    for (lines, count) in [(1, 0), (2, 1), (3, 2)] {
+        let mut sheet: Vec<u8> = Vec::new(rt.alloc());
+        let end = decode_beside(
+            rt.alloc(),
+            Money::Cents,
+            &mut first_lines(POSTINGS, lines),
+            &mut replies.as_slice(),
+            &mut sheet,
+        );
+        assert_eq!(rt; end, Err(RepliesFault::MoreReplies));
+        assert_eq!(rt; sheet.as_slice(), first_lines(BESIDE, count + 1));
+    }
+}
+
+// So many lines of a text.
+fn first_lines(text: &[u8], count: usize) -> &[u8] {
+    let mut left = count;
+    for i in 0..text.len() {
+        if left == 0 {
+            return &text[..i];
+        }
+        if text[i] == b'\n' {
+            left -= 1;
+        }
+    }
+    text
 }
