@@ -11,6 +11,8 @@ bank that runs, copy both files and ask the copy.
     tools/oracle.py FILE statement ACCOUNT FROM TO ZONE [REFERENCE [csv]]
                                 prints what `bank statement FILE ACCOUNT --from FROM --to TO --zone=ZONE` and so on
                                 prints; an empty word stands for an option that isn't given
+    tools/oracle.py REPLIES decode [SHEET [words]]
+                                prints what `bank decode --sheet SHEET --words < REPLIES` and so on prints
 """
 import collections
 import csv
@@ -462,6 +464,39 @@ def statement(file, aid, first="", last="", zone="", reference="", layout=""):
     return [*lines, f"{'closing balance':<57} {closing:>14}"], 0
 
 
+# ---- sheets of replies
+
+REPLY_COLUMNS = ("outcome", "name", "account", "teller", "branch", "number")
+
+
+def shown(reply, words=False):
+    """The fields of a reply's line, by its bytes."""
+    text = reply.decode()
+    outcome, name = int(text[4:6]), text[66:82].rstrip()
+    if outcome == MALFORMED:
+        return [str(outcome), name] + [""] * 6
+    money = decimals if words else str
+    fields = [str(int(field)) for field in (text[6:18], text[18:26], text[26:32], text[32:42])]
+    return [str(outcome), name, *fields, money(int(text[42:53])), money(int(text[53:66])) if outcome == POSTED else ""]
+
+
+def decoded(replies, words=False, postings=None):
+    """The rows of a sheet of replies, beside those of a sheet of postings if there is one, whose names they have as keys."""
+    lines = [[*REPLY_COLUMNS, "amount" if words else "delta", "balance"], *(shown(reply, words) for reply in replies)]
+    if postings is None:
+        return lines
+    own = [(row, posting.get("reference", "").rstrip(" ")) for row, posting in enumerate(postings, 1)]
+    return [line + list(more) for line, more in zip(lines, [("row", "reference"), *own])]
+
+
+def decode(file, postings="", words=""):
+    """What the bank prints of the replies in a file, which answer the sheet of a path, and its status."""
+    text = open(file, "rb").read()
+    replies = [text[at:at + 200] for at in range(0, len(text), 200)]
+    rows = list(csv.DictReader(open(postings, newline="", encoding="utf-8-sig"))) if postings else None
+    return sheet(decoded(replies, bool(words), rows)), 0
+
+
 # ---- answers over HTTP
 
 PHRASES = {200: b"OK", 400: b"Bad Request", 404: b"Not Found", 405: b"Method Not Allowed", 503: b"Service Unavailable"}
@@ -560,6 +595,8 @@ def main():
         return
     if sys.argv[2:3] == ["statement"]:
         lines, status = statement(sys.argv[1], int(sys.argv[3]), *sys.argv[4:])
+    elif sys.argv[2:3] == ["decode"]:
+        lines, status = decode(sys.argv[1], *sys.argv[3:])
     elif len(sys.argv) > 2:
         requests, first = list(requests_of(tables_of(sys.argv[1]))), int(sys.argv[2])
         few = first > len(requests)

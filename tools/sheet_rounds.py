@@ -4,10 +4,11 @@
 100,000 postings are drawn from a seed and written as CSV by Python's own writer: with each header, with cents or
 decimals, with line feeds or carriage returns, behind a byte order mark or with none, with quotes about every field or
 about those that need them. The records have to be those that this script spells; the sheets of the replies, in cents and
-in decimals, have to have the fields that this script cuts out of the replies' bytes. Then one field of a sheet in turn is made wrong at a drawn row, or the row gets a
-field more or fewer: the records of the rows before it are written, the fault names row and column, and the status is 4.
-Headers that an editor may write are refused. Last, the replies are cut at a drawn byte. It needs the built program, and
-stands outside the gate.
+in decimals, alone and beside the sheet of postings, have to have the fields that `oracle.py` cuts out of the replies'
+bytes. Two replies in each other's places and one more than there are rows are found. Then one field of a sheet in turn
+is made wrong at a drawn row, or the row gets a field more or fewer: the records of the rows before it are written, or
+the lines of their replies, the fault names row and column, and the status is 4. Headers that an editor may write are
+refused. Last, the replies are cut at a drawn byte. It needs the built program, and stands outside the gate.
 
     tools/sheet_rounds.py [POSTINGS]
 """
@@ -24,7 +25,6 @@ import serve_client
 
 MORE = [[], ["branch"], ["reference"], ["branch", "reference"]]
 HEADERS = [["account", "teller", "number", money] + more for money in ("delta", "amount") for more in MORE]
-REPLY_COLUMNS = ["outcome", "name", "account", "teller", "branch", "number"]
 BRANCHES, ACCOUNTS = 20, 1000
 
 # Fields that no column takes, and some that one column doesn't.
@@ -44,10 +44,6 @@ def run(words, data, status):
     if ended != status:
         sys.exit(f"bank {' '.join(words)}: status {ended}, not {status}: {faults!r}")
     return output, faults
-
-
-def in_decimals(cents):
-    return f"{'-' if cents < 0 else ''}{abs(cents) // 100}.{abs(cents) % 100:02}"
 
 
 def cents_of(row):
@@ -71,7 +67,7 @@ def drawn(draw, count, header):
             "teller": teller,
             "number": draw.choice([i + 1, draw.randint(1, 9_999_999_999)]),
             "delta": draw.choice(["%d", "%+d", "%05d"]) % cents,
-            "amount": draw.choice([in_decimals(cents), "%+d" % (cents // 100)]),
+            "amount": draw.choice([oracle.decimals(cents), "%+d" % (cents // 100)]),
         }
         if "branch" in header:
             row["branch"] = draw.choice(["", (teller - 1) // 10 + 1, draw.randint(1, 999_999)])
@@ -89,24 +85,28 @@ def sheet(header, rows, mark, line_end, quoting):
     return (b"\xef\xbb\xbf" if mark else b"") + text.getvalue().encode()
 
 
-def cut(reply):
-    """The fields of a reply, by its bytes."""
-    text = reply.decode()
-    outcome, name = int(text[4:6]), text[66:82].rstrip()
-    if outcome == 90:
-        return [str(outcome), name] + [""] * 6
-    fields = [text[6:18], text[18:26], text[26:32], text[32:42], text[42:53]]
-    balance = str(int(text[53:66])) if outcome == 0 else ""
-    return [str(outcome), name] + [str(int(field)) for field in fields] + [balance]
-
-
-def decoded(replies):
-    lines = [cut(reply) for reply in replies]
-    money = [line[:6] + [in_decimals(int(cents)) if cents else "" for cents in line[6:]] for line in lines]
-    for flags, column, wanted in (([], "delta", lines), (["--words"], "amount", money)):
-        text, _ = run(["decode", *flags], b"".join(replies), 0)
-        if list(csv.reader(io.StringIO(text.decode(), newline=""))) != [REPLY_COLUMNS + [column, "balance"], *wanted]:
+def decoded(replies, more, postings, status=0):
+    """The replies have these lines, in cents and in decimals. Gives the line on standard error."""
+    told = b""
+    for words in (False, True):
+        text, told = run(["decode", *(["--words"] if words else []), *more], b"".join(replies), status)
+        if text.decode() != "\n".join([*oracle.sheet(oracle.decoded(replies, words, postings)), ""]):
             sys.exit("a sheet of replies differs")
+    return told
+
+
+def beside(draw, path, rows, replies):
+    """The replies, of which one is too many, beside the sheet in a file."""
+    decoded(replies[:len(rows)], ["--sheet", path], rows)
+    decoded(replies[:draw.randint(0, 9)], ["--sheet", path], rows)
+    told = decoded(replies, ["--sheet", path], rows, 4)
+    if told != b"bank: more replies than rows\n":
+        sys.exit(f"one reply too many: {told!r}")
+    at = draw.randrange(len(rows) - 1)
+    if oracle.shown(replies[at])[2:7] != oracle.shown(replies[at + 1])[2:7]:
+        text, told = run(["decode", "--sheet", path], b"".join(replies[:at] + [replies[at + 1], replies[at]]), 4)
+        if told != b"bank: row %d is another posting\n" % (at + 1) or text.count(b"\n") != at + 1:
+            sys.exit(f"two replies in each other's places: {told!r}")
 
 
 def rounds(draw, count, folder):
@@ -125,8 +125,12 @@ def rounds(draw, count, folder):
         replies = [replies[at:at + 200] for at in range(0, len(replies), 200)]
         if len(replies) != len(rows) + 1:
             sys.exit(f"the replies to sheet {i} aren't so many")
-        decoded(replies)
-        faults += names_each_fault(draw, header, rows[:50])
+        decoded(replies, [], None)
+        path = os.path.join(folder, "postings.csv")
+        with open(path, "wb") as file:
+            file.write(text)
+        beside(draw, path, rows, replies)
+        faults += names_each_fault(draw, header, rows[:50], path, replies)
         at = draw.randint(1, 199)
         text, told = run(["decode"], replies[0] + replies[1][:at], 4)
         if told != b"bank: truncated %d bytes\n" % at or text.count(b"\n") != 2:
@@ -135,7 +139,7 @@ def rounds(draw, count, folder):
     return faults
 
 
-def names_each_fault(draw, header, rows):
+def names_each_fault(draw, header, rows, path, replies):
     """Each wrong field, and a row of other columns, in a sheet as a program writes it and as an editor does. Gives how
     many sheets there were."""
     count = 0
@@ -146,19 +150,23 @@ def names_each_fault(draw, header, rows):
                 broken = [dict(row) for row in rows]
                 broken[at][name] = wrong
                 column = "delta" if name == "amount" else name
-                is_told(sheet(header, broken, mark, line_end, csv.QUOTE_MINIMAL), f"row {at + 1} {column}", rows[:at])
+                text = sheet(header, broken, mark, line_end, csv.QUOTE_MINIMAL)
+                is_told(text, f"row {at + 1} {column}", rows[:at])
+                is_told_beside(path, text, f"row {at + 1} {column}", rows[:at], replies)
                 count += 1
         lines = sheet(header, rows, mark, line_end, csv.QUOTE_MINIMAL).split(line_end.encode())
         for change in (lambda line: line + b",", lambda line: line.partition(b",")[2], lambda line: b"1,1"):
             at = draw.randrange(len(rows))
             broken = lines[:at + 1] + [change(lines[at + 1])] + lines[at + 2:]
             is_told(line_end.encode().join(broken), f"row {at + 1} columns", rows[:at])
+            is_told_beside(path, line_end.encode().join(broken), f"row {at + 1} columns", rows[:at], replies)
             count += 1
     text = sheet(header, rows, False, "\n", csv.QUOTE_MINIMAL)
     head, _, rest = text.partition(b"\n")
     for other in (head.replace(b",", b";"), head.replace(b",", b"\t"), head.upper(), head + b",", b" " + head,
                   b"sep=,\n" + head, b""):
         is_told(other + b"\n" + rest, "header", [])
+        is_told_beside(path, other + b"\n" + rest, "header", None, replies)
     is_told(text.decode().encode("utf-16"), "header", [])
     return count + 8
 
@@ -170,6 +178,18 @@ def is_told(text, fault, rows):
         sys.exit(f"{fault}: {told!r}")
     if records != b"".join(spelled(row) for row in rows):
         sys.exit(f"{fault}: the records before it differ")
+
+
+def is_told_beside(path, text, fault, rows, replies):
+    """The same beside replies: the lines of those to these rows are written, and nothing where there are none."""
+    with open(path, "wb") as file:
+        file.write(text)
+    lines, told = run(["decode", "--sheet", path], b"".join(replies), 4)
+    if told.decode() != f"bank: postings {fault}\n":
+        sys.exit(f"{fault} beside replies: {told!r}")
+    wanted = [] if rows is None else oracle.sheet(oracle.decoded(replies[:len(rows)], False, rows))
+    if lines.decode().splitlines() != wanted:
+        sys.exit(f"{fault}: the lines before it differ")
 
 
 def main():
