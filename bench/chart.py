@@ -31,105 +31,64 @@ def read(path):
     return rates
 
 
-def ratio(rates, what, system, ours="ours"):
-    """Ours over another's, round by round: the median and the range."""
-    pairs = [own / other for own, other in zip(rates[what, ours], rates[what, system])]
+def ratio(own, other):
+    """One over the other, round by round: the median and the range."""
+    pairs = [one / another for one, another in zip(own, other)]
     return f"{statistics.median(pairs):.2f} ({min(pairs):.2f} to {max(pairs):.2f})"
-
-
-def median(rates, what, system):
-    return f"{statistics.median(rates[what, system]):,.0f}"
-
-
-def table(rates):
-    """The table, which has two columns more where the build of another tree took part."""
-    has_before = any(system == "before" for _, system in rates)
-    heads = ["", "this bank", "the C library", "ratio"]
-    heads += ["this bank over the one before", "that one over the C library"] * has_before
-    yield row(heads)
-    yield "|---" * len(heads) + "|"
-    for what, title in CASES:
-        if (what, "ours") in rates:
-            cells = [title, median(rates, what, "ours"), median(rates, what, "sqlite"), ratio(rates, what, "sqlite")]
-            if has_before:
-                cells += [ratio(rates, what, "before"), ratio(rates, what, "sqlite", "before")]
-            yield row(cells)
-    if ("one", "postgres") in rates:
-        yield ""
-        yield (
-            f"PostgreSQL's TPC-B script, one client: {median(rates, 'one', 'postgres')} a second."
-            f" One a commit over it: {ratio(rates, 'one', 'postgres')}."
-        )
-        pairs = [ours / other for ours, other in zip(rates["batch", "ours"], rates["one", "postgres"])]
-        yield f"64 a commit over it: {statistics.median(pairs):.1f} ({min(pairs):.1f} to {max(pairs):.1f})."
-    for what, system in rates:
-        if system.startswith("postgres-"):
-            clients = system.removeprefix("postgres-")
-            other = median(rates, what, system)
-            yield f"By {clients} clients, with which it does best: {other}. One a commit over it: {ratio(rates, what, system)}."
-    yield from growth(rates)
-    yield from of_readme(rates)
 
 
 def row(cells):
     return f"| {' | '.join(cells)} |".replace("|  |", "| |")
 
 
-def of_readme(rates):
-    """The row of README's table."""
-    ours, other = (
-        f"{median(rates, 'one', system)}; 64 a commit {median(rates, 'batch', system)}" for system in ("ours", "sqlite")
-    )
-    beside = "not measured"
-    if ("one", "postgres") in rates:
-        beside = median(rates, "one", "postgres")
-    for what, system in rates:
-        if system.startswith("postgres-"):
-            beside += f"; {system.removeprefix('postgres-')} clients {median(rates, what, system)}"
-    yield ""
-    yield row(["Postings a second", ours, beside, other, "not measured"])
+def table(rates):
+    """The lines, with two columns more where the build of another tree took part."""
+    def median(what, system):
+        return f"{statistics.median(rates[what, system]):,.0f}"
+
+    has_before = any(system == "before" for _, system in rates)
+    heads = ["", "this bank", "the C library", "ratio"]
+    heads += ["this bank over the one before", "that one over the C library"] * has_before
+    yield from (row(heads), "|---" * len(heads) + "|")
+    for what, title in CASES:
+        ours, peer, before = (rates.get((what, it)) for it in ("ours", "sqlite", "before"))
+        if ours:
+            cells = [title, median(what, "ours"), median(what, "sqlite"), ratio(ours, peer)]
+            yield row(cells + ([ratio(ours, before), ratio(before, peer)] if has_before else []))
+    told = "not measured"
+    for system in (it for what, it in rates if what == "one" and it.startswith("postgres")):
+        clients = system.removeprefix("postgres").lstrip("-")
+        told = f"{told}; {clients} clients {median('one', system)}" if clients else median("one", system)
+        of = [f"{what} a commit over it {ratio(rates[case, 'ours'], rates['one', system])}"
+              for what, case in (("one", "one"), ("64", "batch"))]
+        yield from ("", f"PostgreSQL's TPC-B script, clients {clients or 1}: {median('one', system)}; {', '.join(of)}.")
+    for what in (what for what, _ in rates if what.startswith("rows-")):
+        after = ratio(rates["few-rows", "ours"], rates[what, "ours"])
+        yield from ("", f"A posting after {int(what.removeprefix('rows-')):,} rows costs {after} times one after 1,000.")
+    ours, peer = (f"{median('one', it)}; 64 a commit {median('batch', it)}" for it in ("ours", "sqlite"))
+    yield from ("", row(["Postings a second", ours, told, peer, "not measured"]))
 
 
-def growth(rates):
-    """What a posting costs after many rows, over what it costs after 1,000."""
-    for what, system in rates:
-        if what.startswith("rows-"):
-            pairs = [few / many for few, many in zip(rates["few-rows", system], rates[what, system])]
-            rows = int(what.removeprefix("rows-"))
-            yield ""
-            yield (
-                f"A posting after {rows:,} rows costs {statistics.median(pairs):.2f} ({min(pairs):.2f} to {max(pairs):.2f})"
-                " times one after 1,000."
-            )
-
-
-def bars(rates):
-    """The parts of the picture, and its height."""
+def draw(rates):
+    """The picture: a bar for each median, and a key above."""
     most = max(statistics.median(rate) for rate in rates.values())
     parts, top = [], 46
+    for place, (_, name, colour) in enumerate(SYSTEMS):
+        left = LEFT + 130 * place
+        parts.append(f'<rect x="{left}" y="14" width="12" height="12" fill="{colour}"/><text x="{left + 18}" y="24">{name}</text>')
     for what, title in CASES:
-        shown = [(name, colour, statistics.median(rates[what, system])) for system, name, colour in SYSTEMS if (what, system) in rates]
-        if not shown:
-            continue
-        parts.append(f'<text x="{LEFT - 10}" y="{top + BAR * len(shown) / 2 + 4}" text-anchor="end">{title}</text>')
+        shown = [(name, colour, statistics.median(rates[what, it])) for it, name, colour in SYSTEMS if (what, it) in rates]
+        if shown:
+            parts.append(f'<text x="{LEFT - 10}" y="{top + BAR * len(shown) / 2 + 4}" text-anchor="end">{title}</text>')
         for name, colour, rate in shown:
             width = max(1, round(rate / most * (WIDTH - LEFT - 80)))
             parts.append(f'<rect x="{LEFT}" y="{top}" width="{width}" height="{BAR - 3}" fill="{colour}"><title>{name}</title></rect>')
             parts.append(f'<text x="{LEFT + width + 6}" y="{top + BAR - 5}">{rate:,.0f}</text>')
             top += BAR
-        top += GAP
-    return parts, top
-
-
-def draw(rates):
-    parts, height = bars(rates)
-    key, left = [], LEFT
-    for _, name, colour in SYSTEMS:
-        key.append(f'<rect x="{left}" y="14" width="12" height="12" fill="{colour}"/><text x="{left + 18}" y="24">{name}</text>')
-        left += 130
-    yield f'<svg xmlns="http://www.w3.org/2000/svg" width="{WIDTH}" height="{height}" font-family="sans-serif" font-size="12">'
-    yield f'<rect width="{WIDTH}" height="{height}" fill="white"/><text x="10" y="24">Postings a second (medians)</text>'
-    yield from key + parts
+        top += GAP if shown else 0
+    yield f'<svg xmlns="http://www.w3.org/2000/svg" width="{WIDTH}" height="{top}" font-family="sans-serif" font-size="12">'
+    yield f'<rect width="{WIDTH}" height="{top}" fill="white"/><text x="10" y="24">Postings a second (medians)</text>'
+    yield from parts
     yield "</svg>"
 
 

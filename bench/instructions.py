@@ -13,9 +13,10 @@ import tempfile
 from collections import Counter
 
 sys.path.insert(0, os.path.join(os.path.dirname(os.path.dirname(os.path.abspath(__file__))), "tools"))
-from serve_client import BANK, make_bank, need_program, post, read_answer, record  # noqa: E402
+from serve_client import BANK, done, make_bank, need_program, post, read_answer, record  # noqa: E402
 
 FEW, MANY = 1000, 3000
+RECORDS = [record(i * 7 % 1000 + 1 + 100_000 * (i % 2), i % 20 + 1, i % 20 // 10 + 1, i // 20 + 1, 5) for i in range(MANY)]
 # What calls `sqlite`, and what it asks for; the first that fits. The statements of a table have no symbol of their own.
 KINDS = [
     ("UPDATE of meta", ".*write_decided", "execute"),
@@ -27,47 +28,35 @@ KINDS = [
 ]
 
 
-def under_callgrind(counts, *words, **how):
+def under_callgrind(counts, *words):
     return subprocess.Popen(["valgrind", "--tool=callgrind", f"--callgrind-out-file={counts}", BANK, *words],
-                            stderr=subprocess.DEVNULL, **how)
+                            stdin=subprocess.PIPE, stdout=subprocess.PIPE, stderr=subprocess.DEVNULL)
 
 
-def drive(file, counts, count):
-    assert under_callgrind(counts, "drive", file, "--seed", "7", "--count", str(count),
-                           stdout=subprocess.DEVNULL).wait() == 0
+def drive(file, counts, records):
+    assert not under_callgrind(counts, "drive", file, "--seed", "7", "--count", str(len(records))).wait()
 
 
-def record_at(i):
-    account = i * 7 % 1000 + 1 + 100_000 * (i % 2)
-    return record(account, i % 20 + 1, i % 20 // 10 + 1, i // 20 + 1, 5)
+def post_all(file, counts, records):
+    program = under_callgrind(counts, "post", file)
+    replies, _ = program.communicate(b"".join(records))
+    assert program.returncode == 0 and len(replies) == 200 * len(records), replies
 
 
-def post_all(file, counts, count):
-    stream = subprocess.PIPE
-    program = under_callgrind(counts, "post", file, stdin=stream, stdout=stream)
-    replies, _ = program.communicate(b"".join(map(record_at, range(count))))
-    assert program.returncode == 0 and len(replies) == 200 * count, replies
-
-
-def post_before(file):
-    records = b"".join(map(record_at, range(MANY)))
-    subprocess.run([BANK, "post", file], input=records, stdout=subprocess.DEVNULL, check=True)
-
-
-def serve(file, counts, count):
-    server = under_callgrind(counts, "serve", file, "127.0.0.1:0", "--connections", "1", stdout=subprocess.PIPE, text=True)
-    port = int(server.stdout.readline().rpartition(":")[2])
+def serve(file, counts, records):
+    server = under_callgrind(counts, "serve", file, "127.0.0.1:0", "--connections", "1")
+    port = int(server.stdout.readline().rpartition(b":")[2])
     with socket.create_connection(("127.0.0.1", port)) as connection:
-        for i in range(count):
-            connection.sendall(post(record_at(i)))
-            status, body, _ = read_answer(connection, b"")
-            assert status == 200 and body[66:72] == b"POSTED", body
+        for body in records:
+            connection.sendall(post(body))
+            status, reply, _ = read_answer(connection, b"")
+            assert status == 200 and reply[66:72] == b"POSTED", reply
     assert server.wait() == 0
 
 
 def calls_of(counts):
-    """The instructions within each call, by caller and callee, and those of the whole run."""
-    names, within, caller, callee, total = {}, Counter(), None, None, 0
+    """The instructions of each kind of call, and those of the whole run."""
+    names, taken, caller, callee, total = {}, Counter(), None, None, 0
 
     def name_of(text):
         number, name = re.match(r"\((\d+)\)(?: (.*))?", text).groups()
@@ -80,16 +69,11 @@ def calls_of(counts):
             elif line.startswith("cfn="):
                 callee = name_of(line[4:])
             elif line.startswith("calls="):
-                within[caller, callee] += int(next(lines).split()[-1])
+                kind = next((kind for kind, by, to in KINDS if re.match(by, caller) and to in callee), None)
+                taken[kind] += int(next(lines).split()[-1])
             elif line.startswith("totals:"):
                 total = int(line.split()[1])
-    return within, total
-
-
-def kind_of(call):
-    """The place of the kind of call, none where it asks `sqlite` for nothing."""
-    of_it = (at for at, (_, caller, callee) in enumerate(KINDS) if re.match(caller, call[0]) and callee in call[1])
-    return next(of_it, None)
+    return taken, total
 
 
 def measure(run, folder, is_resent):
@@ -99,16 +83,12 @@ def measure(run, folder, is_resent):
         file = f"{folder}/{run.__name__}{count}.db"
         make_bank(file, [(1, 1000), (2, 1000)])
         if is_resent:
-            post_before(file)
-        run(file, f"{folder}/counts", count)
+            done("post", file, data=b"".join(RECORDS))
+        run(file, f"{folder}/counts", RECORDS[:count])
         found.append(calls_of(f"{folder}/counts"))
     (few, least), (many, most) = found
+    taken = [(many[kind] - few[kind]) / (MANY - FEW) for kind, _, _ in KINDS]
     whole = (most - least) / (MANY - FEW)
-    taken = [0] * len(KINDS)
-    for call in many:
-        at = kind_of(call)
-        if at is not None:
-            taken[at] += (many[call] - few[call]) / (MANY - FEW)
     return [*taken, whole - sum(taken), whole]
 
 
@@ -118,11 +98,10 @@ def main():
     with tempfile.TemporaryDirectory() as folder:
         columns = [measure(run, folder, is_resent) for run in (post_all if is_resent else drive, serve)]
     print("| | 64 a commit | one a commit |\n|---|---|---|")
-    for kind, *row in zip([kind for kind, _, _ in KINDS] + ["all else"], *columns):
+    for kind, *row in zip([*(kind for kind, _, _ in KINDS), "all else"], *columns):
         cells = (f"{taken:,.0f}, {100 * taken / column[-1]:.0f}%" for taken, column in zip(row, columns))
         print(f"| {kind} | {' | '.join(cells)} |")
     print(f"| together | {' | '.join(f'{column[-1]:,.0f}' for column in columns)} |")
 
 
-if __name__ == "__main__":
-    main()
+main()

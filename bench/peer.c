@@ -2,32 +2,14 @@
  *
  * usage: peer FILE BRANCHES ACCOUNTS BEFORE COUNT TOGETHER
  *
- * Makes the bank's tables in a new file, opens the branches with as many accounts each, posts BEFORE records, and
- * prints how many of the COUNT that follow it posts a second, TOGETHER in a transaction. */
+ * In a file with a bank's tables it opens the branches with as many accounts each, posts BEFORE records, and prints how
+ * many of the COUNT that follow it posts a second, TOGETHER in a transaction. */
 #include <sqlite3.h>
 #include <stdio.h>
 #include <stdlib.h>
 #include <time.h>
 
 enum { TELLERS = 10, ACCOUNT_NUMBERS = 100000 };
-
-static const char *const tables[] = {
-    "PRAGMA journal_mode = WAL",
-    "PRAGMA synchronous = FULL",
-    "CREATE TABLE meta (id INTEGER PRIMARY KEY CHECK (id = 1), version INTEGER NOT NULL, decided INTEGER NOT NULL)"
-    " STRICT",
-    "CREATE TABLE branch (bid INTEGER PRIMARY KEY, accounts INTEGER NOT NULL, balance INTEGER NOT NULL) STRICT",
-    "CREATE TABLE teller (tid INTEGER PRIMARY KEY, balance INTEGER NOT NULL) STRICT",
-    "CREATE TABLE account (aid INTEGER PRIMARY KEY, balance INTEGER NOT NULL) STRICT",
-    "CREATE TABLE history (ordinal INTEGER PRIMARY KEY, aid INTEGER NOT NULL, tid INTEGER NOT NULL,"
-    " bid INTEGER NOT NULL, delta INTEGER NOT NULL, moment INTEGER NOT NULL) STRICT",
-    "CREATE TABLE request (ordinal INTEGER PRIMARY KEY, tid INTEGER NOT NULL, number INTEGER NOT NULL,"
-    " aid INTEGER NOT NULL, bid INTEGER NOT NULL, delta INTEGER NOT NULL, outcome INTEGER NOT NULL,"
-    " balance INTEGER NOT NULL, UNIQUE (tid, number)) STRICT",
-    "CREATE TABLE branch_floor (bid INTEGER PRIMARY KEY, lowest INTEGER NOT NULL) STRICT",
-    "CREATE TABLE request_reference (ordinal INTEGER PRIMARY KEY, reference TEXT NOT NULL) STRICT",
-    "INSERT INTO meta VALUES (1, 3, 0)",
-};
 
 static sqlite3 *db;
 
@@ -149,8 +131,7 @@ int main(int count, char **words) {
     }
     long branches = atol(words[2]), accounts = atol(words[3]), postings = atol(words[5]);
     check(sqlite3_open(words[1], &db) == SQLITE_OK);
-    for (size_t i = 0; i < sizeof tables / sizeof *tables; i++)
-        run(tables[i]);
+    run("PRAGMA journal_mode = WAL; PRAGMA synchronous = FULL");
     open_branches(branches, accounts);
     prepare_all();
     long long *numbers = calloc(TELLERS * branches + 1, sizeof *numbers);

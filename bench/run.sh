@@ -53,7 +53,11 @@ measure() {
     case $system in
         ours) program=$post ;;
         before) program=$BEFORE ;;
-        *) program=$work/peer ;;
+        *)
+            program=$work/peer
+            python3 -c "import sqlite3, sys; sys.path.append('$here/tools'); import oracle
+sqlite3.connect('$folder/bench.db').executescript(oracle.SCHEMA + ';INSERT INTO meta VALUES (1, 3, 0)')"
+            ;;
     esac
     echo "$what,$system,$("$program" "$folder/bench.db" "$@")" >>"$out"
     rm -f "$folder"/bench.db*

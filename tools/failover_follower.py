@@ -41,8 +41,10 @@ def day_of(teller):
 
 class Teller:
     def __init__(self, number, folder, wait):
-        self.number, self.tls, self.wait, self.records, self.first = number, tls_of(folder), wait, day_of(number), None
-        fields = (signed_in(number), *FROM_PAGE)
+        # Half of them show a certificate, and half a password.
+        self.number, self.wait, self.records, is_certified = number, wait, day_of(number), number % 2 == 1
+        self.tls = tls_of(folder, f"teller{number}" if is_certified else None)
+        fields = FROM_PAGE if is_certified else (signed_in(number), *FROM_PAGE)
         self.messages = [with_fields(post(body), fields) for body in self.records]
 
     def posts(self, place, gives_up=lambda: False, count=DAY):

@@ -25,8 +25,8 @@ import tempfile
 import threading
 import time
 
-from refuse_memory import Folder, Wrong, ensure
-from serve_client import BANK, Sender, Server, clear, make_bank, need_program, post, record, run
+from refuse_memory import Folder
+from serve_client import BANK, Failed, Sender, Server, clear, ensure, make_bank, need_program, post, record, run
 
 LIVES, RECORDS, TELLERS = (int(os.environ.get(name, usual)) for name, usual in
                            (("LIVES", 100), ("RECORDS", 20_000), ("TELLERS", 16)))
@@ -336,7 +336,7 @@ def main():
                 continue
             try:
                 cause(bench)
-            except Wrong as wrong:
+            except Failed as wrong:
                 sys.exit(f"failures: {bench.cause}: {wrong}")
         for cause, told in bench.told.items():
             print(f"{cause}: " + "; ".join(f"{said} ({count})" for said, count in sorted(told.items())))

@@ -14,7 +14,6 @@ It needs the built program and a C compiler, and stands outside the gate. TMPDIR
 best in memory.
     tools/refuse_memory.py [CASE..]"""
 import os
-import shutil
 import socket
 import sqlite3
 import subprocess
@@ -24,7 +23,7 @@ from collections import Counter, namedtuple
 from concurrent.futures import ProcessPoolExecutor
 
 import oracle
-from serve_client import BANK, HERE, Server, clear, done, make_bank, need_program, post, record
+from serve_client import BANK, HERE, Failed, Server, clear, copy_bank, done, ensure, make_bank, need_program, post, record
 
 FAULTS = {b"bank: no memory\n": "memory", b"bank: store fault\n": "store"}
 # A socket that can't be had for want of memory is a fault of the network.
@@ -45,15 +44,6 @@ def without_moments(text):
 
 # A name, the bank that it begins with, and the runs that it makes: words behind the file's, an input, and the status.
 Case = namedtuple("Case", "name prepare runs")
-
-
-class Wrong(Exception):
-    pass
-
-
-def ensure(holds, what):
-    if not holds:
-        raise Wrong(what)
 
 
 class Folder:
@@ -103,10 +93,7 @@ class Folder:
 
     def tables(self, file):
         """The rows of a bank's tables, without moments, read from a copy of its files."""
-        clear(self.path + "/read.db")
-        for end in ("", "-wal"):
-            if os.path.exists(file + end):
-                shutil.copyfile(file + end, self.path + "/read.db" + end)
+        copy_bank(file, self.path + "/read.db")
         rows = oracle.tables_of(self.path + "/read.db")
         return rows | {"history": {ordinal: row[:-1] for ordinal, row in rows["history"].items()}}
 
@@ -267,7 +254,7 @@ def play(folder, case):
         while True:
             try:
                 more = (try_at if case.runs else serve_at)(folder, case, own, place, at)
-            except Wrong as wrong:
+            except Failed as wrong:
                 sys.exit(f"refuse_memory: {case.name}, run {place + 1}, allocation {at}: {wrong}")
             if not more:
                 break
@@ -322,7 +309,7 @@ def play_pipe(folder, pipe):
         folder.faults.clear()
         try:
             count = refused_in_pipe(folder, pipe, kind)
-        except Wrong as wrong:
+        except Failed as wrong:
             sys.exit(f"refuse_memory: {pipe.name}: {wrong}")
         folder.refused[kind] += count
         print(f"{pipe.command} of {pipe.name}, {kind} refused {count} times: {folder.said()}", flush=True)

@@ -3,6 +3,7 @@ import base64
 import contextlib
 import os
 import random
+import re
 import shutil
 import socket
 import sqlite3
@@ -23,6 +24,15 @@ class Failed(Exception):
     """What is tried isn't as it should be."""
 
 
+def ensure(holds, what):
+    if not holds:
+        raise Failed(what)
+
+
+def same(name, got, wanted):
+    ensure(got == wanted, f"{name}: wanted {wanted!r}, got {got!r}")
+
+
 def within(seconds, what, is_so):
     """Waits until it is so, and gives what it was."""
     end = time.monotonic() + seconds
@@ -39,15 +49,12 @@ def check_books(copy, answered):
     request, is what stands there. Gives which stand there beside these."""
     for command, verdict in (("audit", b"CONSISTENT"), ("replay", b"AGREES")):
         output, faults, status = run(command, copy)
-        if status or verdict not in output.split():
-            raise Failed(f"{command}: {output} {faults}")
+        ensure(status == 0 and verdict in output.split(), f"{command}: {output} {faults}")
     with contextlib.closing(sqlite3.connect(copy)) as books:
         rows = books.execute("SELECT tid, number, delta, outcome, balance FROM request")
         stands = {row[:2]: row[2:] for row in rows}
     for key, (reply, delta) in answered.items():
-        row = delta, int(reply[4:6]), int(reply[53:66])
-        if stands.get(key) != row:
-            raise Failed(f"teller and number {key} stands {stands.get(key)}, answered {row}")
+        same(f"what stands of teller and number {key}", stands.get(key), (delta, int(reply[4:6]), int(reply[53:66])))
     return stands.keys() - answered.keys()
 
 
@@ -241,34 +248,31 @@ def connect(tls, port):
 
 def read_answer(connection, buffered):
     """The next answer's status and body, and what was read behind it; none where the connection ends first."""
+    def more():
+        piece = connection.recv(65536)
+        return piece and buffered + piece
+
     while b"\r\n\r\n" not in buffered:
-        piece = connection.recv(65536)
-        if not piece:
+        if not (buffered := more()):
             return None
-        buffered += piece
-    head, _, rest = buffered.partition(b"\r\n\r\n")
-    length = 0
-    for line in head.split(b"\r\n")[1:]:
-        name, _, value = line.partition(b":")
-        if name.lower() == b"content-length":
-            length = int(value)
-    while len(rest) < length:
-        piece = connection.recv(65536)
-        if not piece:
+    head, _, _ = buffered.partition(b"\r\n\r\n")
+    stated = re.search(rb"\r\ncontent-length: *(\d+)", head, re.IGNORECASE)
+    start, length = len(head) + 4, int(stated[1]) if stated else 0
+    while len(buffered) < start + length:
+        if not (buffered := more()):
             return None
-        rest += piece
-    return int(head[9:12]), rest[:length], rest[length:]
+    return int(head[9:12]), buffered[start:start + length], buffered[start + length:]
 
 
 class Sender(threading.Thread):
     """Sends messages in order, each until it has its reply, on a connection that it keeps, or makes anew where that was
     closed; up to so many are on their way. It gives up when that is so, or when it is told another answer. Before each
-    it waits for up to so many seconds. It keeps when each reply came."""
+    it waits for up to so many seconds. It keeps when each reply came, and how long after its message was first sent."""
 
     def __init__(self, connect, messages, ahead=1, gives_up=lambda: False, wait=0):
         super().__init__(daemon=True)
         self.connect, self.messages, self.ahead, self.gives_up, self.wait = connect, messages, ahead, gives_up, wait
-        self.replies, self.times, self.resent, self.fault = [], [], 0, None
+        self.replies, self.times, self.waits, self.begun, self.resent, self.fault = [], [], [], {}, 0, None
         self.start()
 
     def is_done(self):
@@ -291,6 +295,7 @@ class Sender(threading.Thread):
             if self.wait:
                 time.sleep(random.uniform(0, self.wait))
             for message in self.messages[sent:len(self.replies) + self.ahead]:
+                self.begun.setdefault(sent, time.monotonic())
                 connection.sendall(message)
                 sent += 1
             answer = read_answer(connection, buffered)
@@ -299,6 +304,7 @@ class Sender(threading.Thread):
             if answer[0] != 200:
                 self.fault = f"an answer with status {answer[0]}"
                 return
-            self.replies.append(answer[1])
             self.times.append(time.monotonic())
+            self.waits.append(self.times[-1] - self.begun[len(self.replies)])
+            self.replies.append(answer[1])
             buffered = answer[2]
