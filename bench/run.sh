@@ -56,7 +56,7 @@ measure() {
         *)
             program=$work/peer
             python3 -c "import sqlite3, sys; sys.path.append('$here/tools'); import oracle
-sqlite3.connect('$folder/bench.db').executescript(oracle.SCHEMA + ';INSERT INTO meta VALUES (1, 3, 0)')"
+sqlite3.connect('$folder/bench.db').executescript(f'{oracle.SCHEMA};INSERT INTO meta VALUES (1, {oracle.VERSION}, 0)')"
             ;;
     esac
     echo "$what,$system,$("$program" "$folder/bench.db" "$@")" >>"$out"
