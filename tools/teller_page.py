@@ -16,7 +16,6 @@ import hashlib
 import http.server
 import json
 import os
-import queue
 import random
 import re
 import subprocess
@@ -26,7 +25,8 @@ import threading
 import time
 
 from browsers import ENTER, ESCAPE, TAB, BrowserFault, Chromium, installed
-from serve_client import BANK, HERE, Place, need_program, record
+from oracle import decimals
+from serve_client import HERE, Failed, Place, check_books, done, ensure, need_program, record, same, within
 
 ACCOUNTS = [1, 2, 3, 100001]
 # The least that account 3,000,001 may have is its floor; branch 31 has the tellers 301 to 310.
@@ -51,27 +51,22 @@ ACTIVE = ("(it => [it.id, it.getAttribute('aria-label') || (it.type === 'button'
           "(document.activeElement)")
 
 
-class Failed(Exception):
-    """The page or the bank isn't as it should be."""
-
-
-def same(name, got, wanted):
-    if got != wanted:
-        raise Failed(f"{name}: wanted {wanted!r}, got {got!r}")
-
-
-def typed(cents):
-    return f"{'-' if cents < 0 else ''}{abs(cents) // 100}.{abs(cents) % 100:02}"
-
-
 def money(cents):
     """As the page shows it: units by thousands, with a narrow space."""
     return f"{'-' if cents < 0 else ''}{abs(cents) // 100:,}.{abs(cents) % 100:02}".replace(",", "\u202f")
 
 
 def holds(name, text, *parts):
-    if not all(part in text for part in parts):
-        raise Failed(f"{name}: wanted {parts!r} in {text!r}")
+    ensure(all(part in text for part in parts), f"{name}: wanted {parts!r} in {text!r}")
+
+
+def cents_of(text):
+    return int(text.replace("\u202f", "").replace(".", ""))
+
+
+def element(name):
+    """An element of the page, in its own words."""
+    return f"document.getElementById('{name}')"
 
 
 def hashes():
@@ -121,6 +116,22 @@ class Page:
                 raise Failed("the page doesn't load")
             time.sleep(0.2)
 
+    def act(self, *scripts):
+        """Does something in the page, one after another, of which no value is wanted."""
+        self.browser.run(f"({', '.join(scripts)}, 0)")
+
+    def focus(self, name="account"):
+        self.act(element(name) + ".focus()")
+
+    def click(self, name):
+        self.act(element(name) + ".click()")
+
+    def search(self, text):
+        self.act(f"{element('search')}.value = {json.dumps(text)}", element("search") + ".dispatchEvent(new Event('input'))")
+
+    def kept(self):
+        return self.browser.run(KEPT)
+
     def until(self, name, script, wanted=True):
         end = time.monotonic() + WAIT
         while (got := self.browser.run(script)) != wanted:
@@ -159,14 +170,14 @@ class Page:
             self.browser.keys(TAB)
         raise Failed(f"the key Tab doesn't lead to {label}")
 
-    def fault(self, account, amount, reference, field, words):
+    def fault(self, account, amount, reference, name, words):
         """Enters what is no posting: the field gets the focus and says what is wrong. Nothing is kept."""
-        before = self.browser.run(f"{KEPT}.then(all => all.length)")
+        before = len(self.kept())
         self.enter(account, amount, reference)
-        self.until(f"the focus at {field}", f"({ACTIVE})[0]", field)
-        holds("what the field says", self.browser.run(f"document.getElementById('{field}-fault').textContent"), words)
-        same("what is kept", self.browser.run(f"{KEPT}.then(all => all.length)"), before)
-        self.browser.run("(document.getElementById('form').reset(), document.getElementById('account').focus(), 0)")
+        self.until(f"the focus at {name}", f"({ACTIVE})[0]", name)
+        holds("what the field says", self.browser.run(element(name + "-fault") + ".textContent"), words)
+        same("what is kept", len(self.kept()), before)
+        self.act(element("form") + ".reset()", element("account") + ".focus()")
 
     def kill(self):
         self.browser.kill()
@@ -210,7 +221,7 @@ def words(place, page):
     place.stop()
     with open(place.file + ".csv", "w", encoding="utf-8") as plan:
         plan.write(PLAN)
-    subprocess.run([BANK, "load", place.file, place.file + ".csv"], check=True, stdout=subprocess.DEVNULL)
+    done("load", place.file, place.file + ".csv")
     # Account 100,002 and branch 31 come to within 0.99 of the limit of balances.
     place.posts(record(100002, 301, 31, i + 1, 9999999999) for i in range(100))
     place.start()
@@ -218,8 +229,8 @@ def words(place, page):
     page.settled()
     same("after the branch is open", page.browser.run(LINES)[0][3:], ["EARLY", "Posted", "5.00"])
     page.press("Total of the till")
-    page.until("the till", "document.getElementById('done').textContent", "The till of teller 11 has 5.00.")
-    page.browser.run("(document.getElementById('sign-out').click(), 0)")
+    page.until("the till", element("done") + ".textContent", "The till of teller 11 has 5.00.")
+    page.click("sign-out")
     page.patiently(lambda: page.browser.run("document.title === 'Signed out'"))
     page.browser.open(place.address(path="/branches"))
     with open(place.folder + "/access.log", encoding="utf-8") as log:
@@ -250,7 +261,7 @@ def words(place, page):
     page.press(f"Undo: number {line[0]}")
     page.browser.keys(ESCAPE)
     page.until("the question is gone", "!document.querySelector('dialog').open")
-    page.browser.run("(document.getElementById('account').focus(), 0)")
+    page.focus()
     page.press(f"Undo: number {line[0]}")
     page.browser.keys(TAB, ENTER)
     page.listed(f"UNDO {line[0]}")
@@ -259,18 +270,18 @@ def words(place, page):
     same("the opposite", newest[1:], ["2", "12.34", f"UNDO {line[0]}", "Posted", "0.00"])
     same("what was undone", undone[4], f"Posted, and undone by {newest[0]}")
 
-    page.browser.run("(document.getElementById('account').focus(), window.print = () => { "
-                     "window.slip = document.getElementById('slip').textContent }, 0)")
+    page.focus()
+    page.act(f"window.print = () => {{ window.slip = {element('slip')}.textContent }}")
     page.press(f"Slip: number {newest[0]}")
     holds("the slip", page.browser.run("window.slip"), "Teller1", f"Number{newest[0]}", "Paid in12.34",
           "Balance then0.00")
 
-    page.browser.run("(document.getElementById('account').focus(), 0)")
+    page.focus()
     page.browser.keys("3", TAB, TAB, TAB, TAB, TAB, ENTER)
-    page.until("the balance", "document.getElementById('done').textContent", "Account 3 has 900.00.")
-    page.browser.run("(document.getElementById('ask-branches').focus(), 0)")
+    page.until("the balance", element("done") + ".textContent", "Account 3 has 900.00.")
+    page.focus("ask-branches")
     page.browser.keys(ENTER)
-    page.until("the branches", "document.getElementById('branch-rows').textContent.length > 0")
+    page.until("the branches", element("branch-rows") + ".textContent.length > 0")
     same("a branch", page.browser.run("[...document.querySelectorAll('#branch-rows tr')].map(row => "
                                       "[...row.cells].map(cell => cell.textContent))[2]"), ["31", "1", money(999999999900)])
     same("another teller's record", page.browser.run(
@@ -285,7 +296,7 @@ def words(place, page):
     # A second tab isn't the teller's, until the first is closed.
     before = page.browser.other_tab(place.address())
     page.until("a second tab", "document.getElementById('who').textContent.includes('another tab')")
-    same("its form", page.browser.run("document.getElementById('form').hidden"), True)
+    same("its form", page.browser.run(element("form") + ".hidden"), True)
     page.browser.close_tab(before)
     strangers_page(place, page)
     page.kill()
@@ -300,7 +311,7 @@ def nobody(place, page):
     same("whose sign-in it is", page.browser.run(NOTES)[3], "Signed in, but not as a teller")
     page.browser.keys("1", TAB, "5", ENTER)
     page.until("what nobody is told", f"({NOTES})[1]", "You are signed in, but not as a teller: nothing can be posted.")
-    same("what nobody keeps", page.browser.run(KEPT), [])
+    same("what nobody keeps", page.kept(), [])
     page.kill()
 
 
@@ -314,7 +325,7 @@ def two_browsers(place, page):
         for _ in range(20):
             for it in (page, other):
                 it.enter(1, "0.01", "EQUAL")
-                it.until("an empty form", "document.getElementById('account').value", "")
+                it.until("an empty form", element("account") + ".value", "")
         for it in (page, other):
             it.settled()
             same("the answers", {line[4] for line in it.browser.run(LINES)}, {"Posted"})
@@ -331,13 +342,13 @@ def two_browsers(place, page):
 def clicks(page):
     """A double click, slow or fast, posts once and shows no error; an error leaves no old success beside it."""
     for wait in (0, 50, 100, 200, 300):
-        before = page.browser.run(f"{KEPT}.then(all => all.length)")
+        before = len(page.kept())
         page.browser.keys("2", TAB, "0.01")
         page.browser.run("new Promise(resolve => { const press = () => document.getElementById('in').click(); press(); "
                          f"setTimeout(() => {{ press(); setTimeout(() => resolve(0), 300) }}, {wait}) }})")
         page.settled()
         notes = page.browser.run(NOTES)
-        same("a double click", (page.browser.run(f"{KEPT}.then(all => all.length)"), notes[1]), (before + 1, ""))
+        same("a double click", (len(page.kept()), notes[1]), (before + 1, ""))
         holds("a double click", notes[0], "Posted: 0.01 paid in to account 2.")
     page.fault("", "5", "", "account", "Enter the account")
     same("the success before an error", page.browser.run(NOTES)[0], "")
@@ -366,51 +377,48 @@ def outage(place, page):
     """When the counter is back, `Send now` doesn't wait for the next try."""
     place.counter.stop()
     page.enter(2, "0.02", "OUTAGE")
-    page.until("the button", "document.getElementById('send-now').hidden", False)
+    page.until("the button", element("send-now") + ".hidden", False)
     # By then a try comes each five seconds.
     time.sleep(8)
     place.start_counter()
-    while not listens(place.back):
-        time.sleep(0.01)
+    within(WAIT, "the counter", lambda: listens(place.back))
     pressed = time.monotonic()
-    page.browser.run("(document.getElementById('send-now').click(), 0)")
+    page.click("send-now")
     page.settled()
     if time.monotonic() - pressed > 4:
         raise Failed(f"what waits went out {time.monotonic() - pressed:.1f} s after `Send now`")
-    same("the button", page.browser.run("document.getElementById('send-now').hidden"), True)
-    page.browser.run("(document.getElementById('account').focus(), 0)")
+    same("the button", page.browser.run(element("send-now") + ".hidden"), True)
+    page.focus()
 
 
 def buttons(place, page):
     """In and Out, the question above an amount, a search, a double click, and sending a day again."""
-    click = "(document.getElementById('%s').click(), 0)"
-    page.browser.run("(document.getElementById('form').reset(), document.getElementById('account').focus(), 0)")
+    page.act(element("form") + ".reset()", element("account") + ".focus()")
     page.browser.keys("2", TAB, "3.00", TAB, "BY BUTTON")
-    page.browser.run(click % "out")
-    page.browser.run(click % "out")
+    page.click("out")
+    page.click("out")
     page.listed("BY BUTTON")
     page.settled()
     same("an amount that is paid out", page.browser.run(LINES)[0][2:5], ["-3.00", "BY BUTTON", "Posted"])
     same("a second click", page.browser.run(NOTES)[1], "")
-    page.browser.run("(document.getElementById('ask-above').value = '1000', 0)")
+    page.act(element("ask-above") + ".value = '1000'")
     page.browser.keys("2", TAB, "1234567.89", TAB, "LARGE", ENTER)
-    page.until("a question", "document.getElementById('sure').open")
-    holds("a question", page.browser.run("document.getElementById('sure-text').textContent"), money(123456789))
+    page.until("a question", element("sure") + ".open")
+    holds("a question", page.browser.run(element("sure-text") + ".textContent"), money(123456789))
     page.browser.keys(TAB, ENTER)
     page.listed("LARGE")
     page.settled()
-    page.browser.run("(document.getElementById('ask-above').value = '', document.getElementById('search').value = "
-                     "'by b', document.getElementById('search').dispatchEvent(new Event('input')), 0)")
+    page.act(element("ask-above") + ".value = ''")
+    page.search("by b")
     same("a search", [line[3] for line in page.browser.run(LINES)], ["BY BUTTON"])
-    page.browser.run("(document.getElementById('search').value = '', "
-                     "document.getElementById('search').dispatchEvent(new Event('input')), 0)")
-    before = page.browser.run(f"{KEPT}.then(all => all.map(it => it.answer))")
-    page.browser.run(click % "send-again")
+    page.search("")
+    before = [it["answer"] for it in page.kept()]
+    page.click("send-again")
     page.browser.keys(TAB, ENTER)
-    page.until("all go out again", "document.getElementById('resend').open", False)
+    page.until("all go out again", element("resend") + ".open", False)
     page.settled()
-    same("the answers when a day is sent again", page.browser.run(f"{KEPT}.then(all => all.map(it => it.answer))"), before)
-    page.browser.run("(document.getElementById('account').focus(), 0)")
+    same("the answers when a day is sent again", [it["answer"] for it in page.kept()], before)
+    page.focus()
     taken_over(place, page)
 
 
@@ -425,19 +433,16 @@ def taken_over(place, page):
     place.put_back("other")
     place.posts([record(2, 5, 1, 1, 100)])
     place.start_counter()
-    page.browser.run("(document.getElementById('account').focus(), document.getElementById('send-again').click(), 0)")
+    page.focus()
+    page.click("send-again")
     page.browser.keys(TAB, ENTER)
-    page.until("all go out again", "document.getElementById('resend').open", False)
+    page.until("all go out again", element("resend") + ".open", False)
     page.settled()
     lines = {line[3]: line for line in page.browser.run(LINES)}
     same("what the other machine has", lines["WAS THERE"], was)
     same("what it lacked", lines["LOST"][4:],
          [f"Posted. Its first answer was another: posted, balance {lost[5]}", money(cents_of(lost[5]) + 100)])
-    page.browser.run("(document.getElementById('account').focus(), 0)")
-
-
-def cents_of(text):
-    return int(text.replace("\u202f", "").replace(".", ""))
+    page.focus()
 
 
 def reused(place, page):
@@ -462,102 +467,77 @@ def listens(port):
         return any(f"0100007F:{port:04X} 00000000:0000 0A" in line for line in lines)
 
 
-class Killer(threading.Thread):
-    """Kills the counter and nginx one after another, each when it serves and some moments have gone by."""
-
-    def __init__(self, place):
-        super().__init__(daemon=True)
-        self.place, self.wanted, self.done = place, queue.Queue(), {"counter": 0, "nginx": 0}
-        self.start()
-
-    def run(self):
-        while True:
-            what, moments = self.wanted.get()
-            place = self.place
-            program, port = (place.counter, place.back) if what == "counter" else (place.nginx, place.front)
-            while not listens(port) and not program.ends:
-                time.sleep(0.01)
-            time.sleep(moments)
-            program.kill()
-            self.done[what] += 1
-            self.wanted.task_done()
+def kill_soon(place, what):
+    """Kills the counter or nginx, once it serves and some moments have gone by."""
+    program, port = (place.counter, place.back) if what == "counter" else (place.nginx, place.front)
+    within(WAIT, f"{what} that serves", lambda: listens(port))
+    timer = threading.Timer(random.uniform(0, 0.1), program.kill)
+    timer.start()
+    return timer
 
 
 def killed(place, page, count, kills):
     """Postings under kills of the counter, nginx and the browser. Gives what was entered, by reference, account and
-    cents, and how often each was killed."""
-    draw = random.Random()
-    after = [[] for _ in range(count)]
+    cents."""
+    after, timers = [[] for _ in range(count)], []
     for what, times in (("counter", kills), ("nginx", kills // 10), ("browser", 7 * kills // 100)):
         for _ in range(times):
-            after[draw.randrange(count)].append(what)
-    killer = Killer(place)
-    entered = [(f"{page.kind.name.upper()} {i}", draw.choice(ACCOUNTS), draw.choice((-1, 1)) * draw.randint(1, 99999))
+            random.choice(after).append(what)
+    entered = [(f"{page.kind.name.upper()} {i}", random.choice(ACCOUNTS), random.choice((-1, 1)) * random.randint(1, 99999))
                for i in range(count)]
-    done, end = 0, time.monotonic() + LONGEST
-    page.sign_in("teller1", "counter1")
-    while done < count:
-        if time.monotonic() > end:
-            raise Failed("the run takes too long")
+    at, end = 0, time.monotonic() + LONGEST
+    while at < count:
+        ensure(time.monotonic() < end, "the run takes too long")
         if page.browser is None:
             page.sign_in("teller1", "counter1")
-            kept = [it["reference"] for it in page.browser.run(KEPT)]
-            lost = [it[0] for it in entered[:done] if it[0] not in kept]
-            if lost:
-                raise Failed(f"the browser forgot {lost}")
+            kept = [it["reference"] for it in page.kept()]
+            lost = [it[0] for it in entered[:at] if it[0] not in kept]
+            ensure(not lost, f"the browser forgot {lost}")
             # One that was typed and not yet in the list may have come to the disk.
-            if entered[done][0] in kept:
-                done += 1
+            if entered[at][0] in kept:
+                at += 1
                 continue
-        reference, account, cents = entered[done]
-        stops = [it for it in after[done] if it != "browser"]
+        reference, account, cents = entered[at]
+        dies, stops = "browser" in after[at], [it for it in after[at] if it != "browser"]
+        after[at] = []
         if stops:
             # What was killed before has to be up again, and the page has to have caught up.
-            killer.wanted.join()
+            for timer in timers:
+                timer.join()
             page.until("a few that wait", f"{KEPT}.then(all => all.filter(it => !it.answer).length < 5)")
-        for what in stops:
-            killer.wanted.put((what, draw.uniform(0, 0.1)))
-        dies = "browser" in after[done]
-        after[done] = []
-        page.enter(account, typed(cents), reference)
-        if not dies or draw.randrange(2):
+            timers = [kill_soon(place, what) for what in stops]
+        page.enter(account, decimals(cents), reference)
+        if not dies or random.randrange(2):
             page.listed(reference)
-            done += 1
+            at += 1
         if dies:
             page.kill()
     if page.browser is None:
         page.sign_in("teller1", "counter1")
-    killer.wanted.join()
+    for timer in timers:
+        timer.join()
     page.settled()
-    return entered, killer.done
+    return entered
 
 
 def check(place, page, entered):
     """The bank has each posting once, as the page shows it, and its books agree."""
-    kept = page.browser.run(KEPT)
+    kept = page.kept()
     page.kill()
     place.stop()
     shown = {it["reference"]: it for it in kept if it["reference"]}
-    base = place.copied()
-    rows = base.execute("SELECT reference, tid, number, history.aid, history.delta, request.outcome, request.balance "
-                        "FROM request JOIN request_reference USING (ordinal) JOIN history USING (ordinal, tid)")
-    rows = rows.fetchall()
-    for reference, account, cents in entered:
+    with contextlib.closing(place.copied()) as base:
+        rows = base.execute("SELECT reference, number, request.aid FROM request JOIN request_reference USING (ordinal) "
+                            "JOIN history USING (ordinal, tid)").fetchall()
+    for reference, account, _ in entered:
         same("the row in the bank", [row[1:] for row in rows if row[0].strip() == reference],
-             [(1, shown[reference]["number"], account, cents, 0, int(shown[reference]["answer"][53:66]))])
-    sums = [base.execute(text).fetchone()[0] for text in (
-        "SELECT sum(delta) FROM history", "SELECT sum(balance) FROM account", "SELECT sum(balance) FROM teller",
-        "SELECT sum(balance) FROM branch", "SELECT sum(delta) FROM request WHERE outcome = 0")]
-    base.close()
-    same("the sums", sums, [sums[0]] * 5)
+             [(shown[reference]["number"], account)])
+    check_books(place.folder + "/copy.db", {(1, shown[reference]["number"]): (shown[reference]["answer"].encode(), cents)
+                                            for reference, _, cents in entered})
     # Every record that the page kept, sent once more, gets the answer that the page shows, but for what isn't kept.
     sent = [it for it in kept if it["answer"][4:6] not in ("11", "15", "16", "90")]
     again = place.posts(it["record"].encode() for it in sent).decode()
     same("the replies", again, "".join(it["answer"] for it in sent))
-    audit = subprocess.run([BANK, "audit", place.file], stdout=subprocess.PIPE, check=False).stdout.decode()
-    same("the audit", audit.splitlines()[-1], "CONSISTENT")
-    if "replay" in subprocess.run([BANK, "help"], stdout=subprocess.PIPE, check=False).stdout.decode():
-        subprocess.run([BANK, "replay", place.file], stdout=subprocess.DEVNULL, check=True)
 
 
 @contextlib.contextmanager
@@ -582,10 +562,9 @@ def run(kind, count, kills):
         nobody(place, page)
         two_browsers(place, page)
         words(place, page)
-        entered, stops = killed(place, page, count, kills)
-        check(place, page, entered)
-    print(f"teller_page: {kind.name}: {count} postings, {stops['counter']} kills of the counter, {stops['nginx']} of "
-          f"nginx and {7 * kills // 100} of the browser: each is posted once, and the books agree "
+        check(place, page, killed(place, page, count, kills))
+    print(f"teller_page: {kind.name}: {count} postings, {kills} kills of the counter, {kills // 10} of nginx and "
+          f"{7 * kills // 100} of the browser: each is posted once, and the books agree "
           f"({time.monotonic() - start:.0f} s)", flush=True)
 
 
@@ -602,7 +581,7 @@ def pictures():
         page.settled()
         place.counter.stop()
         page.enter(1, "-120.00", "CASH")
-        page.until("the notice", "document.getElementById('waiting').textContent.length > 0")
+        page.until("the notice", element("waiting") + ".textContent.length > 0")
         page.browser.keys("2", TAB, "45.50")
         for name, width, height in (("teller", 1120, 900), ("teller_narrow", 380, 820)):
             page.browser.size(width, height)
