@@ -22,6 +22,7 @@ import tempfile
 
 import oracle
 import serve_client
+from serve_client import Failed, ensure, same
 
 MORE = [[], ["branch"], ["reference"], ["branch", "reference"]]
 HEADERS = [["account", "teller", "number", money] + more for money in ("delta", "amount") for more in MORE]
@@ -41,20 +42,16 @@ WRONG = {
 
 def run(words, data, status):
     output, faults, ended = serve_client.run(*words, data=data)
-    if ended != status:
-        sys.exit(f"bank {' '.join(words)}: status {ended}, not {status}: {faults!r}")
+    same(f"bank {' '.join(words)}: {faults!r}", ended, status)
     return output, faults
 
 
-def cents_of(row):
-    return int(row["delta"]) if "delta" in row else round(decimal.Decimal(row["amount"]) * 100)
-
-
 def spelled(row):
-    teller = int(row["teller"])
+    """The record of a row."""
+    teller, reference = int(row["teller"]), row.get("reference") or None
     branch = int(row.get("branch") or oracle.branch_of_teller(teller))
-    reference = row.get("reference") or None
-    return oracle.record(int(row["account"]), teller, branch, int(row["number"]), cents_of(row), reference)
+    cents = int(row["delta"]) if "delta" in row else round(decimal.Decimal(row["amount"]) * 100)
+    return oracle.record(int(row["account"]), teller, branch, int(row["number"]), cents, reference)
 
 
 def drawn(draw, count, header):
@@ -90,8 +87,8 @@ def decoded(replies, more, postings, status=0):
     told = b""
     for words in (False, True):
         text, told = run(["decode", *(["--words"] if words else []), *more], b"".join(replies), status)
-        if text.decode() != "\n".join([*oracle.sheet(oracle.decoded(replies, words, postings)), ""]):
-            sys.exit("a sheet of replies differs")
+        wanted = "\n".join([*oracle.sheet(oracle.decoded(replies, words, postings)), ""])
+        ensure(text.decode() == wanted, "a sheet of replies differs")
     return told
 
 
@@ -99,14 +96,12 @@ def beside(draw, path, rows, replies):
     """The replies, of which one is too many, beside the sheet in a file."""
     decoded(replies[:len(rows)], ["--sheet", path], rows)
     decoded(replies[:draw.randint(0, 9)], ["--sheet", path], rows)
-    told = decoded(replies, ["--sheet", path], rows, 4)
-    if told != b"bank: more replies than rows\n":
-        sys.exit(f"one reply too many: {told!r}")
+    same("one reply too many", decoded(replies, ["--sheet", path], rows, 4), b"bank: more replies than rows\n")
     at = draw.randrange(len(rows) - 1)
     if oracle.shown(replies[at])[2:7] != oracle.shown(replies[at + 1])[2:7]:
         text, told = run(["decode", "--sheet", path], b"".join(replies[:at] + [replies[at + 1], replies[at]]), 4)
-        if told != b"bank: row %d is another posting\n" % (at + 1) or text.count(b"\n") != at + 1:
-            sys.exit(f"two replies in each other's places: {told!r}")
+        wanted = (b"bank: row %d is another posting\n" % (at + 1), at + 1)
+        same("two replies in each other's places", (told, text.count(b"\n")), wanted)
 
 
 def rounds(draw, count, folder):
@@ -119,12 +114,10 @@ def rounds(draw, count, folder):
         quoting = csv.QUOTE_ALL if i % 8 >= 4 else csv.QUOTE_MINIMAL
         text = sheet(header, rows, i % 3 == 0, "\r\n" if i % 2 else "\n", quoting)
         records, _ = run(["encode"], text, 0)
-        if records != b"".join(spelled(row) for row in rows):
-            sys.exit(f"the records of sheet {i} differ")
+        ensure(records == b"".join(map(spelled, rows)), f"the records of sheet {i} differ")
         replies, _ = run(["post", bank], records + b"?" * 100, 0)
         replies = [replies[at:at + 200] for at in range(0, len(replies), 200)]
-        if len(replies) != len(rows) + 1:
-            sys.exit(f"the replies to sheet {i} aren't so many")
+        same(f"how many replies to sheet {i}", len(replies), len(rows) + 1)
         decoded(replies, [], None)
         path = os.path.join(folder, "postings.csv")
         with open(path, "wb") as file:
@@ -133,8 +126,7 @@ def rounds(draw, count, folder):
         faults += names_each_fault(draw, header, rows[:50], path, replies)
         at = draw.randint(1, 199)
         text, told = run(["decode"], replies[0] + replies[1][:at], 4)
-        if told != b"bank: truncated %d bytes\n" % at or text.count(b"\n") != 2:
-            sys.exit(f"a reply cut at {at}: {told!r}")
+        same(f"a reply cut at {at}", (told, text.count(b"\n")), (b"bank: truncated %d bytes\n" % at, 2))
     run(["audit", bank], b"", 0)
     return faults
 
@@ -174,10 +166,8 @@ def names_each_fault(draw, header, rows, path, replies):
 def is_told(text, fault, rows):
     """A sheet with this fault: the records of these rows, which are before it, are written."""
     records, told = run(["encode"], text, 4)
-    if told.decode() != f"bank: postings {fault}\n":
-        sys.exit(f"{fault}: {told!r}")
-    if records != b"".join(spelled(row) for row in rows):
-        sys.exit(f"{fault}: the records before it differ")
+    same(fault, told.decode(), f"bank: postings {fault}\n")
+    ensure(records == b"".join(map(spelled, rows)), f"{fault}: the records before it differ")
 
 
 def is_told_beside(path, text, fault, rows, replies):
@@ -185,18 +175,19 @@ def is_told_beside(path, text, fault, rows, replies):
     with open(path, "wb") as file:
         file.write(text)
     lines, told = run(["decode", "--sheet", path], b"".join(replies), 4)
-    if told.decode() != f"bank: postings {fault}\n":
-        sys.exit(f"{fault} beside replies: {told!r}")
+    same(f"{fault} beside replies", told.decode(), f"bank: postings {fault}\n")
     wanted = [] if rows is None else oracle.sheet(oracle.decoded(replies[:len(rows)], False, rows))
-    if lines.decode().splitlines() != wanted:
-        sys.exit(f"{fault}: the lines before it differ")
+    ensure(lines.decode().splitlines() == wanted, f"{fault}: the lines before it differ")
 
 
 def main():
     count = int(sys.argv[1]) if len(sys.argv) > 1 else 100_000
     serve_client.need_program()
     with tempfile.TemporaryDirectory() as folder:
-        faults = rounds(random.Random(56), count, folder)
+        try:
+            faults = rounds(random.Random(56), count, folder)
+        except Failed as why:
+            sys.exit(f"sheet_rounds: {why}")
     print(f"sheet_rounds: {count} postings there and back; {faults} sheets with a fault, each by its row and column")
 
 
