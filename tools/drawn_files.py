@@ -21,7 +21,7 @@ import tempfile
 
 import oracle
 from oracle import DAY
-from serve_client import done, need_program, run
+from serve_client import done, need_program, open_branches, run
 
 # Changes by hand: a statement for keys and amounts that are drawn.
 CHANGES = [
@@ -63,14 +63,8 @@ def fail(file, what):
 
 
 def draw_plan(draw):
-    return {bid: (draw.randint(1, 5), draw.choice([None, None, 0, -draw.randint(1, 2000)]))
+    return {bid: (draw.randint(1, 5), draw.choice(["", "", 0, -draw.randint(1, 2000)]))
             for bid in draw.sample([1, 2, 3, 50, 9999], draw.randint(1, 4))}
-
-
-def write_plan(path, plan):
-    with open(path, "w", encoding="ascii") as out:
-        out.write("branch,accounts,floor\n")
-        out.writelines(f"{bid},{count},{'' if floor is None else floor}\n" for bid, (count, floor) in plan.items())
 
 
 def draw_record(draw, plan, sent):
@@ -87,7 +81,7 @@ def draw_record(draw, plan, sent):
     return oracle.record(aid, tid, named, draw.randint(1, 400), delta, reference)
 
 
-def make(work, file, draw, seed):
+def make(file, draw, seed):
     """A bank whose branches are opened in two parts, with records before and between."""
     plan = draw_plan(draw)
     first = dict(list(plan.items())[: draw.randint(0, len(plan))])
@@ -95,8 +89,7 @@ def make(work, file, draw, seed):
     by_sql(file, "CREATE TABLE note (id INTEGER PRIMARY KEY, title TEXT); INSERT INTO note VALUES (1, 'a user''s')")
     sent = []
     for part in (first, plan):
-        write_plan(os.path.join(work, "plan.csv"), part)
-        done("load", file, os.path.join(work, "plan.csv"))
+        open_branches(file, [(bid, *terms) for bid, terms in part.items()])
         records = [draw_record(draw, plan, sent) for _ in range(draw.choice([0, 1, 20, 64, 65, 200]))]
         sent += records
         done("post", file, data=b"".join(records))
@@ -199,7 +192,7 @@ def main():
         for seed in range(first, first + files):
             draw = random.Random(seed)
             file = os.path.join(work, f"{seed}.db")
-            make(work, file, draw, seed)
+            make(file, draw, seed)
             if seed % 3 == 2:
                 migrated(file)
             is_sound(file)

@@ -6,11 +6,16 @@ random moment, and is then checked: each answered posting stands once, with its 
     tools/failover.py follower [ROUNDS]    with another machine that follows, as by examples/standby.sh:
                                            failover_follower.py
 
-100 rounds, if none are said. It is bounded in count and time, and stands outside the gate."""
+100 rounds, if none are said. KEEP in the environment keeps the folder. It is bounded in count and time, and stands outside
+the gate."""
 import importlib
+import os
+import shutil
+import signal
 import sys
+import tempfile
 
-from serve_client import need_program
+from serve_client import Failed, need_program
 
 
 def main():
@@ -18,7 +23,21 @@ def main():
     if kind not in ("volume", "follower"):
         sys.exit(__doc__)
     need_program()
-    importlib.import_module("failover_" + kind).drill(int(count))
+    signal.signal(signal.SIGTERM, lambda *_: sys.exit("failover: stopped"))
+    folder, rounds = tempfile.mkdtemp(prefix="failover-"), []
+    drill = importlib.import_module("failover_" + kind).Drill(folder)
+    try:
+        drill.begin()
+        for number in range(1, int(count) + 1):
+            rounds.append(drill.round(number))
+    except Failed as why:
+        sys.exit(f"failover: round {len(rounds) + 1}: {why}\n{drill.told()}")
+    finally:
+        if rounds:
+            drill.tell(rounds)
+        drill.end()
+        if "KEEP" not in os.environ:
+            shutil.rmtree(folder, ignore_errors=True)
 
 
 main()

@@ -16,11 +16,10 @@ import shutil
 import signal
 import statistics
 import subprocess
-import tempfile
 import time
 
-from serve_client import (BANK, FROM_PAGE, HERE, Failed, Place, Sender, check_books, clear, connect, done, make_bank, post,
-                          record, run, signed_in, tls_of, with_fields, within)
+from serve_client import (BANK, FROM_PAGE, HERE, Failed, Place, Sender, check_books, clear, connect, done, make_bank,
+                          open_branches, post, record, run, signed_in, tls_of, with_fields, within)
 
 # Eight tellers are of the first branch, and eight of the one that is opened late.
 PLAN, LATE = [(1, 3)], 2
@@ -80,17 +79,28 @@ class Standby:
 
 class Drill:
     def __init__(self, folder):
-        self.folder, self.is_lost = folder, False
+        self.folder, self.is_lost, self.standby, self.log = folder, False, None, open(folder + "/told", "w+")
         for name in ("leader", "follower", "lost"):
             os.mkdir(f"{folder}/{name}")
         os.chmod(folder, 0o755)
         self.leader, self.follower = Place(folder + "/leader"), Place(folder + "/follower")
-        for name in FILES:
-            shutil.copy(f"{self.leader.folder}/{name}", self.follower.folder)
-        self.told = open(folder + "/told", "w+")
-        self.standby = None
 
     def begin(self):
+        for name in FILES:
+            shutil.copy(f"{self.leader.folder}/{name}", self.follower.folder)
+
+    def told(self):
+        """What the follower said at last."""
+        with open(self.folder + "/told") as log:
+            return log.read()[-2000:]
+
+    def tell(self, lags):
+        for name, part in (("requests", 0), ("seconds", 1)):
+            all_of = [lag[part] for lag in lags]
+            print(f"lag in {name}: {statistics.median(all_of):.2f} in the median, {max(all_of):.2f} at most")
+        print(f"failover: {len(lags)} leaders lost, and each request stands once, with one reply")
+
+    def anew(self):
         """A new bank that is served, and one that follows it."""
         self.is_lost = False
         for name in os.listdir(self.folder + "/lost"):
@@ -101,7 +111,7 @@ class Drill:
                 os.remove(self.follower.file + end)
         make_bank(self.leader.file, PLAN)
         self.leader.start()
-        self.standby = Standby(self.leader, self.follower.file, self.told)
+        self.standby = Standby(self.leader, self.follower.file, self.log)
         within(LONGEST, "a follower", lambda: os.path.exists(self.follower.file + ".followed"))
 
     def end(self):
@@ -113,9 +123,7 @@ class Drill:
     def load_late(self):
         """A branch with a floor is opened while the counter is stopped, as it has to be."""
         self.leader.counter.stop()
-        with open(self.leader.file + ".csv", "w") as plan:
-            plan.write(f"branch,accounts,floor\n{LATE},5,-2000\n")
-        done("load", self.leader.file, self.leader.file + ".csv")
+        open_branches(self.leader.file, [(LATE, 5, -2000)])
         self.leader.start_counter()
 
     def disturb(self):
@@ -160,7 +168,7 @@ class Drill:
         return count
 
     def round(self, number):
-        self.begin()
+        self.anew()
         wait = random.choice((0, 0.02, 0.2))
         early, late = ([Teller(it, self.leader.folder, wait) for it in part] for part in TELLERS)
         first = {it: it.posts(self.leader, lambda: self.is_lost) for it in early}
@@ -226,21 +234,3 @@ class Drill:
 
 def entries(log):
     return [log[at:at + 308] for at in range(0, len(log), 308)]
-
-
-def drill(count):
-    with tempfile.TemporaryDirectory(prefix="failover-", ignore_cleanup_errors=True) as folder:
-        it, lags = Drill(folder), []
-        try:
-            for number in range(1, count + 1):
-                lags.append(it.round(number))
-        except Failed as why:
-            with open(folder + "/told") as told:
-                raise SystemExit(f"failover: round {len(lags) + 1}: {why}\n{told.read()[-2000:]}") from why
-        finally:
-            it.end()
-            for name, part in (("requests", 0), ("seconds", 1)):
-                if lags:
-                    all_of = [lag[part] for lag in lags]
-                    print(f"lag in {name}: {statistics.median(all_of):.2f} in the median, {max(all_of):.2f} at most")
-    print(f"failover: {len(lags)} leaders lost, and each request stands once, with one reply")

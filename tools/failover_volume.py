@@ -22,12 +22,9 @@ import os
 import random
 import re
 import shutil
-import signal
 import socket
 import statistics
 import subprocess
-import sys
-import tempfile
 import threading
 import time
 
@@ -197,8 +194,9 @@ class Probe(threading.Thread):
 class Drill:
     def __init__(self, folder):
         self.folder, self.is_open, self.acks, self.probed, self.asked, self.tellers = folder, False, [], {}, 0, []
+        os.mkdir(folder + "/replica")
         self.hosts = [Host(number, folder) for number in (1, 2, 3)]
-        self.front, self.kind, self.refusals = self.hosts[0], "the start", []
+        self.front, self.kind, self.kinds, self.refusals = self.hosts[0], "the start", [], []
 
     def begin(self):
         run("ip", "netns", "add", "bank0")
@@ -334,23 +332,25 @@ class Drill:
         taken = self.answered_since(back)
         return taken
 
-    def round(self, number, kind):
+    def round(self, number):
+        """One failure; each kind comes before one comes again."""
         numbers = [it.number + 1 for it in self.tellers]
-        self.kind, self.is_open = kind, True
+        self.kinds = self.kinds or random.sample(KINDS, len(KINDS))
+        self.kind, self.is_open = self.kinds.pop(), True
         within(90, "answers", lambda: all(it.number > past for it, past in zip(self.tellers, numbers)))
         time.sleep(random.uniform(0.3, 2))
         front, count = self.front, len(self.acks)
         for it in self.tellers:
             it.longest = 0
-        taken, host = getattr(self, kind)(front, time.monotonic())
+        taken, host = getattr(self, self.kind)(front, time.monotonic())
         time.sleep(random.uniform(0.3, 1))
         self.pause()
         longest, shared = max(it.longest for it in self.tellers[:-1]), self.tellers[-1].longest
         answered = f"host {front.number}: answered by host {host.number} after {taken:.1f} s"
-        print(f"{number:3} {kind:5} {answered}; the longest wait {longest:.1f} s, at the shared address {shared:.1f} s; "
+        print(f"{number:3} {self.kind:5} {answered}; the longest wait {longest:.1f} s, at the shared address {shared:.1f} s; "
               f"{len(self.acks) - count} postings", flush=True)
         self.check()
-        return kind, longest, shared
+        return self.kind, longest, shared
 
     def pause(self):
         """Waits until each teller has an answer and sends nothing more."""
@@ -373,10 +373,19 @@ class Drill:
             raise Failed(f"{more} stand, and nobody has an answer")
         self.hold(False)
 
-    def waiting(self):
+    def told(self):
         """Who has waited for how many seconds, and where they ask."""
         waits = {it.teller: round(time.monotonic() - it.sent) for it in self.tellers if not it.is_idle}
-        return f"seconds of each teller who waits, at host {self.front.number}: {waits}"
+        return f"{self.kind}; seconds of each teller who waits, at host {self.front.number}: {waits}"
+
+    def tell(self, rounds):
+        for kind in sorted({it[0] for it in rounds}):
+            waits, shared = ([it[part] for it in rounds if it[0] == kind] for part in (1, 2))
+            print(f"{kind}: {len(waits)} rounds, the longest wait {statistics.median(waits):.1f} s in the median, "
+                  f"{max(waits):.1f} at most; at the shared address {statistics.median(shared):.1f} and {max(shared):.1f}")
+        refused = sum(it > 0 for it in self.refusals)
+        print(f"of {len(self.refusals)} counters that were cut off and asked on, {refused} answered 503 before they ended")
+        print(f"failover: {len(rounds)} rounds in which each of {len(self.acks)} answered postings stands once")
 
     def is_healed(self):
         told = self.hosts[0].call("gluster volume heal bank >/dev/null; gluster volume heal bank info").stdout
@@ -391,32 +400,3 @@ class Drill:
                 host.lose()
         for number in range(5):
             subprocess.run(["ip", "netns", "del", f"bank{number}"], stderr=subprocess.DEVNULL)
-
-
-def tell(rounds, drill):
-    for kind in sorted({it[0] for it in rounds}):
-        waits, shared = ([it[part] for it in rounds if it[0] == kind] for part in (1, 2))
-        print(f"{kind}: {len(waits)} rounds, the longest wait {statistics.median(waits):.1f} s in the median, "
-              f"{max(waits):.1f} at most; at the shared address {statistics.median(shared):.1f} and {max(shared):.1f}")
-    refused = sum(it > 0 for it in drill.refusals)
-    print(f"of {len(drill.refusals)} counters that were cut off and asked on, {refused} answered 503 before they ended")
-    print(f"failover: {len(rounds)} rounds in which each of {len(drill.acks)} answered postings stands once")
-
-
-def drill(count):
-    signal.signal(signal.SIGTERM, lambda *_: sys.exit("failover: stopped"))
-    folder, rounds = tempfile.mkdtemp(prefix="failover-"), []
-    os.mkdir(folder + "/replica")
-    drill = Drill(folder)
-    kinds = [it for _ in range(count) for it in random.sample(KINDS, len(KINDS))]
-    try:
-        drill.begin()
-        for number, kind in enumerate(kinds[:count], 1):
-            rounds.append(drill.round(number, kind))
-    except Failed as why:
-        sys.exit(f"failover: round {len(rounds) + 1}, {drill.kind}: {why}; {drill.waiting()}")
-    finally:
-        tell(rounds, drill)
-        drill.end()
-        if "KEEP" not in os.environ:
-            shutil.rmtree(folder, ignore_errors=True)

@@ -294,12 +294,8 @@ def serves(bench):
     ensure(all(told[given[at:at + 100]] == again[2 * at:2 * at + 200] for at in range(0, len(given), 100)),
            "a resend gets another reply")
     ensure(run("audit", file)[0].endswith(b"\nCONSISTENT\n") and run("replay", file)[2] == 0, "the books differ")
-    ensure(count_of(file) == RECORDS, "not each is posted once")
+    ensure(int(run("replay", file)[0].split()[1]) == RECORDS, "not each is posted once")
     bench.note(0, b"each is posted once, with its first reply")
-
-
-def count_of(file):
-    return int(run("replay", file)[0].split()[1])
 
 
 def inits(bench):

@@ -7,7 +7,6 @@ It needs the built program, and stands outside the gate.
 """
 import random
 import re
-import socket
 import sys
 import tempfile
 
@@ -181,17 +180,6 @@ def timeless(text):
     return re.sub(rb"(DC0[12].{96}DR0100.{194}).{8}", rb"\1" + bytes(8), text, flags=re.DOTALL)
 
 
-def answered(port, text):
-    """What comes back on a connection until it ends."""
-    out = b""
-    with socket.create_connection(("127.0.0.1", port), timeout=60) as connection:
-        connection.sendall(text)
-        connection.shutdown(socket.SHUT_WR)
-        while piece := connection.recv(65536):
-            out += piece
-    return out
-
-
 def main():
     need_program()
     count = int(sys.argv[1]) if len(sys.argv) > 1 else 100_000
@@ -206,7 +194,7 @@ def main():
             # Of eight inputs in a row some post the same again, or other requests under a number that is used.
             draw.first = place // 8
             text = an_input(draw)
-            got, wanted = answered(server.port, text), walk(book, text)
+            got, wanted = server.exchange(text), walk(book, text)
             if timeless(got) != timeless(wanted):
                 sys.exit(f"http_model: input {place}, {text!r}: {got!r}, not {wanted!r}")
         status = server.end()

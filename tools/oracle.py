@@ -541,7 +541,7 @@ def routed(book, method, target, body):
         rows = sorted(book.rows["branch"].items())
         return 200, TEXT, b"".join(b"%6d %7d %14d\n" % (bid, *row) for bid, row in rows), b""
     if path == b"/plan":
-        return 200, b"text/csv", plan_of(book), b""
+        return 200, b"text/csv", plan_text(book.rows).encode(), b""
     if path == b"/metrics":
         return 200, b"text/plain; version=0.0.4", metrics_of(book), b""
     if log:
@@ -571,13 +571,6 @@ def metrics_of(book):
     metric("bank_connections", "gauge", "Clients that are connected.", [("", 1)])
     metric("bank_uptime_seconds", "gauge", "Seconds since the counter began to serve.", [("", 0)])
     return "".join(line + "\n" for line in lines).encode()
-
-
-def plan_of(book):
-    """The open branches as a plan."""
-    floors = book.rows["branch_floor"]
-    lines = (f"{bid},{row[0]},{floors[bid][0] if bid in floors else ''}\n" for bid, row in sorted(book.rows["branch"].items()))
-    return b"branch,accounts,floor\n" + "".join(lines).encode()
 
 
 def is_utf8(text):

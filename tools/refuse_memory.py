@@ -14,7 +14,6 @@ It needs the built program and a C compiler, and stands outside the gate. TMPDIR
 best in memory.
     tools/refuse_memory.py [CASE..]"""
 import os
-import socket
 import sqlite3
 import subprocess
 import sys
@@ -193,20 +192,6 @@ def try_at(folder, case, own, place, at):
     return refused
 
 
-def connect(port, given):
-    """What is answered to these bytes on a connection of its own."""
-    answered = b""
-    try:
-        with socket.create_connection(("127.0.0.1", port), timeout=20) as connection:
-            connection.sendall(given)
-            connection.shutdown(socket.SHUT_WR)
-            while piece := connection.recv(65536):
-                answered += piece
-    except OSError:
-        pass
-    return answered
-
-
 def serve_at(folder, case, own, place, at):
     """The same of two messages, which three connections of one server send one after another, and then those of a server
     that is refused nothing. Behind a connection that was refused memory the next is answered by the same bank."""
@@ -218,7 +203,7 @@ def serve_at(folder, case, own, place, at):
     cut = 0
     for _ in range(3 if server.port else 0):
         before = server.process.poll()
-        answered = connect(server.port, given)
+        answered = server.exchange(given)
         if before is None and answered != answers:
             cut += 1
             part = answered[:-len(UNAVAILABLE)] if answered.endswith(UNAVAILABLE) else answered
@@ -240,7 +225,7 @@ def serve_at(folder, case, own, place, at):
             return refused
     server = Server(file, 1)
     folder.runs += 1
-    answered = connect(server.port, given)
+    answered = server.exchange(given)
     ensure((server.end(), answered) == (0, answers), f"again {answered!r}")
     ensure(folder.tables(file) == wanted, "other tables")
     return refused

@@ -78,13 +78,19 @@ def copy_bank(file, copy):
             shutil.copy(file + end, copy + end)
 
 
-def make_bank(file, plan):
-    """A new bank in the file, with the branches of a plan: (branch, accounts) one after another."""
-    clear(file)
+def open_branches(file, plan):
+    """Opens the branches of a plan: (branch, accounts), with a floor behind them or without one."""
     with open(file + ".csv", "w") as csv:
-        csv.write("branch,accounts\n" + "".join(f"{branch},{accounts}\n" for branch, accounts in plan))
-    done("init", file)
+        csv.write("branch,accounts,floor\n")
+        csv.writelines(",".join(map(str, (*row, "")[:3])) + "\n" for row in plan)
     done("load", file, file + ".csv")
+
+
+def make_bank(file, plan):
+    """A new bank in the file, with the branches of a plan."""
+    clear(file)
+    done("init", file)
+    open_branches(file, plan)
 
 
 def run(*words, data=b""):
@@ -118,6 +124,16 @@ class Server:
         connection = socket.create_connection(("127.0.0.1", self.port), timeout=20)
         connection.setsockopt(socket.IPPROTO_TCP, socket.TCP_NODELAY, 1)
         return connection
+
+    def exchange(self, given):
+        """What comes back to these bytes on a connection of their own, until it ends."""
+        answered = b""
+        with contextlib.suppress(OSError), self.connect() as connection:
+            connection.sendall(given)
+            connection.shutdown(socket.SHUT_WR)
+            while piece := connection.recv(65536):
+                answered += piece
+        return answered
 
     def kill(self):
         self.process.kill()

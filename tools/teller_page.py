@@ -26,11 +26,11 @@ import time
 
 from browsers import ENTER, ESCAPE, TAB, BrowserFault, Chromium, installed
 from oracle import decimals
-from serve_client import HERE, Failed, Place, check_books, done, ensure, need_program, record, same, within
+from serve_client import HERE, Failed, Place, check_books, ensure, need_program, open_branches, record, same, within
 
 ACCOUNTS = [1, 2, 3, 100001]
 # The least that account 3,000,001 may have is its floor; branch 31 has the tellers 301 to 310.
-PLAN = "branch,accounts,floor\n1,3,\n2,2,\n31,1,-500\n"
+PLAN = [(1, 3), (2, 2), (31, 1, -500)]
 # No wait in a page takes longer than this, and no run, in seconds.
 WAIT, LONGEST = 120, 1800
 
@@ -219,9 +219,7 @@ def words(place, page):
     holds("before the branch is open", line[4], "Not posted: teller 11 isn't open")
     same("what a screen reader meets without a name", page.browser.unnamed(), [])
     place.stop()
-    with open(place.file + ".csv", "w", encoding="utf-8") as plan:
-        plan.write(PLAN)
-    done("load", place.file, place.file + ".csv")
+    open_branches(place.file, PLAN)
     # Account 100,002 and branch 31 come to within 0.99 of the limit of balances.
     place.posts(record(100002, 301, 31, i + 1, 9999999999) for i in range(100))
     place.start()
