@@ -25,8 +25,8 @@ import tempfile
 import threading
 import time
 
-from refuse_memory import Folder
-from serve_client import BANK, Failed, Sender, Server, clear, ensure, make_bank, need_program, post, record, run
+from serve_client import (BANK, Failed, Sender, Server, clear, ensure, make_bank, need_program, post, record, rows_of,
+                          run)
 
 LIVES, RECORDS, TELLERS = (int(os.environ.get(name, usual)) for name, usual in
                            (("LIVES", 100), ("RECORDS", 20_000), ("TELLERS", 16)))
@@ -45,7 +45,7 @@ def records(count):
             for i in range(count)]
 
 
-class Bench(Folder):
+class Bench:
     """A folder of banks, the records that they get, and what came of them where nothing disturbed."""
 
     def __init__(self, path, count):
@@ -53,7 +53,7 @@ class Bench(Folder):
         self.given = b"".join(records(count))
         make_bank(path + "/whole.db", PLAN)
         self.whole = self.plain(["post", path + "/whole.db"], self.given)[1]
-        self.rows = self.tables(path + "/whole.db")
+        self.rows = rows_of(path + "/whole.db")
 
     def plain(self, words, given=b"", limit=None, user=None, is_told=False):
         """A run, under a limit of bytes to a file or as another user. A write beyond the limit is refused if that is told,
@@ -95,7 +95,7 @@ class Bench(Folder):
         ensure(self.plain(["post", file], self.given) == (0, self.whole, b""), "other replies when it is mended")
         status, output, fault = self.plain(["audit", file])
         ensure((status, fault) == (0, b"") and output.endswith(b"\nCONSISTENT\n"), f"an audit {output!r}")
-        ensure(self.tables(file) == self.rows, "other tables")
+        ensure(rows_of(file) == self.rows, "other tables")
 
 
 DONE = (0, b"")

@@ -28,15 +28,10 @@ TICKS = os.sysconf("SC_CLK_TCK")
 PAGE = os.sysconf("SC_PAGE_SIZE")
 
 
-def read(path):
-    with open(path, "rb") as file:
-        return file.read()
-
-
 def work_of(pid):
     """What a process checks: the crate, and which part of the gate it is. None for any other process."""
-    words = read(f"/proc/{pid}/cmdline").split(b"\0")
-    if len(words) < 2 or not words[0].endswith(b"/rattle") or b"--crate-name" not in words:
+    words = Path(f"/proc/{pid}/cmdline").read_bytes().split(b"\0")
+    if not words[0].endswith(b"/rattle") or b"--crate-name" not in words:
         return None
     crate = words[words.index(b"--crate-name") + 1].decode()
     if os.path.basename(os.readlink(f"/proc/{pid}/cwd")).startswith("rt-edit-"):
@@ -44,19 +39,17 @@ def work_of(pid):
     return crate, "tests" if b"--test" in words else "proof"
 
 
+def stat_of(pid):
+    """The parent of a process, its processor seconds, and its memory in bytes."""
+    fields = Path(f"/proc/{pid}/stat").read_bytes().rpartition(b")")[2].split()
+    return int(fields[1]), (int(fields[11]) + int(fields[12])) / TICKS, int(fields[21]) * PAGE
+
+
 def is_under(pid, top):
     """Whether a process is this one, or was begun by it or by what it began: other checks on the machine don't count."""
-    while pid > 1:
-        if pid == top:
-            return True
-        pid = int(read(f"/proc/{pid}/stat").rpartition(b")")[2].split()[1])
-    return False
-
-
-def spent_by(pid):
-    """The processor seconds of a process, and its memory in bytes."""
-    fields = read(f"/proc/{pid}/stat").rpartition(b")")[2].split()
-    return (int(fields[11]) + int(fields[12])) / TICKS, int(fields[21]) * PAGE
+    while pid > 1 and pid != top:
+        pid = stat_of(pid)[0]
+    return pid == top
 
 
 def sample(spent, gate):
@@ -66,8 +59,7 @@ def sample(spent, gate):
         try:
             work = work_of(pid)
             if work and is_under(int(pid), gate):
-                seconds, memory = spent_by(pid)
-                spent[pid, *work] = seconds
+                _, spent[pid, *work], memory = stat_of(pid)
                 held += memory
         except (OSError, IndexError, ValueError):
             pass
@@ -89,11 +81,6 @@ def table(spent):
     return lines, sum(rows[-1][1:4])
 
 
-def tree():
-    words = ["git", "-C", str(TOP), "describe", "--always", "--dirty"]
-    return subprocess.run(words, stdout=subprocess.PIPE, text=True, check=True).stdout.strip()
-
-
 def main():
     log = sys.argv[1]
     spent, peak, began = {}, 0, time.monotonic()
@@ -108,9 +95,10 @@ def main():
     with open(log, encoding="utf-8", errors="replace") as out:
         last = re.findall(r"^\d+ passed, \d+ failed$", out.read(), re.M)
     lines, seconds = table(spent)
+    tree = subprocess.check_output(["git", "-C", TOP, "describe", "--always", "--dirty"], text=True).strip()
     print("# How long the checks take\n")
     print(f"The gate, `.ci/run`, all of it from nothing (`--anew`), on {CPUS} processors with nothing beside")
-    print(f"it, as `tools/gate_times.py` printed it on {time.strftime('%F')} of the tree `{tree()}`:")
+    print(f"it, as `tools/gate_times.py` printed it on {time.strftime('%F')} of the tree `{tree}`:")
     print(f"{last[-1] if last else 'no verdict'} in **{minutes:.1f} minutes**, {seconds:,} processor seconds, and")
     print(f"{peak / 2**30:.1f} GiB of memory at most.")
     print(ROWS, *lines, "", sep="\n")

@@ -10,9 +10,11 @@ import sqlite3
 import ssl
 import subprocess
 import sys
+import tempfile
 import threading
 import time
 
+import oracle
 from oracle import record  # noqa: F401
 
 HERE = os.path.dirname(os.path.dirname(os.path.abspath(__file__)))
@@ -76,6 +78,14 @@ def copy_bank(file, copy):
     for end in ("", "-wal"):
         if os.path.exists(file + end):
             shutil.copy(file + end, copy + end)
+
+
+def rows_of(file):
+    """The rows of a bank's tables, without moments, read from a copy of its files."""
+    with tempfile.TemporaryDirectory() as folder:
+        copy_bank(file, folder + "/copy.db")
+        rows = oracle.tables_of(folder + "/copy.db")
+    return rows | {"history": {ordinal: row[:-1] for ordinal, row in rows["history"].items()}}
 
 
 def open_branches(file, plan):
