@@ -18,8 +18,8 @@ import statistics
 import subprocess
 import time
 
-from serve_client import (BANK, FROM_PAGE, HERE, Failed, Place, Sender, check_books, clear, connect, done, make_bank,
-                          open_branches, post, record, run, signed_in, tls_of, with_fields, within)
+from serve_client import (BANK, FROM_PAGE, HERE, Place, Sender, check_books, clear, connect, done, ensure, make_bank,
+                          open_branches, post, record, run, same, signed_in, tls_of, with_fields, within)
 
 # Eight tellers are of the first branch, and eight of the one that is opened late.
 PLAN, LATE = [(1, 3)], 2
@@ -159,8 +159,7 @@ class Drill:
         within(LONGEST, "the follower's file", lambda: run("audit", self.follower.file)[2] == 0)
         count = len(done("export", self.follower.file)) // 100
         digests = [done("digest", file, str(count)) for file in (self.folder + "/lost/bank.db", self.follower.file)]
-        if digests[0] != digests[1]:
-            raise Failed(f"the digests of {count} requests are {digests}")
+        same(f"the digests of {count} requests", *digests)
         with open(self.folder + "/rest.csv", "wb") as plan:
             plan.write(done("plan", self.folder + "/lost/bank.db"))
         done("load", self.follower.file, self.folder + "/rest.csv")
@@ -186,8 +185,7 @@ class Drill:
         moment = self.lose()
         for it in first.values():
             it.join()
-            if it.fault:
-                raise Failed(it.fault)
+            ensure(not it.fault, it.fault)
         time.sleep(random.uniform(0, 1))
         count = self.take_over()
         taken = time.monotonic() - moment
@@ -202,33 +200,29 @@ class Drill:
     def check(self, first, second, count, moment):
         self.follower.stop()
         lost, file = self.folder + "/lost/bank.db", self.follower.file
-        if done("digest", lost, str(count)) != done("digest", file, str(count)):
-            raise Failed(f"the first {count} requests have changed")
+        same(f"the first {count} requests", *(done("digest", it, str(count)) for it in (file, lost)))
         kept = {text[:100]: text[100:300] for text in entries(done("log", lost))}
         had = {text[:100] for text in entries(done("log", file))[:count]}
         others, oldest = 0, moment
         answered = {}
         for teller, again in second.items():
-            if again.fault:
-                raise Failed(again.fault)
+            ensure(not again.fault, again.fault)
             for place, body in enumerate(teller.records[:len(again.replies)]):
                 reply, is_first = again.replies[place], place < len(first[teller].replies)
                 answered[teller.number, place + 1] = reply, int(body[40:51])
-                if is_first and first[teller].replies[place] != kept[body]:
-                    raise Failed(f"the leader answered {first[teller].replies[place]}, and kept {kept[body]}")
-                if body in had and reply != kept[body]:
-                    raise Failed(f"{body} was followed with the reply {kept[body]}, and has now {reply}")
+                if is_first:
+                    same(f"what the leader answered to {body}", first[teller].replies[place], kept[body])
+                if body in had:
+                    same(f"what is answered now to {body}", reply, kept[body])
                 if is_first and body not in had:
                     oldest = min(oldest, first[teller].times[place])
                     others += first[teller].replies[place] != reply
         more = check_books(file, answered)
-        if more:
-            raise Failed(f"{more} stand, and nobody sent them")
+        ensure(not more, f"{more} stand, and nobody sent them")
         for teller, again in second.items():
-            if run("post", file, data=b"".join(teller.records[:len(again.replies)]))[0] != b"".join(again.replies):
-                raise Failed(f"teller {teller.number}: a third sending has other answers")
-        if len(done("export", file)) // 100 != len(answered):
-            raise Failed("more requests stand than were sent")
+            third = done("post", file, data=b"".join(teller.records[:len(again.replies)]))
+            ensure(third == b"".join(again.replies), f"teller {teller.number}: a third sending has other answers")
+        same("how many requests stand", len(done("export", file)) // 100, len(answered))
         return len(kept) - count, moment - oldest, others
 
 

@@ -28,7 +28,7 @@ import subprocess
 import threading
 import time
 
-from serve_client import BANK, HERE, Failed, check_books, make_bank, post, read_answer, record, within
+from serve_client import BANK, HERE, check_books, copy_bank, ensure, make_bank, post, read_answer, record, within
 
 KINDS = (os.environ.get("KINDS") or "brick serve other lost lost cut cut idle idle short two").split()
 UNIT = open(HERE + "/examples/cluster/bank-volume.service").read().replace("\\\n", "")
@@ -148,18 +148,14 @@ class Teller(threading.Thread):
             time.sleep(random.uniform(0, 0.05))
 
     def answered(self, body):
+        is_shared = self.teller == TELLERS
         while True:
             host = self.drill.front
-            if self.teller == TELLERS:
-                status, *reply = ask(SHARED, body, 3)
-            else:
-                status, *reply = ask(host.address, body, 3)
-            if status == 200 and self.teller == TELLERS:
-                return reply[0]
+            status, *reply = ask(SHARED if is_shared else host.address, body, 3)
             if status == 200:
-                self.drill.acks.append((time.monotonic(), host))
+                self.drill.acks += [] if is_shared else [(time.monotonic(), host)]
                 return reply[0]
-            if self.drill.front is host and self.teller != TELLERS:
+            if self.drill.front is host and not is_shared:
                 self.drill.front = self.drill.hosts[host.number % 3]
             time.sleep(0.05)
 
@@ -224,8 +220,7 @@ class Drill:
         scripts += [f"gluster --mode=script volume set bank {it}" for it in os.environ.get("SET", "").split(",") if it]
         for script in scripts:
             made = self.hosts[0].call(script)
-            if made.returncode:
-                raise Failed(made.stdout)
+            ensure(not made.returncode, made.stdout)
         self.hold(True)
         for host in self.hosts:
             host.join()
@@ -252,28 +247,28 @@ class Drill:
         return first[0] - moment, first[1]
 
     def brick(self, front, now):
-        host = random.choice(self.hosts)
-        host.kill_brick()
+        random.choice(self.hosts).kill_brick()
         time.sleep(random.uniform(0, 3))
+        return self.answered_since(self.start_bricks())
+
+    def start_bricks(self):
         self.hosts[0].call("gluster --mode=script volume start bank force")
-        return self.answered_since(time.monotonic())
+        return time.monotonic()
 
     def serve(self, front, now):
         front.kill_serve()
         return self.answered_since(time.monotonic() + 0.02)
 
     def lost(self, front, now):
-        front.lose()
-        taken = self.answered_since(now, front)
-        time.sleep(random.uniform(0, 3))
-        front.boot()
-        front.join()
-        return taken
+        return self.gone(front, lambda: self.answered_since(now, front))
 
     def other(self, front, now):
         host = self.hosts[(front.number + random.choice((0, 1))) % 3]
+        return self.gone(host, lambda: self.answered_since(time.monotonic() + 0.5))
+
+    def gone(self, host, answered):
         host.lose()
-        taken = self.answered_since(time.monotonic() + 0.5)
+        taken = answered()
         time.sleep(random.uniform(0, 3))
         host.boot()
         host.join()
@@ -301,8 +296,7 @@ class Drill:
         finally:
             late = probe.answered_since(now + taken[0])
             self.refusals.append(probe.refusals)
-            if late:
-                raise Failed(f"host {front.number} answered {late} postings after host {taken[1].number} did")
+            ensure(not late, f"host {front.number} answered {late} postings after host {taken[1].number} did")
         return taken
 
     def idle(self, front, now):
@@ -325,12 +319,9 @@ class Drill:
         gone = time.monotonic()
         time.sleep(random.uniform(1, 5))
         acks = len(self.acks_since(gone))
-        self.hosts[0].call("gluster --mode=script volume start bank force")
-        back = time.monotonic()
-        if acks:
-            raise Failed(f"{acks} postings were answered with one replica of three")
-        taken = self.answered_since(back)
-        return taken
+        back = self.start_bricks()
+        ensure(not acks, f"{acks} postings were answered with one replica of three")
+        return self.answered_since(back)
 
     def round(self, number):
         """One failure; each kind comes before one comes again."""
@@ -364,13 +355,11 @@ class Drill:
             host.kill_serve()
         within(120, "three equal replicas", self.is_healed)
         copy = self.folder + "/copy.db"
-        for end in ("", "-wal"):
-            shutil.copy(f"{self.hosts[0].folder}/replica/bank.db{end}", copy + end)
+        copy_bank(self.hosts[0].folder + "/replica/bank.db", copy)
         answered = {(it.teller, number): reply for it in self.tellers for number, reply in it.replies.items()}
         answered |= {(PROBE, number): reply for number, reply in self.probed.items()}
         more = [key for key in check_books(copy, answered) if key[0] != PROBE]
-        if more:
-            raise Failed(f"{more} stand, and nobody has an answer")
+        ensure(not more, f"{more} stand, and nobody has an answer")
         self.hold(False)
 
     def told(self):
