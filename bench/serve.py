@@ -1,17 +1,18 @@
 #!/usr/bin/env python3
-"""How many postings a second `bank serve` answers, and how long tellers wait beside clients that hold it up. Each run's bank
-is audited, and has the postings that were answered. It needs the built program.
+"""How many postings a second `bank serve` answers to clients of loopback on kept connections, each asking when it has its
+answer: this program, another (BEFORE names it), and pgbench's TPC-B script on PostgreSQL with as many clients, in rounds
+that go from one to the other. On a disk (TMPDIR), without one, and with syncs that take 5 milliseconds longer, for all
+alike. It prints a row for each: the medians of postings a second, and of the median, the 99th percentile and the latest
+answer in microseconds, and the ratio to the program before and to one client. Each run's bank is audited, and has as many
+postings as were answered. It needs the built program and a C compiler.
 
-    bench/serve.py [ROUNDS [SECONDS [CLIENTS,..]]]    kept connections of loopback, each asking when it has its answer, on a
-                                       disk (TMPDIR) and without one; BEFORE names another program, which takes turns with
-                                       this one. A row has the medians of postings a second, and of the median, the 99th
-                                       percentile and the latest answer in microseconds. It needs Debian's `wrk`
+    bench/serve.py [ROUNDS [SECONDS [CLIENTS,.. [IDLE]]]]        IDLE clients beside them say nothing
     bench/serve.py beside [SECONDS]    how long tellers wait who post so often, 20 and 100 of them, alone, and 20 beside
                                        clients that keep the counter waiting: a row for each, without a disk
 """
-import itertools
 import os
 import re
+import shutil
 import socket
 import statistics
 import subprocess
@@ -21,73 +22,41 @@ import threading
 import time
 from collections import defaultdict
 
-sys.path.insert(0, os.path.join(os.path.dirname(os.path.dirname(os.path.abspath(__file__))), "tools"))
-from serve_client import BANK, Sender, Server, make_bank, need_program, post, record, run  # noqa: E402
+HERE = os.path.dirname(os.path.abspath(__file__))
+sys.path.insert(0, os.path.join(os.path.dirname(HERE), "tools"))
+from serve_client import BANK, Server, make_bank, need_program, post, record, run  # noqa: E402
 
-PLAN = [(1, 1000), (2, 1000)]
-PLACES = {"disk": None, "none": "/dev/shm"}
-# For `wrk`: each request has a record of its own, over 20 tellers, and each reply is POSTED.
-SCRIPT = """
-local number, threads = 0, {}
-wrong = 0
-function setup(thread) table.insert(threads, thread) end
-function request()
-    local teller, own = number % 20 + 1, math.floor(number / 20) + 1
-    local branch = math.floor((teller + 9) / 10)
-    local account = 100000 * (branch - 1) + number * 7919 % 1000 + 1
-    number = number + 1
-    return wrk.format("POST", "/post", nil,
-        string.format("DC01%012d%08d%06d%010d+%010d%49s", account, teller, branch, own, 5, ""))
-end
-function response(status, _, body)
-    if status ~= 200 or body:sub(67, 72) ~= "POSTED" then wrong = wrong + 1 end
-end
-function done(summary, latency)
-    local errors = summary.errors
-    io.write(string.format("SAID %d %.0f %.0f %.0f %.0f %d", summary.requests, summary.requests / summary.duration * 1e6,
-        latency:percentile(50), latency:percentile(99), latency.max,
-        threads[1]:get("wrong") + errors.connect + errors.read + errors.write + errors.status + errors.timeout))
-end
-"""
+PLACES = {"disk": (None, 0), "none": ("/dev/shm", 0), "slow disk": (None, 5000)}
 
 
-def check(file, answers, more=0):
-    """The bank is consistent, and has so many postings, or up to so many more."""
-    output = run("audit", file)[0].decode()
-    found = int(re.search(r"history\s+(\d+)", output)[1])
-    if not output.endswith("\nCONSISTENT\n") or not answers <= found <= answers + more:
-        sys.exit(f"serve: {answers} answers: {output}")
+def compiled(folder, name, *flags):
+    out = f"{folder}/{name}"
+    subprocess.run([os.environ.get("CC", "cc"), "-O2", *flags, "-o", out, f"{HERE}/{name}.c"], check=True)
+    return out
 
 
-def served(program, place, clients, seconds):
+def served(tools, program, place, clients, idle, seconds):
     """Postings a second, and how long answers took, of one run."""
-    with tempfile.TemporaryDirectory(dir=PLACES[place]) as work:
-        make_bank(work + "/bank.db", PLAN)
-        with open(work + "/post.lua", "w") as script:
-            script.write(SCRIPT)
-        server = Server(work + "/bank.db", 1_000_000, program=program)
-        said = subprocess.run(["wrk", "-t1", f"-c{clients}", f"-d{seconds}s", "-s", work + "/post.lua",
-                               f"http://127.0.0.1:{server.port}/post"], capture_output=True, text=True, check=True).stdout
-        server.kill()
-        answers, *figures, wrong = map(int, re.search("SAID (.*)", said)[1].split())
-        # At the end each client's last posting may have no answer yet.
-        check(work + "/bank.db", answers, clients)
-        if wrong:
-            sys.exit(f"serve: {said}")
-        return figures
+    folder, slow = PLACES[place]
+    with tempfile.TemporaryDirectory(dir=folder) as work:
+        make_bank(work + "/bank.db", [(1, 1000), (2, 1000)])
+        slowly = {"LD_PRELOAD": f"{tools}/slow_sync", "SLOW_SYNC_US": str(slow)} if slow else {}
+        server = Server(work + "/bank.db", 1_000_000, os.environ | slowly, program=program)
+        _, rate, median, late, latest, *_ = loaded(tools, server, work + "/bank.db", clients, idle, seconds)
+        return rate, median, late, latest, server.peak
 
 
-def measure(programs, place, counts, rounds, seconds):
-    got = defaultdict(list)
-    for number, count in itertools.product(range(rounds), counts):
-        for name in list(programs)[:: 1 if number % 2 else -1]:
-            got[name, count].append(served(programs[name], place, count, seconds))
-    for count, name in itertools.product(counts, programs):
-        rate, median, late, latest = (statistics.median(values) for values in zip(*got[name, count]))
-        of = (statistics.median(one[0] / other[0] for one, other in zip(got[name, count], got.get(key, got[name, count])))
-              for key in (("before", count), (name, counts[0])))
-        print(f"| {place} | {count} | {name} | {rate:,.0f} | {median:,.0f}, {late:,.0f}, {latest:,.0f} | "
-              f"{' | '.join(f'{it:.2f}' for it in of)} |", flush=True)
+def loaded(tools, server, file, clients, idle, seconds, pace=0):
+    """What `load` says of a server, whose bank has as many postings then as were answered."""
+    loader = subprocess.run([f"{tools}/load", str(server.port), str(clients), str(idle), str(int(seconds * 1000)),
+                             str(int(pace * 1000))], capture_output=True, text=True, timeout=seconds + 120)
+    server.peak = int(re.search(r"VmHWM:\s+(\d+)", open(f"/proc/{server.process.pid}/status", encoding="ascii").read())[1])
+    server.kill()
+    said = [*map(int, loader.stdout.split(","))]
+    output = run("audit", file)[0].decode()
+    if said[5] or not output.endswith("\nCONSISTENT\n") or int(re.search(r"history\s+(\d+)", output)[1]) != said[0]:
+        sys.exit(f"serve: {loader.stderr}{output}")
+    return said
 
 
 class Hostile(threading.Thread):
@@ -144,49 +113,92 @@ WAYS = {"that say nothing": Hostile.says_nothing, "that send a byte a second": H
 HOSTILE = 10
 
 
-def messages(client, count):
-    """The postings of a client, under numbers of its own."""
-    teller, first = client % 20 + 1, client // 20 * 1_000_000
-    branch = (teller + 9) // 10
-    return [post(record(100_000 * (branch - 1) + at * 7919 % 1000 + 1, teller, branch, first + at, 5))
-            for at in range(1, count + 1)]
-
-
-def beside(count, every, seconds, way=None):
+def beside(tools, count, every, seconds, way=None):
     with tempfile.TemporaryDirectory(dir="/dev/shm") as work:
-        make_bank(work + "/bank.db", PLAN)
-        server, end = Server(work + "/bank.db", 1_000_000), time.monotonic() + seconds
+        make_bank(work + "/bank.db", [(1, 1000), (2, 1000)])
+        server = Server(work + "/bank.db", 1_000_000)
         for _ in range(HOSTILE if way else 0):
-            Hostile(server, end + 2, WAYS[way])
-        tellers = [Sender(server.connect, messages(client, int(9 * seconds / every)), wait=2 * every,
-                          gives_up=lambda: time.monotonic() > end) for client in range(count)]
-        for it in tellers:
-            it.join()
-        server.kill()
-        waits, each = sorted(it for teller in tellers for it in teller.waits), [len(it.replies) for it in tellers]
-        check(work + "/bank.db", len(waits))
-        shown = [waits[len(waits) * part // 100] for part in (50, 99)] + waits[-1:]
-        print(f"| {count} every {every} s{f', beside {HOSTILE} {way}' if way else ''} | {len(waits)} | {min(each)} to "
-              f"{max(each)} | {' | '.join(f'{1000 * it:.0f} ms' for it in shown)} | {sum(it.resent for it in tellers)} |",
-              flush=True)
+            Hostile(server, time.monotonic() + seconds + 2, WAYS[way])
+        answers, _, *waits, _, anew, least, most = loaded(tools, server, work + "/bank.db", count, 0, seconds, every)
+        print(f"| {count} every {every} s{f', beside {HOSTILE} {way}' if way else ''} | {answers} of "
+              f"{int(count * seconds / every)} | {least} to {most} | "
+              f"{' | '.join(f'{it / 1000:.0f} ms' for it in waits)} | {count + anew} |", flush=True)
+
+
+class Postgres:
+    """A server with the tables of pgbench, over 20 branches."""
+
+    def __init__(self, tools, place):
+        self.programs = sorted(os.listdir("/usr/lib/postgresql"))[-1]
+        folder, slow = PLACES[place]
+        self.work = tempfile.mkdtemp(dir=folder)
+        os.chmod(self.work, 0o755)
+        shutil.chown(self.work, "postgres")
+        preload = [f"LD_PRELOAD={tools}/slow_sync", f"SLOW_SYNC_US={slow}"] if slow else []
+        self.ask("initdb", "-D", self.work + "/data", "-A", "trust")
+        self.ask("pg_ctl", "-D", self.work + "/data", "-w", "start", "-l", self.work + "/log", "-o",
+                 f"-k {self.work} -h '' -p 5499 -c max_connections=300", environment=preload)
+        self.ask("createdb", "-h", self.work, "-p", "5499", "bank")
+        self.ask("pgbench", "-h", self.work, "-p", "5499", "-i", "-s", "20", "-q", "bank")
+
+    def ask(self, name, *words, environment=()):
+        program = f"/usr/lib/postgresql/{self.programs}/bin/{name}"
+        return subprocess.run(["runuser", "-u", "postgres", "--", "env", *environment, program, *words], check=True,
+                              cwd=self.work, stdout=subprocess.PIPE, stderr=subprocess.DEVNULL, text=True).stdout
+
+    def rate(self, clients, seconds):
+        said = self.ask("pgbench", "-h", self.work, "-p", "5499", "-c", str(clients), "-j", str(min(clients, 4)), "-T",
+                        str(int(seconds)), "-M", "prepared", "-n", "bank")
+        return float(re.search(r"tps = ([\d.]+)", said)[1])
+
+    def stop(self):
+        self.ask("pg_ctl", "-D", self.work + "/data", "-m", "fast", "-w", "stop")
+        shutil.rmtree(self.work, ignore_errors=True)
 
 
 def main():
     need_program()
-    if sys.argv[1:2] == ["beside"]:
-        print("| Tellers | Answers | Answers a teller | Median | 99th percentile | Latest | Connected again |\n"
+    with tempfile.TemporaryDirectory() as tools:
+        compiled(tools, "load")
+        compiled(tools, "slow_sync", "-shared", "-fPIC", "-ldl")
+        os.chmod(tools, 0o755)
+        if sys.argv[1:2] == ["beside"]:
+            print("| Tellers | Answers | Answers a teller | Median | 99th percentile | Latest | Connections |\n"
+                  "|---|---|---|---|---|---|---|")
+            seconds = float((sys.argv[2:] + ["10"])[0])
+            for count, every, way in [(20, 0.2, None), (20, 1, None), (100, 0.2, None), (100, 1, None),
+                                      *((20, 1, way) for way in WAYS)]:
+                beside(tools, count, every, seconds, way)
+            return
+        words = sys.argv[1:] + ["3", "3", "1,4,16,64", "0"][len(sys.argv) - 1:]
+        rounds, seconds, idle = int(words[0]), float(words[1]), int(words[3])
+        counts = [int(it) for it in words[2].split(",")]
+        programs = {"now": BANK} | ({"before": os.environ["BEFORE"]} if os.environ.get("BEFORE") else {})
+        print("| | clients | system | postings a second | median, p99, latest (us) | of before | of one client |\n"
               "|---|---|---|---|---|---|---|")
-        seconds = float((sys.argv[2:] + ["10"])[0])
-        for count, every, way in [(20, 0.2, None), (20, 1, None), (100, 0.2, None), (100, 1, None),
-                                  *((20, 1, way) for way in WAYS)]:
-            beside(count, every, seconds, way)
-        return
-    rounds, seconds, counts = sys.argv[1:] + ["3", "3", "1,4,16,64"][len(sys.argv) - 1:]
-    programs = {"now": BANK} | ({"before": os.environ["BEFORE"]} if os.environ.get("BEFORE") else {})
-    print("| | clients | system | postings a second | median, p99, latest (us) | of before | of one client |\n"
-          "|---|---|---|---|---|---|---|")
-    for place in PLACES:
-        measure(programs, place, [int(it) for it in counts.split(",")], int(rounds), int(seconds))
+        for place in PLACES:
+            measure(tools, programs, place, counts, idle, rounds, seconds)
+
+
+def measure(tools, programs, place, counts, idle, rounds, seconds):
+    got = defaultdict(list)
+    postgres = Postgres(tools, place) if os.path.isdir("/usr/lib/postgresql") and not idle else None
+    for number in range(rounds):
+        for count in counts:
+            for name in list(programs)[:: 1 if number % 2 else -1]:
+                got[name, count].append(served(tools, programs[name], place, count, idle, seconds))
+            if postgres:
+                got["postgres", count].append((postgres.rate(count, seconds), 0, 0, 0, 0))
+    if postgres:
+        postgres.stop()
+    for count in counts:
+        for name in [*programs, *(["postgres"] if postgres else [])]:
+            middle = [statistics.median(values) for values in zip(*got[name, count])]
+            of = [statistics.median(one[0] / other[0] for one, other in zip(got[name, count], got[key]))
+                  if got.get(key) else 0 for key in (("before", count), (name, counts[0]))]
+            print(f"| {place} | {count}{f' beside {idle} idle' if idle else ''} | {name} | {middle[0]:,.0f} "
+                  f"| {middle[1]:,.0f}, {middle[2]:,.0f}, {middle[3]:,.0f} | {of[0]:.2f} | {of[1]:.2f} |", flush=True)
+        print(f"<!-- most memory with {count}: {max(it[4] for it in got['now', count])} KB -->", flush=True)
 
 
 main()
