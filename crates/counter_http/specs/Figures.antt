@@ -1,11 +1,9 @@
 -- What a counter says of itself: how many replies it gave, by their outcomes, and its text, as Prometheus reads it.
 use Rattle.std.specs.Prelude.{◌≡◌, ◌⊎◌, ◌≤◌, ◌+◌, ◌-◌, ◌^◌, ◌==◌, ℕ, List, [], ◌∷◌, ◌++◌, length, filter, Bool, false, Option, Some, None}
-use Rattle.std.specs.Prelude.{Result, Ok, Err, codes, if◌then◌else◌}
+use Rattle.std.specs.Prelude.{codes, if◌then◌else◌, option_and_then, slice_range}
 use Rattle.std.specs.Fmt.{decimal}
-use Rattle.message_records.specs.Reading.{reply_of}
-use Rattle.message_records.specs.believed.Outcomes.{code_of}
-use Rattle.message_records.specs.believed.Records.{ReplyFields}
-use Rattle.message_records.specs.declared.fault.BadReply.{BadReply}
+use Rattle.message_records.specs.believed.Outcomes.{code_of, outcome_with}
+use Rattle.message_records.specs.believed.Reading.{number_of}
 use Rattle.message_records.specs.declared.records.Outcome.{Outcome}
 use Rattle.message_records.specs.declared.records.Outcome.TheVariants.{Posted, NoTeller, WrongBranch}
 use Rattle.message_records.specs.declared.records.Outcome.TheVariants.{NoAccount, BelowFloor, OverLimit}
@@ -53,12 +51,16 @@ nothing = record {
 abbrev pub is_same : (a b : Outcome) → Bool
 is_same a b = code_of b == code_of a
 
-abbrev pub is_read_as : Outcome → Result ReplyFields BadReply → Bool
-is_read_as outcome (Ok r) = is_same outcome r.outcome
-is_read_as outcome (Err bad) = false
+-- the outcome that a reply has the code of, if one does
+abbrev pub outcome_in : List ℕ → Option Outcome
+outcome_in reply = option_and_then outcome_with (number_of (slice_range reply 4 6))
+
+abbrev pub is_told_as : Outcome → Option Outcome → Bool
+is_told_as outcome None = false
+is_told_as outcome (Some told) = is_same outcome told
 
 abbrev pub has_outcome : Outcome → List ℕ → Bool
-has_outcome outcome reply = is_read_as outcome (reply_of reply)
+has_outcome outcome reply = is_told_as outcome (outcome_in reply)
 
 -- one more of an outcome, and of no other
 pub record AddsOutcome (old new : Tally) (outcome : Outcome) : Type 0 where

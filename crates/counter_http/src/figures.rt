@@ -1,8 +1,8 @@
 //! What a counter says of itself: the replies that it gave since it began to serve clients, and how many it serves.
 ghost use Rattle.std.specs.Prelude.{◌≡◌, [], ◌∷◌};
-ghost use Rattle.counter_http.specs.Figures.{AddsOutcome, Counts, IsMore, nothing};
+ghost use Rattle.counter_http.specs.Figures.{AddsOutcome, Counts, IsMore, nothing, outcome_in};
 
-use message_records::{Outcome, REPLY_BYTES, decode_reply};
+use message_records::{Outcome, REPLY_BYTES, read_digits};
 
 /// How many replies were given, in all and by their outcomes, and by how many commits. A number that is full stays.
 #[derive(Clone, Copy)]
@@ -25,6 +25,13 @@ fn one_more(count: u64) -> u64
     ensures { IsMore count result 1 }
 {
     if count == u64::MAX { count } else { count + 1 }
+}
+
+// The outcome that a reply has the code of, if one does.
+fn outcome_in(reply: &[u8; REPLY_BYTES]) -> Option<Outcome>
+    ensures { result ≡ outcome_in reply.now }
+{
+    Outcome::with_code(read_digits(&reply[4..6])?)
 }
 
 impl Tally {
@@ -69,8 +76,8 @@ impl Tally {
         ensures { Counts self.old self.new (reply.now ∷ []) 0 }
     {
         self.records = one_more(self.records);
-        if let Ok(it) = decode_reply(reply) {
-            self.add(it.outcome());
+        if let Some(outcome) = outcome_in(reply) {
+            self.add(outcome);
         }
     }
 
