@@ -2,7 +2,7 @@
 -- are the known bytes of the input before and after, w and w' those of the output, k and k' the clock's known
 -- readings.
 use Rattle.std.specs.Prelude.{⊤, ◌≡◌, ◌≢◌, ◌⊎◌, ℕ, Bool, true, List, [], Option, None, Some, Result, Ok, Err}
-use Rattle.std.specs.Prelude.{IfOk, unwrap_or}
+use Rattle.std.specs.Prelude.{IfOk, option_map, unwrap_or}
 use Rattle.std.specs.Io.KnownBytes.{Keeps}
 use Rattle.clap.specs.Words.{IsAmong, Text, fault_of, takes}
 use Rattle.clap.specs.declared.error.kind.ErrorKind.{ErrorKind}
@@ -10,6 +10,7 @@ use Rattle.sqlite.specs.Held.{Held}
 use Rattle.sqlite_trees.specs.declared.store.Store.{Ghosts}
 use Rattle.posting_rules.specs.declared.fault.Fault.{Fault}
 use Rattle.posting_core.specs.believed.Told.{ReadTold}
+use Rattle.posting_sheets.specs.declared.money.Money.{Money}
 use Rattle.report_contents.specs.Written.{AppendsPart}
 use Rattle.report_contents.specs.declared.audit.Audit.{Audit}
 use Rattle.bank_store.specs.declared.migration.Migrated.{Migrated}
@@ -20,7 +21,7 @@ use Rattle.command_line.specs.CommandLine.{bank_app}
 use Rattle.command_line.specs.CommandFaults.{status_of}
 use Rattle.command_line.specs.Lines.{IsHelpOrVersion, created_line, fault_line, usable_line}
 use Rattle.command_line.specs.Prompting.{prompt_line}
-use Rattle.command_line.specs.Translating.{DecodesOver, DecodesPostings, DecodesReplies, EncodesSheet, OpensNoSheet}
+use Rattle.command_line.specs.Translating.{DecodesIn, DecodesPostings, DecodesReplies, EncodesSheet, OpensNoSheet}
 use Rattle.command_line.specs.Words.{IsReadFrom}
 use Rattle.command_line.specs.declared.fault.CommandFault.{CommandFault}
 use Rattle.command_line.specs.declared.reading.Command.{Command}
@@ -81,10 +82,9 @@ DoesOver g conn back IsNamed known r r' w w' k k' (commands.Migrate file) told =
 DoesOver g conn back IsNamed known r r' w w' k k' (commands.Why file) told = LooksOver g conn back w w' told
 DoesOver g conn back IsNamed known r r' w w' k k' commands.Encode told =
     (back ≡ conn) × EncodesSheet r r' None None w w' None None told
-DoesOver g conn back IsNamed known r r' w w' k k' (commands.Decode money None) told =
-    (back ≡ conn) × DecodesReplies money r r' None None w w' None None told
-DoesOver g conn back IsNamed known r r' w w' k k' (commands.Decode money (Some sheet)) told =
-    (back ≡ conn) × DecodesOver money (IsNamed sheet.now) known r r' None None w w' None None told
+DoesOver g conn back IsNamed known r r' w w' k k' (commands.Decode money sheet) told =
+    (back ≡ conn)
+    × DecodesIn money (option_map (λ s. s.now) sheet) IsNamed known r r' None None w w' None None told
 
 -- ---- how it ends and what it prints, whatever bank is there; the text of `post`, `statement`, `export`, `log` and
 -- `plan` is the bank's
@@ -92,6 +92,12 @@ DoesOver g conn back IsNamed known r r' w w' k k' (commands.Decode money (Some s
 -- it told a fault and printed nothing; or else Said holds
 abbrev pub PrintsNone : (w w' : Option (List ℕ)) → Result Status CommandFault → (Said : Type 0) → Type 0
 PrintsNone w w' told Said = (((fault : CommandFault) × (told ≡ Err fault)) × Keeps w w') ⊎ Said
+
+-- replies were decoded, without a sheet of postings or beside one, whatever that was
+abbrev pub TellsDecode : Money → Option (List ℕ) → (r r' w w' : Option (List ℕ)) → Result Status CommandFault → Type 0
+TellsDecode money None r r' w w' told = DecodesReplies money r r' None None w w' None None told
+TellsDecode money (Some name) r r' w w' told =
+    OpensNoSheet r r' w w' told ⊎ DecodesPostings money None None None None r r' None None w w' None None told
 
 abbrev pub Tells : Command → (r r' w w' : Option (List ℕ)) → Result Status CommandFault → Type 0
 Tells (commands.Init file) r r' w w' told = PrintsNone w w' told (TellsLine w w' created_line told)
@@ -114,10 +120,7 @@ Tells (commands.Migrate file) r r' w w' told =
     PrintsNone w w' told ((migrated : Migrated) × TellsLine w w' (migration_line migrated) told)
 Tells (commands.Why file) r r' w w' told = PrintsNone w w' told (TellsLine w w' usable_line told)
 Tells commands.Encode r r' w w' told = EncodesSheet r r' None None w w' None None told
-Tells (commands.Decode money None) r r' w w' told = DecodesReplies money r r' None None w w' None None told
--- whatever the sheet of postings was
-Tells (commands.Decode money (Some sheet)) r r' w w' told =
-    OpensNoSheet r r' w w' told ⊎ DecodesPostings money None None None None r r' None None w w' None None told
+Tells (commands.Decode money sheet) r r' w w' told = TellsDecode money (option_map (λ s. s.now) sheet) r r' w w' told
 
 -- ---- what it leaves alone
 

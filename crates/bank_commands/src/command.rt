@@ -11,7 +11,7 @@ use crate::{
 };
 use bank_replays::Watch;
 use branch_loader::FollowWatch;
-use command_line::{Command, Network, Plans, translate_beside, translate_replies, translate_sheet};
+use command_line::{Command, Network, Plans, translate_replies, translate_sheet};
 use counter_http::ServeWatch;
 use posting_core::Clock;
 use sqlite::{Alter, Connection};
@@ -86,15 +86,8 @@ pub fn command_over<
             told: translate_sheet(alloc, input, output),
             conn,
         },
-        Command::Decode { money, sheet: None } => Ended {
-            told: translate_replies(alloc, money, input, output),
-            conn,
-        },
-        Command::Decode {
-            money,
-            sheet: Some(sheet),
-        } => Ended {
-            told: translate_beside(alloc, money, plans, sheet, input, output),
+        Command::Decode { money, sheet } => Ended {
+            told: translate_replies(alloc, money, plans, sheet, input, output),
             conn,
         },
     }

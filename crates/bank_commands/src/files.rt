@@ -13,9 +13,7 @@ use crate::progress::Progress;
 use crate::reasons::look_into;
 use crate::reports::why_over;
 use bank_files::open;
-use command_line::{
-    Command, CommandFault, Plans, Status, translate_beside, translate_replies, translate_sheet,
-};
+use command_line::{Command, CommandFault, Plans, Status, translate_replies, translate_sheet};
 use posting_core::{Clock, SystemClock};
 use sqlite::{Connection, Error, ErrorCode, FileFrom, FileStore, Start};
 use std::alloc::Global;
@@ -85,15 +83,9 @@ pub(crate) fn command_in<S: Start, R: Read, W: Write, K: Clock>(
     let Machine { rt, start, is_full } = machine;
     let (file, finds_bank) = match *command {
         Command::Encode => return translate_sheet(rt.alloc(), input, output),
-        Command::Decode { money, sheet: None } => {
-            return translate_replies(rt.alloc(), money, input, output);
-        }
-        Command::Decode {
-            money,
-            sheet: Some(sheet),
-        } => {
+        Command::Decode { money, sheet } => {
             let files = PlanFiles::new(rt);
-            return translate_beside(rt.alloc(), money, &files, sheet, input, output);
+            return translate_replies(rt.alloc(), money, &files, sheet, input, output);
         }
         Command::Why { file } => return why_in(rt, file, output),
         Command::Init { file } => (file, false),

@@ -6,8 +6,8 @@
 //! as entries of a log and [`plan_over`] the branches as a plan, [`follow_over`] takes a bank along the log of another
 //! one, [`migrate_over`] carries over a bank of an older version, and [`why_over`] says that a bank can be used.
 //! Each but `init_over` finds the bank that is there. Each hands the connection back, also where there is no bank.
-//! `encode` and `decode` have no function here: they need no bank, and are `translate_sheet`, `translate_replies` and
-//! `translate_beside` of `command_line`.
+//! `encode` and `decode` have no function here: they need no bank, and are `translate_sheet` and `translate_replies` of
+//! `command_line`.
 //!
 //! The function `first_commands` of `bank_trials`, which its script runs, makes a bank, opens the branches of
 //! a plan and posts the records of an input:

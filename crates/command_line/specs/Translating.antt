@@ -1,5 +1,5 @@
 -- What `encode` and `decode` read and write, and how they end.
-use Rattle.std.specs.Prelude.{◌≡◌, ◌⊎◌, ℕ, List, Option, Result, Ok, Err}
+use Rattle.std.specs.Prelude.{◌≡◌, ◌⊎◌, ℕ, List, Option, None, Some, Result, Ok, Err}
 use Rattle.std.specs.Io.KnownBytes.{Keeps}
 use Rattle.posting_core.specs.believed.Told.{ReadTold}
 use Rattle.posting_core.specs.Told.{WriteTold}
@@ -74,3 +74,11 @@ DecodesOver {P = P} money IsNamed known r r' q q' w w' t t' told =
     OpensNoSheet r r' w w' told
     ⊎ ((sheet : P) × (left : P) × IsNamed sheet × DecodesPostings money (known sheet).0 (known left).0 (known sheet).1
     (known left).1 r r' q q' w w' t t' told)
+
+-- beside the sheet of this name, or without one
+abbrev pub DecodesIn : {P : Type 0} → Money → Option (List ℕ) → (IsNamed : List ℕ → P → Type 0)
+    → (known : P → Option (List ℕ) × Option (List ReadTold)) → (r r' : Option (List ℕ)) → (q q' : Option (List ReadTold))
+    → (w w' : Option (List ℕ)) → (t t' : Option (List WriteTold)) → Result Status CommandFault → Type 0
+DecodesIn money None IsNamed known r r' q q' w w' t t' told = DecodesReplies money r r' q q' w w' t t' told
+DecodesIn money (Some name) IsNamed known r r' q q' w w' t t' told =
+    DecodesOver money (IsNamed name) known r r' q q' w w' t t' told

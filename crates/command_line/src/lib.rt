@@ -58,4 +58,4 @@ pub use reading::{Command, read_words};
 pub use replaying::{print_agreeing, print_differing, print_digest};
 pub use serving::{Network, listen};
 pub use status::Status;
-pub use translating::{translate_beside, translate_replies, translate_sheet};
+pub use translating::{translate_replies, translate_sheet};

@@ -1,5 +1,6 @@
 //! What `encode` and `decode` do, which need no bank.
-ghost use Rattle.command_line.specs.Translating.{DecodesOver, DecodesReplies, EncodesSheet};
+ghost use Rattle.std.specs.Prelude.{option_map};
+ghost use Rattle.command_line.specs.Translating.{DecodesIn, DecodesOver, DecodesReplies, EncodesSheet};
 ghost use Rattle.command_line.specs.Working.{known_source};
 
 use crate::fault::CommandFault;
@@ -24,8 +25,8 @@ pub fn translate_sheet<R: Source, W: Sink>(
     }
 }
 
-/// Reads replies, and writes a sheet of them with money written so.
-pub fn translate_replies<R: Source, W: Sink>(
+// Reads replies, and writes a sheet of them with money written so.
+fn translate_alone<R: Source, W: Sink>(
     alloc: Global,
     money: Money,
     input: &mut R,
@@ -40,8 +41,8 @@ pub fn translate_replies<R: Source, W: Sink>(
     }
 }
 
-/// Does the same beside the sheet of this name, whose postings the replies answer, and writes their rows too.
-pub fn translate_beside<P: Plans, R: Source, W: Sink>(
+// Does the same beside the sheet of this name, whose postings the replies answer, and writes their rows too.
+fn translate_beside<P: Plans, R: Source, W: Sink>(
     alloc: Global,
     money: Money,
     plans: &P,
@@ -60,5 +61,26 @@ pub fn translate_beside<P: Plans, R: Source, W: Sink>(
     match decode_beside(alloc, money, &mut postings, input, output) {
         Ok(_) => Ok(Status::Done),
         Err(fault) => Err(CommandFault::from(fault)),
+    }
+}
+
+/// Reads replies, and writes a sheet of them with money written so, and with their rows of the sheet of this name where
+/// one is given, whose postings they answer.
+pub fn translate_replies<P: Plans, R: Source, W: Sink>(
+    alloc: Global,
+    money: Money,
+    plans: &P,
+    sheet: Option<&str>,
+    input: &mut R,
+    output: &mut W,
+) -> Result<Status, CommandFault>
+    ensures { DecodesIn money (option_map (λ s. s.now) sheet.entry) (P.is_named plans.now)
+        (known_source P.Plan.remaining P.Plan.told) (R.remaining input.old) (R.remaining input.new)
+        (R.told input.old) (R.told input.new) (W.contents output.old) (W.contents output.new)
+        (W.told output.old) (W.told output.new) result }
+{
+    match sheet {
+        None => translate_alone(alloc, money, input, output),
+        Some(name) => translate_beside(alloc, money, plans, name, input, output),
     }
 }

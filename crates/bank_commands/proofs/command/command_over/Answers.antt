@@ -1,7 +1,7 @@
 -- What each command did is what was asked for.
 use Rattle.std.proofs.Common.{refl, sym}
 use Rattle.bank_commands.proofs.{FollowTold.logs_done, Told.prints_none, Told.states_done, Told.written_done}
-use Rattle.bank_commands.proofs.Unnamed.{unnamed}
+use Rattle.bank_commands.proofs.Unnamed.{tells_decode}
 use Rattle.bank_commands.proofs.command.command_over.Goals as goal
 
 pub returns-in-Init : goal.returns-in-Init
@@ -146,23 +146,12 @@ returns-in-Encode g c =
     let it = c.translate_sheet.ensures in
     rw c.in-Encode.is record { does = (refl, it); tells = it; input = tt; clock = refl; idle = c.requires.mode }
 
-pub returns-in-Decode-None : goal.returns-in-Decode-None
-returns-in-Decode-None g c =
+pub returns-in-Decode : goal.returns-in-Decode
+returns-in-Decode g c =
     let it = c.translate_replies.ensures in
-    rw (c.in-Decode-None.is, c.in-Decode-None.sheet-is) record {
+    rw c.in-Decode.is record {
       does = (refl, it);
-      tells = it;
-      input = tt;
-      clock = refl;
-      idle = c.requires.mode;
-    }
-
-pub returns-in-Decode-Some : goal.returns-in-Decode-Some
-returns-in-Decode-Some g c =
-    let it = c.translate_beside.ensures in
-    rw (c.in-Decode-Some.is, c.in-Decode-Some.sheet-is) record {
-      does = (refl, it);
-      tells = unnamed it;
+      tells = tells_decode _ _ _ _ _ _ _ _ _ _ it;
       input = tt;
       clock = refl;
       idle = c.requires.mode;

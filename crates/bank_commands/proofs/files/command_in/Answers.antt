@@ -1,22 +1,16 @@
 use Rattle.std.proofs.Common.{◌≡◌, refl, rules, Err}
 use Rattle.command_line.specs.declared.fault.CommandFault.TheVariants.{Store}
 use Rattle.bank_commands.proofs.Told.{HasFile, clock_left, input_left, tells_idle}
-use Rattle.bank_commands.proofs.Unnamed.{unnamed}
+use Rattle.bank_commands.proofs.Unnamed.{tells_decode}
 use Rattle.bank_commands.proofs.files.command_in.Goals as goal
 
 pub returns-in-Encode : goal.returns-in-Encode
 returns-in-Encode g c =
     rw c.in-Encode.is record { tells = c.translate_sheet.ensures; input = tt; clock = refl }
 
-pub returns-in-Decode-None : goal.returns-in-Decode-None
-returns-in-Decode-None g c =
-    rw (c.in-Decode-None.is, c.in-Decode-None.sheet-is)
-    record { tells = c.translate_replies.ensures; input = tt; clock = refl }
-
-pub returns-in-Decode-Some : goal.returns-in-Decode-Some
-returns-in-Decode-Some g c =
-    rw (c.in-Decode-Some.is, c.in-Decode-Some.sheet-is)
-    record { tells = unnamed c.translate_beside.ensures; input = tt; clock = refl }
+pub returns-in-Decode : goal.returns-in-Decode
+returns-in-Decode g c =
+    rw c.in-Decode.is record { tells = tells_decode _ _ _ _ _ _ _ _ _ _ c.translate_replies.ensures; input = tt; clock = refl }
 
 pub returns-in-Why : goal.returns-in-Why
 returns-in-Why g c =

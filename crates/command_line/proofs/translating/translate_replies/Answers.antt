@@ -1,18 +1,7 @@
-use Rattle.std.proofs.Common.{refl}
 use Rattle.command_line.proofs.translating.translate_replies.Goals as goal
 
-pub returns-in-Ok : goal.returns-in-Ok
-returns-in-Ok g c = record {
-  replies = c.decode_replies.result;
-  decodes = c.decode_replies.ensures.decodes;
-  ends = c.decode_replies.ensures.ends;
-  ended = rw c.in-Ok.is refl;
-}
+pub returns-in-None : goal.returns-in-None
+returns-in-None g c = rw c.in-None.is c.translate_alone.ensures
 
-pub returns-in-Err : goal.returns-in-Err
-returns-in-Err g c = record {
-  replies = c.decode_replies.result;
-  decodes = c.decode_replies.ensures.decodes;
-  ends = c.decode_replies.ensures.ends;
-  ended = rw (c.in-Err.is, c.from.ensures) refl;
-}
+pub returns-in-Some : goal.returns-in-Some
+returns-in-Some g c = rw c.in-Some.is c.translate_beside.ensures
