@@ -4,6 +4,7 @@ pub mod EachOrdinal
 pub mod Telling
 pub mod OfTables
 pub mod Joined
+pub mod Below
 pub mod Written
 pub mod OneMore
 pub mod OfRows

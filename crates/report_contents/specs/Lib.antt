@@ -8,6 +8,7 @@ pub mod Ranges
 pub mod Queries
 pub mod Sheet
 pub mod StatementText
+pub mod AllStatements
 pub mod Written
 pub mod Sums
 pub mod Beside

@@ -43,6 +43,7 @@
 #![tactic(auto)]
 
 mod adding;
+mod all_statements;
 mod audit;
 mod audit_text;
 mod branches;
