@@ -19,12 +19,12 @@ pub record TellsDown (was_down told nothing_done : Type 0) : Type 0 where
   pub tried : told → was_down
   pub idle : told → nothing_done
 
--- rows of history were read, each with its reference, and written
-pub record ReadsRows {S : Type 0} (g : Ghosts S) (old new : Bank S g)
+-- rows of history were read, each with its reference, and visited by what takes memory or doesn't
+pub record ReadsRows {S : Type 0} (g : Ghosts S) (takes_memory : Type 0) (old new : Bank S g)
     (told : Result (Unit {0}) ReportFault) : Type 0 where
-  -- whether the account is open isn't asked, and no memory is taken
+  -- whether the account is open isn't asked
   pub found : told ≢ Err NoAccount
-  pub frugal : told ≢ Err (OfBank Memory)
+  pub frugal : told ≡ Err (OfBank Memory) → takes_memory
   -- Down is told of a bank that was down, and none goes down
   pub tried : told ≡ Err (OfBank Down) → (bank_seen g old).is_down
   pub up : (bank_seen g new).is_down → (bank_seen g old).is_down

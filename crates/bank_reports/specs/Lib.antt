@@ -10,3 +10,7 @@ pub mod Differing
 pub mod Leaving
 pub mod Audits
 pub mod Statements
+pub mod AllPostings
+pub mod Gathering
+pub mod Parts
+pub mod AllStatements

@@ -4,7 +4,7 @@ use Rattle.std.specs.Prelude.{map, length, Option, None, Some, Result, Ok, Err, 
 use Rattle.std.specs.Io.KnownBytes.{Appends}
 use Rattle.sqlite.specs.Effect.{Database}
 use Rattle.message_records.specs.declared.limits.TheConstants.{MAX_BALANCE}
-use Rattle.posting_rules.specs.declared.fault.Fault.TheVariants.{Memory, Store, Down, Damaged}
+use Rattle.posting_rules.specs.declared.fault.Fault.TheVariants.{Store, Down, Damaged}
 use Rattle.posting_rules.specs.declared.fault.Rule.{Rule}
 use Rattle.posting_rules.specs.declared.fault.Rule.TheVariants.{Balance, Value}
 use Rattle.posting_rules.specs.believed.Laws.{total}
@@ -47,27 +47,33 @@ WritesLine form s before old new (Err _) = ⊥
 abbrev pub StopsAtRow : List Pair → Rule → Type 0
 StopsAtRow rest broken = (p : Pair) × (more : List Pair) × (rest ≡ p ∷ more) × BreaksStated broken p
 
+-- why rows that are read are reported as damaged: that, or there are 2^64 - 1 rows
+abbrev pub WhyStopped : List StatedPosting → List Pair → Rule → Type 0
+WhyStopped given rest broken = StopsAtRow rest broken ⊎ ((broken ≡ Value) × (2 ^ 64 - 1 ≤ length given))
+
+-- why the rest wasn't read
+abbrev pub WhyRead : List StatedPosting → List Pair → Result (Unit {0}) ReportFault → Type 0
+WhyRead given rest (Ok done) = rest ≡ []
+WhyRead given rest (Err (Bank Store)) = ⊤
+WhyRead given rest (Err (Bank Down)) = ⊤
+WhyRead given rest (Err (Bank (Damaged rule))) = WhyStopped given rest rule
+WhyRead given rest (Err _) = ⊥
+
 -- the balance after the first row that wasn't given is out of its limits
 abbrev pub StopsAtBalance : List StatedPosting → List Pair → Type 0
 StopsAtBalance given rest =
     (s : StatedPosting) × (more : List Pair) × (rest ≡ stated_pair s ∷ more)
     × (MAX_BALANCE < nat_abs (sum_of given +ℤ delta_of s))
 
--- why rows are reported as damaged: that, or there are 2^64 - 1 rows
+-- why rows that are stated are: so they are as they are read, or a balance is out of its limits
 abbrev pub WhyDamaged : List StatedPosting → List Pair → Rule → Type 0
-WhyDamaged given rest broken =
-    StopsAtRow rest broken ⊎ ((broken ≡ Balance) × StopsAtBalance given rest)
-    ⊎ ((broken ≡ Value) × (2 ^ 64 - 1 ≤ length given))
+WhyDamaged given rest broken = WhyStopped given rest broken ⊎ ((broken ≡ Balance) × StopsAtBalance given rest)
 
 -- why the rest wasn't given
 abbrev pub Why : List StatedPosting → List Pair → Result (Unit {0}) ReportFault → Type 0
-Why given rest (Ok done) = rest ≡ []
-Why given rest (Err NoAccount) = ⊥
 Why given rest (Err Write) = ⊤
-Why given rest (Err (Bank Memory)) = ⊥
-Why given rest (Err (Bank Store)) = ⊤
-Why given rest (Err (Bank Down)) = ⊤
 Why given rest (Err (Bank (Damaged rule))) = WhyDamaged given rest rule
+Why given rest other = WhyRead given rest other
 
 -- all of a text was written, or at a fault a prefix of it
 abbrev pub WritesText : {E : Type 0} → List ℕ → Option (List ℕ) → Option (List ℕ)

@@ -29,7 +29,13 @@ postings_to a (e ∷ es) =
     then postings_to a es ++ stated_of (length es + 1) e ∷ []
     else postings_to a es
 
--- their lines in a form, each with the account's balance after it
+-- all postings, the oldest first
+abbrev pub all_postings : List DecidedRequest → List StatedPosting
+all_postings [] = []
+all_postings (e ∷ es) =
+    if is_posted e then all_postings es ++ stated_of (length es + 1) e ∷ [] else all_postings es
+
+-- the lines of an account's in a form, each with the account's balance after it
 abbrev pub lines_to : Form → ℕ → List DecidedRequest → List (List ℕ)
 lines_to form a [] = []
 lines_to form a (e ∷ es) =

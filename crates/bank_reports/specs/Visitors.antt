@@ -11,7 +11,7 @@ use Rattle.report_contents.specs.declared.range_sums.RangeSums.{RangeSums}
 use Rattle.bank_reports.specs.declared.fault.ReportFault.{ReportFault}
 use Rattle.bank_reports.specs.declared.fault.ReportFault.TheVariants.{Write}
 use Rattle.bank_reports.specs.declared.visitors.Lines.{Lines}
-use Rattle.bank_reports.specs.Postings.{Why, WritesLine, form_lines, sum_of}
+use Rattle.bank_reports.specs.Postings.{WhyRead, WritesLine, form_lines, sum_of}
 
 -- ---- sums
 
@@ -48,8 +48,7 @@ pub record EndsReading {V : Type 0} (Visited : Option (List ℕ) → List Stated
     (old new : Option (List ℕ)) (now : V) (given : List StatedPosting) (rest : List Pair)
     (result : Result (Unit {0}) ReportFault) : Type 0 where
   pub visited : Visited old given now new
-  pub why : Why given rest result
-  pub read : result ≢ Err Write
+  pub why : WhyRead given rest result
 
 -- the first that is left was refused
 pub record EndsRefused

@@ -48,10 +48,13 @@ mod additions;
 mod audits;
 mod fault;
 mod gathered;
+mod gathering;
 mod lines;
+mod parts;
 mod passes;
 mod postings;
 mod statement;
+mod statements;
 mod sums;
 mod visitors;
 
@@ -61,3 +64,4 @@ pub use report_contents::{
     Audit, BranchLine, BranchLines, Layout, Query, Range, Selection, WriteFault, write_audit,
 };
 pub use statement::{write_selected, write_statement};
+pub use statements::write_statements;

@@ -1,19 +1,22 @@
-//! Visits to the postings of an account.
-ghost use Rattle.std.specs.Prelude.{◌≡◌, [], List, Err, OnOk, Some, filter};
+//! Visits to the postings of an account, or of all.
+ghost use Rattle.std.specs.Prelude.{◌≡◌, [], List, Err, OnOk};
+ghost use Rattle.std.specs.Borrow.{sem, RestsIfErr};
 ghost use Rattle.sqlite.specs.State.{HasCleanDisk};
 ghost use Rattle.posting_core.specs.Told.{HasMore, HasWriteFailed};
 ghost use Rattle.store_rows.specs.believed.BankTables.{history as history_table, reference as reference_table};
-ghost use Rattle.walked_rows.specs.Pairs.{HasPairs, Pair};
-ghost use Rattle.walked_rows.specs.Stored.{is_stated_of};
+ghost use Rattle.walked_rows.specs.Pairs.{HasPairs, Pair, pair_key};
+ghost use Rattle.walked_rows.specs.Stored.{is_stated_of, stated_pair};
 ghost use Rattle.bank_store.specs.believed.Seen.{database_of, file_of};
-ghost use Rattle.bank_store.specs.Walking.{HasToldFault, lent, lent_state, loan_of, postings_to_come};
+ghost use Rattle.bank_store.specs.Walking.{BeginsWalk, HasToldFault, given_of, lent, lent_state, loan_of};
+ghost use Rattle.bank_store.specs.Walking.{postings_to_come};
+ghost use Rattle.bank_store.specs.contracts.bank.Bank.{the_row};
 ghost use Rattle.bank_reports.specs.declared.fault.ReportFault.TheVariants.{Write};
 ghost use Rattle.bank_reports.specs.Leaving.{ReadsRows};
 ghost use Rattle.bank_reports.specs.Visitors.{VisitsPostings};
 
 use crate::fault::ReportFault;
 use crate::visitors::Visitor;
-use bank_store::{Bank, Walk, history_of};
+use bank_store::{Bank, Walk, each_row, history_of};
 use message_records::Account;
 use posting_core::Sink;
 use posting_rules::{Fault, Rule};
@@ -33,7 +36,7 @@ fn visit_rows<S: Alter, V: Visitor, W: Sink>(
         → HasPairs (lent_state S.Store walk.old).now history_table reference_table rows
         → VisitsPostings V.Visited V.Refused visitor.old visitor.new (postings_to_come rows walk.old) (W.contents writer.old)
         (W.contents writer.new) result }
-    ensures reads { ReadsRows S.Store (lent walk.old) (lent walk.new) result }
+    ensures reads { ReadsRows S.Store V.TakesMemory (lent walk.old) (lent walk.new) result }
     ensures more { OnOk result (HasMore (W.told writer.old) (W.told writer.new)) }
     ensures failed { result ≡ Err Write → HasWriteFailed (W.told writer.old) (W.told writer.new) }
 {
@@ -46,22 +49,38 @@ fn visit_rows<S: Alter, V: Visitor, W: Sink>(
     Err(ReportFault::Bank(Fault::Damaged(Rule::Value)))
 }
 
-/// Visits an account's postings, by their ordinals. A fault of the rows leaves the bank as it was.
+// Begins a walk over the postings of an account, or over all.
+fn begin<S: Alter>(
+    bank: &mut Bank<S>,
+    of: Option<Account>,
+) -> Result<Walk<'_, S, StatedPosting>, Fault>
+    ensures* refused { sem 𝓛 (RestsIfErr (the_row S.row S.Store) bank.entry loan_of result
+        (λ last. last ≡ bank.old)) }
+    ensures begins { BeginsWalk S.Store pair_key stated_pair is_stated_of
+        (λ db pairs. HasPairs db history_table reference_table pairs) of bank.entry.ghost_name bank.old result }
+{
+    match of {
+        None => each_row(bank),
+        Some(account) => history_of(bank, account),
+    }
+}
+
+/// Visits an account's postings, by their ordinals, or all. A fault of the rows leaves the bank as it was.
 pub(crate) fn visit_postings<S: Alter, V: Visitor, W: Sink>(
     bank: &mut Bank<S>,
-    account: Account,
+    of: Option<Account>,
     visitor: &mut V,
     writer: &mut W,
 ) -> Result<(), ReportFault>
     requires none { V.Visited visitor.old (W.contents writer.old) [] visitor.old (W.contents writer.old) }
     ensures told { HasCleanDisk (file_of bank.new) → (rows : List Pair)
         → HasPairs (database_of S.Store bank.old) history_table reference_table rows
-        → VisitsPostings V.Visited V.Refused visitor.old visitor.new (filter (is_stated_of (Some account)) rows)
+        → VisitsPostings V.Visited V.Refused visitor.old visitor.new (given_of is_stated_of of rows)
         (W.contents writer.old) (W.contents writer.new) result }
-    ensures reads { ReadsRows S.Store bank.old bank.new result }
+    ensures reads { ReadsRows S.Store V.TakesMemory bank.old bank.new result }
     ensures more { OnOk result (HasMore (W.told writer.old) (W.told writer.new)) }
     ensures failed { result ≡ Err Write → HasWriteFailed (W.told writer.old) (W.told writer.new) }
 {
-    let mut walk = history_of(bank, account)?;
+    let mut walk = begin(bank, of)?;
     visit_rows(&mut walk, visitor, writer)
 }

@@ -36,14 +36,14 @@ fn write_lines<S: Alter, W: Sink>(
         → HasPairs (database_of S.Store bank.old) history_table reference_table rows
         → WritesStatement account form.now (filter (is_stated_of (Some account)) rows) (W.contents writer.old)
         (W.contents writer.new) result }
-    ensures reads { ReadsRows S.Store bank.old bank.new result }
+    ensures reads { ReadsRows S.Store ⊥ bank.old bank.new result }
     ensures flushed { OnOk result (EndsWith IsFlush (W.told writer.old) (W.told writer.new)) }
     ensures failed { result ≡ Err Write → HasWriteFailed (W.told writer.old) (W.told writer.new) }
 {
     put(writer, form.heading(account).as_str())?;
     put(writer, form.names().as_str())?;
     let mut lines = Lines::none(form);
-    visit_postings(bank, account, &mut lines, writer)?;
+    visit_postings(bank, Some(account), &mut lines, writer)?;
     put_last(writer, form.closing().as_str())?;
     Ok(())
 }
@@ -60,12 +60,12 @@ fn write_part<S: Alter, W: Sink>(
         → HasPairs (database_of S.Store bank.old) history_table reference_table rows
         → WritesPart account selection range (filter (is_stated_of (Some account)) rows) (W.contents writer.old)
         (W.contents writer.new) result }
-    ensures reads { ReadsRows S.Store bank.old bank.new result }
+    ensures reads { ReadsRows S.Store ⊥ bank.old bank.new result }
     ensures flushed { OnOk result (EndsWith IsFlush (W.told writer.old) (W.told writer.new)) }
     ensures failed { result ≡ Err Write → HasWriteFailed (W.told writer.old) (W.told writer.new) }
 {
     let mut sums = RangeSums::none(range);
-    visit_postings(bank, account, &mut sums, writer)?;
+    visit_postings(bank, Some(account), &mut sums, writer)?;
     let part = Form::of_sums(selection, &sums);
     write_lines(bank, account, &part, writer)
 }
@@ -82,7 +82,7 @@ fn write_open<S: Alter, W: Sink>(
         → HasPairs (database_of S.Store bank.old) history_table reference_table rows
         → WritesSelected account balance query (filter (is_stated_of (Some account)) rows) (W.contents writer.old)
         (W.contents writer.new) result }
-    ensures reads { ReadsRows S.Store bank.old bank.new result }
+    ensures reads { ReadsRows S.Store ⊥ bank.old bank.new result }
     ensures flushed { OnOk result (EndsWith IsFlush (W.told writer.old) (W.told writer.new)) }
     ensures failed { result ≡ Err Write → HasWriteFailed (W.told writer.old) (W.told writer.new) }
 {

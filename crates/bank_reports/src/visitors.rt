@@ -23,6 +23,9 @@ pub(crate) trait Visitor {
     ghost Refused: { Self → Option (List ℕ) → List StatedPosting → StatedPosting → ReportFault
         → Option (List ℕ) → Type 0 };
 
+    /// Whether it takes memory.
+    ghost TakesMemory: { Type 0 } = { ⊥ };
+
     /// Visits one more.
     fn visit<W: Sink>(&mut self, row: &StatedPosting, writer: &mut W) -> Result<(), ReportFault>
         requires { (first : Self) × (bytes : Option (List ℕ)) × (given : List StatedPosting)
@@ -31,7 +34,7 @@ pub(crate) trait Visitor {
             → Visited first bytes given self.old (W.contents writer.old) → MatchResult result
             (λ _. Visited first bytes (given ++ row.now ∷ []) self.new (W.contents writer.new))
             (λ fault. Refused first bytes given row.now fault (W.contents writer.new)) }
-        ensures faults { IfErr result IsRefusal }
+        ensures faults { IfErr result (IsRefusal TakesMemory) }
         ensures more { OnOk result (HasMore (W.told writer.old) (W.told writer.new)) }
         ensures failed { result ≡ Err Write → HasWriteFailed (W.told writer.old) (W.told writer.new) };
 }
