@@ -38,8 +38,8 @@
 //! | `AllocError` | of [`TellerSums::new`] and [`BranchSums::new`], which alone take memory: it was refused |
 //!
 //! `specs/Audit` says what the numbers of an audit are, `specs/AuditText`, `specs/StatementText` and `specs/Sheet` what
-//! is written, `specs/Queries` which postings a statement lists, and [`audit_tells_consistency`] that an audit is
-//! consistent exactly where the tables are.
+//! is written, `specs/AllStatements` what of all accounts, `specs/Queries` which postings a statement lists, and
+//! [`audit_tells_consistency`] that an audit is consistent exactly where the tables are.
 #![tactic(auto)]
 
 mod adding;
