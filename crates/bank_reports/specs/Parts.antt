@@ -1,6 +1,6 @@
 -- What of the statements of all accounts is written, part by part.
-use Rattle.std.specs.Prelude.{◌≡◌, ◌<◌, ◌+ℤ◌, ◌++◌, ◌∷◌, ℕ, nat_abs, List, Option, Result, Ok, Err, if◌then◌else◌}
-use Rattle.std.specs.List.{flat_map, list_any}
+use Rattle.std.specs.Prelude.{◌≡◌, ◌<◌, ◌+ℤ◌, ◌++◌, ◌∷◌, ℕ, nat_abs, List, Option, Result, Ok, Err}
+use Rattle.std.specs.{Bool.MatchBool, List.flat_map, List.list_any}
 use Rattle.std.specs.Io.KnownBytes.{Appends}
 use Rattle.message_records.specs.declared.limits.TheConstants.{MAX_BALANCE}
 use Rattle.posting_rules.specs.declared.fault.Fault.TheVariants.{Damaged}
@@ -55,8 +55,8 @@ WritesAccount query account rows =
 abbrev pub WritesListed : Query → ℕ → List StatedPosting → Option (List ℕ) → Option (List ℕ)
     → Result (Unit {0}) ReportFault → Type 0
 WritesListed query account rows old new result =
-    if list_any (is_selected query.selection) rows then WritesAccount query account rows old new result
-    else (result ≡ Ok tt) × (new ≡ old)
+    MatchBool (list_any (is_selected query.selection) rows) (WritesAccount query account rows old new result)
+    ((result ≡ Ok tt) × (new ≡ old))
 
 -- the statements of these accounts
 abbrev pub parts_text : Query → List StatedPosting → List ℕ → List ℕ

@@ -21,21 +21,23 @@ stated_of ordinal e = record {
 abbrev pub is_posted_to : ℕ → DecidedRequest → Bool
 is_posted_to a e = is_posted e && (e.request.account == a)
 
--- the postings to an account, the oldest first
+-- the postings of the requests that pass a test, the oldest first
+abbrev pub postings_that : (DecidedRequest → Bool) → List DecidedRequest → List StatedPosting
+postings_that test [] = []
+postings_that test (e ∷ es) =
+    if test e
+    then postings_that test es ++ stated_of (length es + 1) e ∷ []
+    else postings_that test es
+
+-- the postings to an account
 abbrev pub postings_to : ℕ → List DecidedRequest → List StatedPosting
-postings_to a [] = []
-postings_to a (e ∷ es) =
-    if is_posted_to a e
-    then postings_to a es ++ stated_of (length es + 1) e ∷ []
-    else postings_to a es
+postings_to a es = postings_that (is_posted_to a) es
 
--- all postings, the oldest first
+-- all postings
 abbrev pub all_postings : List DecidedRequest → List StatedPosting
-all_postings [] = []
-all_postings (e ∷ es) =
-    if is_posted e then all_postings es ++ stated_of (length es + 1) e ∷ [] else all_postings es
+all_postings es = postings_that is_posted es
 
--- the lines of an account's in a form, each with the account's balance after it
+-- the lines of an account in a form, each with the account's balance after it
 abbrev pub lines_to : Form → ℕ → List DecidedRequest → List (List ℕ)
 lines_to form a [] = []
 lines_to form a (e ∷ es) =

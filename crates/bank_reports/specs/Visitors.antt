@@ -1,6 +1,6 @@
 -- What the visitors of postings have done: old and new are the known bytes of the writer before the first posting and
 -- now.
-use Rattle.std.specs.Prelude.{◌≡◌, ◌≢◌, ◌⊎◌, ℕ, List, ◌∷◌, ◌++◌, map, Option, Result, Err}
+use Rattle.std.specs.Prelude.{◌≡◌, ◌≢◌, ◌⊎◌, ℕ, List, ◌∷◌, ◌++◌, map, Option, Result, Ok, Err}
 use Rattle.std.specs.Io.KnownBytes.{Appends}
 use Rattle.walked_rows.specs.declared.stated.StatedPosting.{StatedPosting}
 use Rattle.walked_rows.specs.Pairs.{Pair}
@@ -61,6 +61,14 @@ pub record EndsRefused
   pub fault : ReportFault
   pub is : result ≡ Err fault
   pub refusal : Refused old given row fault new
+
+-- whatever rows the file holds, some were visited, and then at a fault one may have been refused
+abbrev pub EndsVisits : {V : Type 0} (Visited : Option (List ℕ) → List StatedPosting → V → Option (List ℕ) → Type 0)
+    (Refused : Option (List ℕ) → List StatedPosting → StatedPosting → ReportFault → Option (List ℕ) → Type 0)
+    (old : Option (List ℕ)) (now : V) (new : Option (List ℕ)) → Result (Unit {0}) ReportFault → Type 0
+EndsVisits Visited Refused old now new (Ok done) = (given : List StatedPosting) × Visited old given now new
+EndsVisits Visited Refused old now new (Err fault) = (given : List StatedPosting)
+    × (Visited old given now new ⊎ ((row : StatedPosting) × Refused old given row fault new))
 
 -- of these rows the first were visited, and the rest weren't
 pub record VisitsPostings {V : Type 0} (Visited : V → Option (List ℕ) → List StatedPosting → V → Option (List ℕ) → Type 0)

@@ -1,8 +1,8 @@
 //! Postings of all accounts, gathered in memory.
-ghost use Rattle.std.specs.Prelude.{◌≡◌, ◌↔◌, ◌<◌, [], ℤ, All, IfOk, IsTrue, OnErr, filter, nat_abs};
-ghost use Rattle.std.specs.List.Sorted.{IsNonDecreasingBy};
-ghost use Rattle.report_contents.specs.AllStatements.{postings_of};
-ghost use Rattle.bank_reports.specs.AllPostings.{IsOfAccount};
+ghost use Rattle.std.specs.Prelude.{◌≡◌, [], All, IfErr, IfOk};
+ghost use Rattle.std.specs.Bool.{MatchBool};
+ghost use Rattle.posting_rules.specs.declared.fault.Fault.TheVariants.{Memory};
+ghost use Rattle.bank_reports.specs.AllPostings.{IsNoAccount, IsOfAccount};
 ghost use Rattle.bank_reports.specs.Gathering.{IsByAccount};
 
 use crate::fault::ReportFault;
@@ -21,10 +21,13 @@ pub(crate) struct Gathered {
 
 // Whether a posting is of an account, by its number.
 fn is_of_account(row: &StatedPosting) -> bool
-    ensures { IsTrue result ↔ IsOfAccount row.now }
+    ensures { MatchBool result (IsOfAccount row.now) (IsNoAccount row.now.posting.account) }
 {
     let number = row.posting.account;
-    1 <= number && number <= MAX_ACCOUNT as i64
+    if number < 1 {
+        return false;
+    }
+    number <= MAX_ACCOUNT as i64
 }
 
 impl Gathered {
@@ -39,8 +42,8 @@ impl Gathered {
 
     /// All of them by their accounts, those of each in the order in which they were visited.
     pub(crate) fn by_account(self) -> Result<Vec<StatedPosting>, Fault>
-        requires { All IsOfAccount self.entry.rows.items }
-        ensures sorted { IfOk result (λ rows. IsByAccount self.entry.rows.items rows.items) }
+        requires { All IsOfAccount self.rows.items }
+        ensures sorted { IfOk result (λ rows. IsByAccount self.rows.items rows.items) }
         ensures refused { IfErr result (λ fault. fault ≡ Memory) }
     {
         let mut rows = self.rows;

@@ -1,9 +1,9 @@
-//! The audit of a bank in a file, and the statement of one of its accounts.
+//! The audit of a bank in a file, the statement of one of its accounts, and those of all.
 //!
 //! [`audit`] reads every row of the bank once and returns the numbers that TPC-B clause 2 compares.
 //! [`write_statement`] writes the postings of an account by their ordinals, each with the balance after it
 //! and the reference of its request; [`write_selected`] those of a range of time or of a reference, in columns or as
-//! CSV. All take the rows as the file has them, damaged or not, and change none. The function `first_reports` of
+//! CSV; [`write_statements`] those of each account that has one, by rising accounts. All take the rows as the file has them, damaged or not, and change none. The function `first_reports` of
 //! `store_tests`, which a test runs, writes the statement of account 1 and the audit, and returns whether
 //! the books agree:
 //!
@@ -30,7 +30,7 @@
 //!
 //! | Error | What it means |
 //! |---|---|
-//! | `Memory` | of `audit` alone: memory was refused before the first row was read |
+//! | `Memory` | of `audit` before the first row was read; of `write_statements`, which has written nothing |
 //! | `Store` | a read failed: the disk did, or memory or steps were refused |
 //! | `Down` | the bank was down, and nothing was read |
 //! | `Damaged(Value)` | a number of a row is out of its column's range, so that the row can't be reported |
@@ -40,7 +40,7 @@
 //! | [`ReportFault::Write`] | the writer failed, or took no byte; a prefix of the text was written |
 //!
 //! A damaged bank is no error of `audit` as long as its rows can be read: `is_consistent` of its answer says
-//! so. `specs/Audits` and `specs/Statements` say what the two promise, of a bank and of any file,
+//! so. `specs/Audits`, `specs/Statements` and `specs/AllStatements` say what they promise, of a bank and of any file,
 //! `specs/Files` which rows are read, and `specs/StatedLines` what a statement is.
 #![tactic(auto)]
 

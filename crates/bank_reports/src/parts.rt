@@ -1,10 +1,10 @@
 //! The statements of accounts whose postings are gathered, one after another.
-ghost use Rattle.std.specs.Prelude.{◌≡◌, ◌∷◌, All, Err, OnOk, length};
-ghost use Rattle.std.specs.Str.{codes};
+ghost use Rattle.std.specs.Prelude.{◌≡◌, ◌++◌, All, Err, OnOk};
 ghost use Rattle.std.specs.List.Sorted.{IsNonDecreasingBy};
 ghost use Rattle.posting_core.specs.believed.Told.{EndsWith};
 ghost use Rattle.posting_core.specs.Told.{HasMore, HasWriteFailed, IsFlush};
 ghost use Rattle.report_contents.specs.AllStatements.{above_in};
+ghost use Rattle.report_contents.specs.StatementText.{heading_of, names_of};
 ghost use Rattle.bank_reports.specs.declared.fault.ReportFault.TheVariants.{Write};
 ghost use Rattle.bank_reports.specs.AllPostings.{IsOfAccount, WritesGathered};
 ghost use Rattle.bank_reports.specs.Gathering.{account_of};
@@ -30,8 +30,21 @@ fn write_each<W: Sink>(
 {
     let mut balance = Cents::zero();
     for row in rows {
-        balance = write_line(form, row, balance, writer)?;
+        let after = write_line(form, row, balance, writer)?;
+        balance = after;
     }
+    Ok(())
+}
+
+// Writes the heading of an account, and what stands below it.
+fn write_heading<W: Sink>(form: &Form, account: Account, writer: &mut W) -> Result<(), ReportFault>
+    ensures written { WritesAbove (heading_of form.now account ++ names_of form.now) (W.contents writer.old)
+        (W.contents writer.new) result }
+    ensures more { OnOk result (HasMore (W.told writer.old) (W.told writer.new)) }
+    ensures failed { result ≡ Err Write → HasWriteFailed (W.told writer.old) (W.told writer.new) }
+{
+    put(writer, form.heading(account).as_str())?;
+    put(writer, form.names().as_str())?;
     Ok(())
 }
 
@@ -47,11 +60,10 @@ fn write_above<W: Sink>(
     ensures more { OnOk result (HasMore (W.told writer.old) (W.told writer.new)) }
     ensures failed { result ≡ Err Write → HasWriteFailed (W.told writer.old) (W.told writer.new) }
 {
-    if let Layout::Columns = layout {
-        put(writer, form.heading(account).as_str())?;
-        put(writer, form.names().as_str())?;
+    match layout {
+        Layout::Sheet { .. } => Ok(()),
+        Layout::Columns => write_heading(form, account, writer),
     }
-    Ok(())
 }
 
 // Writes the statement of an account that has these postings.
@@ -123,8 +135,8 @@ pub(crate) fn write_gathered<W: Sink>(
     query: Query,
     writer: &mut W,
 ) -> Result<(), ReportFault>
-    requires { All IsOfAccount gathered.entry.rows.items }
-    ensures written { WritesGathered query gathered.entry.rows.items (W.contents writer.old) (W.contents writer.new)
+    requires { All IsOfAccount gathered.rows.items }
+    ensures written { WritesGathered query gathered.rows.items (W.contents writer.old) (W.contents writer.new)
         result }
     ensures flushed { OnOk result (EndsWith IsFlush (W.told writer.old) (W.told writer.new)) }
     ensures failed { result ≡ Err Write → HasWriteFailed (W.told writer.old) (W.told writer.new) }

@@ -12,7 +12,7 @@ ghost use Rattle.bank_store.specs.Walking.{postings_to_come};
 ghost use Rattle.bank_store.specs.contracts.bank.Bank.{the_row};
 ghost use Rattle.bank_reports.specs.declared.fault.ReportFault.TheVariants.{Write};
 ghost use Rattle.bank_reports.specs.Leaving.{ReadsRows};
-ghost use Rattle.bank_reports.specs.Visitors.{VisitsPostings};
+ghost use Rattle.bank_reports.specs.Visitors.{EndsVisits, VisitsPostings};
 
 use crate::fault::ReportFault;
 use crate::visitors::Visitor;
@@ -35,6 +35,8 @@ fn visit_rows<S: Alter, V: Visitor, W: Sink>(
     ensures told { HasCleanDisk (lent_state S.Store walk.new) → (rows : List Pair)
         → HasPairs (lent_state S.Store walk.old).now history_table reference_table rows
         → VisitsPostings V.Visited V.Refused visitor.old visitor.new (postings_to_come rows walk.old) (W.contents writer.old)
+        (W.contents writer.new) result }
+    ensures ends { EndsVisits (V.Visited visitor.old) (V.Refused visitor.old) (W.contents writer.old) visitor.new
         (W.contents writer.new) result }
     ensures reads { ReadsRows S.Store V.TakesMemory (lent walk.old) (lent walk.new) result }
     ensures more { OnOk result (HasMore (W.told writer.old) (W.told writer.new)) }
@@ -77,6 +79,8 @@ pub(crate) fn visit_postings<S: Alter, V: Visitor, W: Sink>(
         → HasPairs (database_of S.Store bank.old) history_table reference_table rows
         → VisitsPostings V.Visited V.Refused visitor.old visitor.new (given_of is_stated_of of rows)
         (W.contents writer.old) (W.contents writer.new) result }
+    ensures ends { EndsVisits (V.Visited visitor.old) (V.Refused visitor.old) (W.contents writer.old) visitor.new
+        (W.contents writer.new) result }
     ensures reads { ReadsRows S.Store V.TakesMemory bank.old bank.new result }
     ensures more { OnOk result (HasMore (W.told writer.old) (W.told writer.new)) }
     ensures failed { result ≡ Err Write → HasWriteFailed (W.told writer.old) (W.told writer.new) }
