@@ -7,10 +7,10 @@ use Rattle.report_contents.proofs.Written.{nothing_written, on_err_any}
 use Rattle.report_contents.specs.declared.audit.Audit.{Audit}
 use Rattle.bank_reports.specs.declared.fault.ReportFault.{ReportFault, TheVariants.Bank}
 use Rattle.bank_reports.specs.{Audits.Audits, Audits.HasAudited, StatedLines.statement_after, Postings.HasAnswered}
-use Rattle.bank_reports.specs.Statements.{StatesSelected}
+use Rattle.bank_reports.specs.{AllStatements.StatesAll, Statements.StatesSelected}
 use Rattle.report_contents.specs.declared.query.Query.{Query}
 use Rattle.bank_store.specs.Leaving.{TakesNone}
-use Rattle.bank_reports.proofs.{Further.error_is, ReportEnds.not_missing, ReportEnds.same_fault}
+use Rattle.bank_reports.proofs.{AllOnLogs.some_text, Further.error_is, ReportEnds.not_missing, ReportEnds.same_fault}
 
 -- one that shows a log isn't told to be damaged
 abbrev pub NeverSound : Seen → Seen → Fault → Type 0
@@ -43,7 +43,19 @@ unaudited old new told fault is sound takes = record {
   takes = takes;
 }
 
--- ---- a statement of which nothing was written
+-- ---- statements of which nothing was written
+
+pub unstated_all : (old new : Seen) (query : Query) (w : Option (List ℕ)) (told : Result (Unit {0}) ReportFault)
+    (fault : Fault) → told ≡ Err (Bank fault)
+    → NeverSound old new fault → TakesNone old new (HasAnswered told) → StatesAll old new query w w told
+unstated_all old new query w told fault is sound takes = record {
+  text = rw is tt;
+  part = on_err_any told (λ clean log s.
+      let some = some_text log s.commands query in (some.0, some.1, nothing_written w some.0));
+  found = not_missing told fault is;
+  sound = λ rule damaged. sound rule (same_fault told fault (Damaged rule) is damaged);
+  takes = takes;
+}
 
 pub unstated : (old new : Seen) (account : ℕ) (query : Query) (w : Option (List ℕ)) (told : Result (Unit {0}) ReportFault)
     (fault : Fault) → told ≡ Err (Bank fault)

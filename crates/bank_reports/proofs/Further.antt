@@ -5,7 +5,7 @@ use Rattle.std.specs.Prelude.{ℤ, ◌+ℤ◌}
 use Rattle.std.specs.Io.KnownBytes.{Appends}
 use Rattle.std.proofs.{KnownBytes.Appends-trans}
 use Rattle.std.proofs.lemmas.List.{map-append}
-use Rattle.posting_rules.specs.declared.fault.Fault.TheVariants.{Damaged}
+use Rattle.posting_rules.specs.declared.fault.Fault.TheVariants.{Damaged, Down, Memory, Store}
 use Rattle.posting_rules.specs.declared.fault.Rule.TheVariants.{Balance}
 use Rattle.walked_rows.specs.{declared.stated.StatedPosting.StatedPosting, Pairs.Pair}
 use Rattle.walked_rows.specs.Stored.{stated_pair}
@@ -15,9 +15,9 @@ use Rattle.report_contents.specs.declared.{form.Form.Form, range_sums.RangeSums.
 use Rattle.report_contents.proofs.Joined.{text_of-snoc}
 use Rattle.report_contents.proofs.Written.{same_all, same_part, then_part, whole_part}
 use Rattle.bank_reports.specs.declared.fault.ReportFault.{ReportFault}
-use Rattle.bank_reports.specs.declared.fault.ReportFault.TheVariants.{Write, Bank}
+use Rattle.bank_reports.specs.declared.fault.ReportFault.TheVariants.{Write, Bank, NoAccount}
 use Rattle.bank_reports.specs.declared.visitors.Lines.{Lines}
-use Rattle.bank_reports.specs.Postings.{Why, WritesLine, WritesText, delta_of, form_lines, sum_of}
+use Rattle.bank_reports.specs.Postings.{Why, WhyRead, WritesLine, WritesText, delta_of, form_lines, sum_of}
 use Rattle.bank_reports.specs.Refusals.{IsRefusal}
 use Rattle.bank_reports.specs.Visitors.{EndsReading, HasAdded, HasLined, RefusesLine, VisitsPostings, never_refused}
 use Rattle.bank_reports.proofs.Lined.{lines-snoc, sum_of-snoc}
@@ -31,7 +31,7 @@ error_is {A} {E} e f same = ap error_in same
     error_in (Err x) = x
 
 -- the text of one more
-text_more : (form : Form) (given : List StatedPosting) (r : StatedPosting)
+pub text_more : (form : Form) (given : List StatedPosting) (r : StatedPosting)
     → text_of (form_lines form given) ++ line_of form r (sum_of given +ℤ delta_of r)
     ≡ text_of (form_lines form (given ++ r ∷ []))
 text_more form given r =
@@ -69,7 +69,7 @@ module _ {first now : Lines} {old mid new : Option (List ℕ)} {given : List Sta
 
 -- a line ends so alone
 pub line_refusal : (form : Form) (r : StatedPosting) (before : ℤ) (old new : Option (List ℕ)) (fault : ReportFault)
-    → WritesLine form r before old new (Err fault) → IsRefusal fault
+    → WritesLine form r before old new (Err fault) → IsRefusal ⊥ fault
 line_refusal form r before old new Write ended = tt
 line_refusal form r before old new (Bank (Damaged Balance)) ended = tt
 line_refusal form r before old new other ended = absurd ended
@@ -112,11 +112,22 @@ line_err form all old given coming left mid new r is are before (Bank (Damaged B
   given = given;
   rest = coming;
   are = are;
-  why = inr (inl (refl, (r, left, is, wrote.1)));
+  why = inr (refl, (r, left, is, wrote.1));
   wrote = whole_part old new _
       (subst (λ (o : Option (List ℕ)). Appends old o (text_of (form_lines form given))) (sym wrote.0) before);
 }
 line_err form all old given coming left mid new r is are before other wrote = absurd wrote
+
+-- why no more was read is why no more was given
+pub why_read : (given : List StatedPosting) (rest : List Pair) (r : Result (Unit {0}) ReportFault)
+    → WhyRead given rest r → Why given rest r
+why_read given rest (Ok done) why = why
+why_read given rest (Err NoAccount) why = absurd why
+why_read given rest (Err Write) why = tt
+why_read given rest (Err (Bank Memory)) why = absurd why
+why_read given rest (Err (Bank Store)) why = tt
+why_read given rest (Err (Bank Down)) why = tt
+why_read given rest (Err (Bank (Damaged rule))) why = inl why
 
 -- all of a text, whatever ended it
 text_by : (text : List ℕ) (old new : Option (List ℕ)) (result : Result (Unit {0}) ReportFault) → Appends old new text
@@ -132,7 +143,7 @@ lines_told first now all old new result it = elim it.ends [
     given = it.given;
     rest = it.rest;
     are = it.are;
-    why = read.why;
+    why = why_read it.given it.rest result read.why;
     wrote = text_by _ old new result read.visited.wrote;
   }
   | inr ended ↦ subst (λ r. WritesPostings first.form all old new r) (sym ended.is)

@@ -16,3 +16,8 @@ pub mod LogFiles
 pub mod FaultsTold
 pub mod Visited
 pub mod ReadsThen
+pub mod ByAccount
+pub mod AllOnLogs
+pub mod Gathers
+pub mod LinesWritten
+pub mod TopWritten

@@ -9,7 +9,7 @@ use Rattle.walked_rows.specs.declared.stated.StatedPosting.{StatedPosting}
 use Rattle.report_contents.specs.StatementText.{line_of, lines_by}
 use Rattle.report_contents.specs.declared.form.Form.{Form}
 use Rattle.report_contents.proofs.OneMore.{total-snoc}
-use Rattle.bank_reports.specs.StatedLines.{is_posted_to, lines_to, postings_to, stated_of}
+use Rattle.bank_reports.specs.StatedLines.{is_posted_to, lines_to, postings_that, postings_to, stated_of}
 use Rattle.bank_reports.specs.Postings.{delta_of, sum_of}
 use Rattle.bank_reports.proofs.LogHistory.{EachWithin}
 
@@ -76,17 +76,17 @@ lines_are form a (e ∷ es) = last (is_posted_to a e) refl (lines_are form a es)
     last false is earlier = earlier
 
 -- so many at most
-pub few_postings : (a : ℕ) (es : List DecidedRequest) → length (postings_to a es) ≤ length es
-few_postings a [] = omega arith
-few_postings a (e ∷ es) = last (is_posted_to a e) (few_postings a es)
+pub few_postings : (test : DecidedRequest → Bool) (es : List DecidedRequest) → length (postings_that test es) ≤ length es
+few_postings test [] = omega arith
+few_postings test (e ∷ es) = last (test e) (few_postings test es)
   where
-    last : (b : Bool) → length (postings_to a es) ≤ length es
-        → length (cond b (postings_to a es ++ stated_of (length es + 1) e ∷ []) (postings_to a es))
+    last : (b : Bool) → length (postings_that test es) ≤ length es
+        → length (cond b (postings_that test es ++ stated_of (length es + 1) e ∷ []) (postings_that test es))
         ≤ length (e ∷ es)
     last true earlier = omega (
       arith,
       earlier,
-      length-append (postings_to a es)
+      length-append (postings_that test es)
           (stated_of (length es + 1) e ∷ []),
     )
     last false earlier = omega (arith, earlier)

@@ -27,7 +27,8 @@ use Rattle.report_contents.specs.StatementText.{heading_of, last_of, line_of, li
 use Rattle.report_contents.specs.StatementText.{stated_text}
 use Rattle.report_contents.specs.declared.form.Form.{Form}
 use Rattle.report_contents.proofs.Joined.{text_of-append}
-use Rattle.bank_reports.specs.StatedLines.{is_posted_to, postings_to, stated_of, statement_in}
+use Rattle.bank_reports.specs.StatedLines.{all_postings, is_posted_to, postings_that, postings_to, stated_of}
+use Rattle.bank_reports.specs.StatedLines.{statement_in}
 use Rattle.bank_reports.specs.Postings.{delta_of, form_lines, sum_of, text_so_far}
 use Rattle.bank_reports.proofs.{Read.posting_back, Read.posting_in, Lined.lines_are}
 use Rattle.bank_reports.proofs.LogHistory.{postings_of, postings_rise, postings_under}
@@ -101,6 +102,23 @@ history_of_account a (e ∷ es) = posted (is_posted e) (e.request.account == a) 
         ++ cond b (history_entry (history_row_of n e) ∷ []) []) (mine a e n ∙ is)
         ∙ append-nil (filter (is_of (Some a)) (map history_entry (postings_of es))) ∙ earlier
 
+history_of_all : (es : List DecidedRequest)
+    → map history_entry (postings_of es) ≡ map entry_of (all_postings es)
+history_of_all [] = refl
+history_of_all (e ∷ es) = posted (is_posted e) (history_of_all es)
+  where
+    n : ℕ
+    n = length es + 1
+
+    posted : (b : Bool) → map history_entry (postings_of es) ≡ map entry_of (all_postings es)
+        → map history_entry (cond b (postings_of es ++ history_row_of n e ∷ []) (postings_of es))
+        ≡ map entry_of (cond b (all_postings es ++ stated_of n e ∷ []) (all_postings es))
+    posted false earlier = earlier
+    posted true earlier =
+        map-append history_entry (postings_of es) (history_row_of n e ∷ [])
+        ∙ ap (λ l. l ++ history_entry (history_row_of n e) ∷ []) earlier
+        ∙ sym (map-append entry_of (all_postings es) (stated_of n e ∷ []))
+
 -- ---- their references
 
 -- the posting's ordinal is one of these requests', and its reference is that of the request
@@ -119,21 +137,22 @@ still_referenced e es s is = (omega (arith, is.0), rw away is.1)
       | inr f ↦ f
     ]
 
-each_referenced : (a : ℕ) (es : List DecidedRequest) → AllByRecursion (IsReferenced es) (postings_to a es)
-each_referenced a [] = tt
-each_referenced a (e ∷ es) =
-    last (is_posted_to a e)
-    (all_weaker (IsReferenced es) (IsReferenced (e ∷ es)) (still_referenced e es) (postings_to a es)
-    (each_referenced a es))
+each_referenced : (test : DecidedRequest → Bool) (es : List DecidedRequest)
+    → AllByRecursion (IsReferenced es) (postings_that test es)
+each_referenced test [] = tt
+each_referenced test (e ∷ es) =
+    last (test e)
+    (all_weaker (IsReferenced es) (IsReferenced (e ∷ es)) (still_referenced e es) (postings_that test es)
+    (each_referenced test es))
   where
     n : ℕ
     n = length es + 1
 
-    last : (b : Bool) → AllByRecursion (IsReferenced (e ∷ es)) (postings_to a es)
+    last : (b : Bool) → AllByRecursion (IsReferenced (e ∷ es)) (postings_that test es)
         → AllByRecursion (IsReferenced (e ∷ es))
-        (cond b (postings_to a es ++ stated_of n e ∷ []) (postings_to a es))
+        (cond b (postings_that test es ++ stated_of n e ∷ []) (postings_that test es))
     last true earlier =
-        all-append (IsReferenced (e ∷ es)) (postings_to a es) (stated_of n e ∷ []) earlier
+        all-append (IsReferenced (e ∷ es)) (postings_that test es) (stated_of n e ∷ []) earlier
         ((omega arith, rw (eq-eqb n n refl) refl), tt)
     last false earlier = earlier
 
@@ -210,13 +229,13 @@ prefix (g ∷ given) (p ∷ ps) rest same = next (prefix given ps rest (tails sa
 
 -- ---- the text
 
-text-append : (line_with : StatedPosting → ℤ → List ℕ) (before : ℤ) (rs more : List StatedPosting)
+pub lines-append : (line_with : StatedPosting → ℤ → List ℕ) (before : ℤ) (rs more : List StatedPosting)
     → lines_by line_with before (rs ++ more) ≡ lines_by line_with before rs
     ++ lines_by line_with (before +ℤ sum_of rs) more
-text-append line_with before [] more = ap (λ (z : ℤ). lines_by line_with z more) (omega (arith, ints))
-text-append line_with before (r ∷ rs) more =
+lines-append line_with before [] more = ap (λ (z : ℤ). lines_by line_with z more) (omega (arith, ints))
+lines-append line_with before (r ∷ rs) more =
     ap (λ l. line_with r (before +ℤ delta_of r) ∷ l)
-    (text-append line_with (before +ℤ delta_of r) rs more
+    (lines-append line_with (before +ℤ delta_of r) rs more
     ∙ ap (λ (z : ℤ). lines_by line_with (before +ℤ delta_of r) rs ++ lines_by line_with z more)
     (+ℤ_assoc before (delta_of r) (sum_of rs)))
 
@@ -235,7 +254,7 @@ module _ (a : ℕ) (form : Form) (given : List StatedPosting) where
       let lines = form_lines form given in
       let later = lines_by (line_of form) (pos 0 +ℤ sum_of given) (p ∷ more) in
       let all : lines ++ later ≡ form_lines form (given ++ p ∷ more) =
-      sym (text-append (line_of form) (pos 0) given (p ∷ more)) in (
+      sym (lines-append (line_of form) (pos 0) given (p ∷ more)) in (
         text_of (later ++ closing),
         ap (λ r. text_so_far a form given r ++ text_of (later ++ closing)) left
             ∙ ap (λ l. text_of (heading_of form a ∷ names_of form ∷ l) ++ text_of (later ++ closing))
@@ -270,4 +289,14 @@ account_rows db t log a in_file shows =
     ∙ ap (λ h. paired others (filter (is_of (Some a)) (map history_entry h)))
     (history_is db t log in_file shows)
     ∙ ap (paired others) (history_of_account a es)
-    ∙ pairs_are es t.references shows.rows.references (postings_to a es) (each_referenced a es)
+    ∙ pairs_are es t.references shows.rows.references (postings_to a es) (each_referenced (is_posted_to a) es)
+
+-- all postings in it
+pub all_rows : (db : Database) (t : Tables) (log : List Command) → Shows db t → AreTablesOf t log
+    → stated_rows t ≡ map stated_pair (all_postings (decided log))
+all_rows db t log in_file shows =
+    let es = decided log in
+    let others = map reference_entry t.references in
+    ap (λ h. paired others (map history_entry h)) (history_is db t log in_file shows)
+    ∙ ap (paired others) (history_of_all es)
+    ∙ pairs_are es t.references shows.rows.references (all_postings es) (each_referenced is_posted es)

@@ -12,11 +12,11 @@ use Rattle.bank_reports.specs.{declared.fault.ReportFault.ReportFault, Leaving.R
 use Rattle.bank_reports.proofs.Passed.{failed_later}
 
 module _ {S : Type 0} (g : Ghosts S) (old mid new : Bank S g) (told : Result (Unit {0}) ReportFault)
-    (first : ReadsRows g old mid (Ok tt)) (second : ReadsRows g mid new told) where
+    (first : ReadsRows g ⊥ old mid (Ok tt)) (second : ReadsRows g ⊥ mid new told) where
   clean_at : HasCleanDisk (file_of new) → HasCleanDisk (file_of mid)
   clean_at clean = clean_before (file_of mid) (file_of new) second.survives clean
 
-  pub reads_then : ReadsRows g old new told
+  pub reads_then : ReadsRows g ⊥ old new told
   reads_then = record {
     found = second.found;
     frugal = second.frugal;

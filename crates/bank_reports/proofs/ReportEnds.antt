@@ -1,5 +1,5 @@
 -- How a report ends: never in two ways, and what the refusal that ended it says.
-use Rattle.std.proofs.Common.{◌≡◌, ℕ, zero, suc, List, [], take, Ok, Err, Result, refl, subst}
+use Rattle.std.proofs.Common.{◌≡◌, ℕ, zero, suc, Bool, true, false, List, [], take, Ok, Err, Result, refl, subst}
 use Rattle.std.specs.Prelude.{OnErr, OnOk}
 use Rattle.posting_rules.specs.{declared.fault.Fault.Fault, declared.fault.Rule.Rule, believed.Commands.Command}
 use Rattle.posting_rules.specs.{believed.Runs.followed_by, believed.Tables.AreTablesOf}
@@ -16,6 +16,10 @@ of_ok (Err e) f = tt
 pub of_err : {E P : Type 0} (r : Result (Unit {0}) E) → ((e : E) → r ≡ Err e → P) → OnErr r P
 of_err (Ok x) f = tt
 of_err (Err e) f = f e refl
+
+-- a bank that was tested and found up wasn't down
+pub tested_up : (tested is_down : Bool) → tested ≡ is_down → tested ≡ false → is_down ≡ true → ⊥
+tested_up tested is_down same up down = cc
 
 -- a report that the bank's fault ended wasn't ended by anything else
 pub not_missing : (r : Result (Unit {0}) ReportFault) (e : Fault) → r ≡ Err (Bank e) → r ≡ Err NoAccount → ⊥

@@ -26,9 +26,9 @@ use Rattle.report_contents.specs.declared.query.{Query.Query, Selection.Selectio
 use Rattle.report_contents.specs.declared.range.Range.{Range}
 use Rattle.report_contents.proofs.Written.{first_part, nothing_written, same_all, same_part}
 use Rattle.bank_reports.specs.declared.fault.ReportFault.{ReportFault, TheVariants.Bank}
-use Rattle.bank_reports.specs.StatedLines.{form_after, is_posted_to, postings_to, stated_of, statement_after}
+use Rattle.bank_reports.specs.StatedLines.{form_after, is_posted_to, postings_that, postings_to, stated_of, statement_after}
 use Rattle.bank_reports.specs.StatedLines.{statement_in}
-use Rattle.bank_reports.specs.Postings.{StopsAtBalance, StopsAtRow, Why, WhyDamaged, WritesLaid, WritesSelected}
+use Rattle.bank_reports.specs.Postings.{StopsAtBalance, StopsAtRow, Why, WhyDamaged, WhyStopped, WritesLaid, WritesSelected}
 use Rattle.bank_reports.specs.Postings.{WritesStatement}
 use Rattle.bank_reports.specs.Postings.{delta_of, sum_of}
 use Rattle.bank_reports.specs.Postings.{text_so_far}
@@ -43,15 +43,16 @@ abbrev IsReadable : StatedPosting → Type 0
 IsReadable s = (1 ≤ s.posting.ordinal) × (s.posting.ordinal ≤ MAX_DECIDED) × (s.posting.moment ≤ MAX_MOMENT)
     × IfSome s.reference IsReference
 
-readable : (a : ℕ) (es : List DecidedRequest) → AreSound es → AllByRecursion IsReadable (postings_to a es)
-readable a [] sound = tt
-readable a (e ∷ es) sound = last (is_posted_to a e) (few_enough (e ∷ es) sound) (readable a es sound.2)
+readable : (test : DecidedRequest → Bool) (es : List DecidedRequest) → AreSound es
+    → AllByRecursion IsReadable (postings_that test es)
+readable test [] sound = tt
+readable test (e ∷ es) sound = last (test e) (few_enough (e ∷ es) sound) (readable test es sound.2)
   where
-    last : (b : Bool) → length (e ∷ es) ≤ MAX_DECIDED → AllByRecursion IsReadable (postings_to a es)
+    last : (b : Bool) → length (e ∷ es) ≤ MAX_DECIDED → AllByRecursion IsReadable (postings_that test es)
         → AllByRecursion IsReadable
-        (cond b (postings_to a es ++ stated_of (length es + 1) e ∷ []) (postings_to a es))
+        (cond b (postings_that test es ++ stated_of (length es + 1) e ∷ []) (postings_that test es))
     last true few earlier =
-        all-append IsReadable (postings_to a es) (stated_of (length es + 1) e ∷ []) earlier
+        all-append IsReadable (postings_that test es) (stated_of (length es + 1) e ∷ []) earlier
         ((omega arith, omega (arith, few), sound.0.moment, sound.0.request.reference), tt)
     last false few earlier = earlier
 
@@ -65,7 +66,7 @@ not_broken s broken can (inl own) =
     let it = sym (reads_posting s.posting can.0 can.1 can.2) ∙ own in cc
 not_broken s broken can (inr beside) = is_read s.posting.ordinal broken s.reference can.3 beside
 
-first_head : {X : Type 0} (x y : X) (xs ys : List X) → x ∷ xs ≡ y ∷ ys → x ≡ y
+pub first_head : {X : Type 0} (x y : X) (xs ys : List X) → x ∷ xs ≡ y ∷ ys → x ≡ y
 first_head {X} x y xs ys same = ap head same
   where
     head : List X → X
@@ -74,8 +75,8 @@ first_head {X} x y xs ys same = ap head same
 
 -- ---- what is told of damage
 
-module _ (a : ℕ) (log : List Command) (are : AreCommands log) (given more : List StatedPosting)
-    (is : postings_to a (decided log) ≡ given ++ more) where
+module _ (test : DecidedRequest → Bool) (log : List Command) (are : AreCommands log) (given more : List StatedPosting)
+    (is : postings_that test (decided log) ≡ given ++ more) where
   no_row : (left : List StatedPosting) → left ≡ more → (rest : List Pair) → rest ≡ map stated_pair left
       → (broken : Rule) → StopsAtRow rest broken → ⊥
   no_row [] same rest read broken stops = absurd (let e = sym stops.2 ∙ read in cc)
@@ -83,18 +84,25 @@ module _ (a : ℕ) (log : List Command) (are : AreCommands log) (given more : Li
       let e : stops.0 ≡ stated_pair s =
       first_head stops.0 (stated_pair s) stops.1 (map stated_pair left) (sym stops.2 ∙ read) in
       let all = subst (λ ss. AllByRecursion IsReadable ss) is
-      (readable a (decided log) (are_sound log are)) in
+      (readable test (decided log) (are_sound log are)) in
       let after : AllByRecursion IsReadable (s ∷ left) =
       subst (λ ss. AllByRecursion IsReadable ss) (sym same) (all_after IsReadable given more all) in
       not_broken s broken after.0 (subst (λ p. BreaksStated broken p) e stops.3)
 
   not_many : 2 ^ 64 - 1 ≤ length given → ⊥
   not_many many =
-      let few = few_postings a (decided log) in
+      let few = few_postings test (decided log) in
       let fewer = few_enough (decided log) (are_sound log are) in
       let count = ap (λ l. length l) is ∙ length-append given more in
       omega (arith, many, few, fewer, count)
 
+  -- they are read to the end
+  pub no_stop : (rest : List Pair) (rule : Rule) → rest ≡ map stated_pair more → WhyStopped given rest rule → ⊥
+  no_stop rest rule read (inl row) = no_row more refl rest read rule row
+  no_stop rest rule read (inr many) = not_many many.1
+
+module _ (a : ℕ) (log : List Command) (are : AreCommands log) (given more : List StatedPosting)
+    (is : postings_to a (decided log) ≡ given ++ more) where
   no_balance : (left : List StatedPosting) → left ≡ more → (rest : List Pair) → rest
       ≡ map stated_pair left → StopsAtBalance given rest → ⊥
   no_balance [] same rest read broken = absurd (let e = sym broken.2 ∙ read in cc)
@@ -112,9 +120,8 @@ module _ (a : ℕ) (log : List Command) (are : AreCommands log) (given more : Li
 
   no_damage : (rest : List Pair) (rule : Rule) → rest ≡ map stated_pair more
       → WhyDamaged given rest rule → ⊥
-  no_damage rest rule read (inl row) = no_row more refl rest read rule row
-  no_damage rest rule read (inr (inl balance)) = no_balance more refl rest read balance.1
-  no_damage rest rule read (inr (inr many)) = not_many many.1
+  no_damage rest rule read (inl stop) = no_stop (is_posted_to a) log are given more is rest rule read stop
+  no_damage rest rule read (inr balance) = no_balance more refl rest read balance.1
 
 -- ---- what is told of the whole
 

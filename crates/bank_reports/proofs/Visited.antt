@@ -9,23 +9,24 @@ use Rattle.store_rows.specs.believed.BankTables.{history as history_table, refer
 use Rattle.walked_rows.specs.{declared.stated.StatedPosting.StatedPosting, Pairs.HasPairs, Pairs.Pair}
 use Rattle.walked_rows.specs.Stored.{BreaksStated, stated_pair}
 use Rattle.bank_store.specs.Walking.{Steps}
-use Rattle.bank_reports.specs.declared.fault.ReportFault.{ReportFault, TheVariants.Bank, TheVariants.Write}
-use Rattle.bank_reports.specs.{Postings.Why, Refusals.IsRefusal, Visitors.VisitsPostings}
+use Rattle.bank_reports.specs.declared.fault.ReportFault.{ReportFault, TheVariants.Bank}
+use Rattle.bank_reports.specs.{Postings.WhyRead, Refusals.IsRefusal, Visitors.VisitsPostings}
 use Rattle.bank_reports.proofs.Further.{are_more, error_is}
 
 -- why a step gave no row
 pub step_why : (given : List StatedPosting) (coming after : List Pair) (fault : Fault)
     → Steps {R = StatedPosting} stated_pair BreaksStated coming after (Err fault)
-    → Why given coming (Err (Bank fault))
+    → WhyRead given coming (Err (Bank fault))
 step_why given coming after Memory told = absurd told
 step_why given coming after Store told = tt
 step_why given coming after Down told = tt
 step_why given coming after (Damaged rule) told = inl told
 
 -- what ended the visits is a refusal, by whatever name
-pub refusal_is : (r : Result (Unit {0}) ReportFault) (e f : ReportFault) → r ≡ Err e → r ≡ Err f → IsRefusal e
-    → IsRefusal f
-refusal_is r e f one other is = subst IsRefusal (error_is e f (sym one ∙ other)) is
+pub refusal_is : (takes_memory : Type 0) (r : Result (Unit {0}) ReportFault) (e f : ReportFault) → r ≡ Err e
+    → r ≡ Err f → IsRefusal takes_memory e → IsRefusal takes_memory f
+refusal_is takes_memory r e f one other is =
+    subst (λ fault. IsRefusal takes_memory fault) (error_is e f (sym one ∙ other)) is
 
 -- of the rows of a file these were visited, so many, and those to come weren't
 pub record AreVisited {V : Type 0} (Visited : V → Option (List ℕ) → List StatedPosting → V → Option (List ℕ) → Type 0)
@@ -63,13 +64,13 @@ module _ {V : Type 0} (Visited : V → Option (List ℕ) → List StatedPosting 
         → Type 0) where
       -- the walk ended it
       pub end_reading : clean → (rows : List Pair) → HasPairs db history_table reference_table rows
-          → (result : Result (Unit {0}) ReportFault) → Why it.given (coming rows) result → (result ≡ Err Write → ⊥)
+          → (result : Result (Unit {0}) ReportFault) → WhyRead it.given (coming rows) result
           → VisitsPostings Visited Refused first now (all rows) old new result
-      end_reading c rows there result why read = record {
+      end_reading c rows there result why = record {
         given = it.given;
         rest = coming rows;
         are = it.are c rows there;
-        ends = inl (record { visited = it.visited; why = why; read = read });
+        ends = inl (record { visited = it.visited; why = why });
       }
 
       -- the visitor refused the next

@@ -1,5 +1,5 @@
 -- The audit of a file, and of one that shows a log.
-use Rattle.std.proofs.Common.{rules, ◌≡◌, Bool, Result, Ok, Err, false, true, refl, sym, ap, subst, ◌∙◌}
+use Rattle.std.proofs.Common.{rules, ◌≡◌, Result, Ok, Err, refl, sym, ap, subst, ◌∙◌}
 use Rattle.std.specs.Prelude.{◌↔◌, IsSome, IsTrue}
 use Rattle.sqlite.specs.{State.HasCleanDisk, Held.state}
 use Rattle.posting_rules.specs.{believed.Laws.IsConsistent, declared.fault.Fault.Fault}
@@ -12,17 +12,12 @@ use Rattle.report_contents.proofs.{OfRows.rows_tell, Telling.tells}
 use Rattle.bank_store.specs.believed.Seen.{bank_seen, database_of}
 use Rattle.bank_reports.specs.Files.{HasFile, rows_in}
 use Rattle.bank_reports.proofs.FaultsTold.{down_is_sound, memory_is_sound, unaudited}
-use Rattle.bank_reports.proofs.{Further.error_is, OncePosted.posted_once, Read.one_file, ReportEnds.not_ok}
+use Rattle.bank_reports.proofs.{Further.error_is, OncePosted.posted_once, Read.one_file, ReportEnds.not_ok, ReportEnds.tested_up}
 use Rattle.bank_reports.proofs.{audits.audit.Given.Over}
 use Rattle.bank_reports.proofs.LogFiles.{balanced, has_file, has_ordinals, not_damaged, tells_in_file}
 use Rattle.bank_store.proofs.AsFound.{idle_as_found, untouched_as_found}
 use Rattle.bank_store.proofs.ReadsLeave.{idle_takes, reads_take_none}
 use Rattle.bank_reports.proofs.audits.audit.Goals as goal
-
--- ---- a bank that was down, and one that wasn't
-
-tested_up : (tested is_down : Bool) → tested ≡ is_down → tested ≡ false → is_down ≡ true → ⊥
-tested_up tested is_down same up down = cc
 
 -- what is told with one fault is told with no other
 down_only : {A : Type 0} (r : Result A Fault) → r ≡ Err Down

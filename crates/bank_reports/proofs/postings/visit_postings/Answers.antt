@@ -1,10 +1,10 @@
 -- The postings that the walk gave were visited.
-use Rattle.std.proofs.Common.{rules, ◌≡◌, List, [], Err, Some, filter, refl, sym, subst, inl}
+use Rattle.std.proofs.Common.{rules, ◌≡◌, List, [], Err, refl, sym, subst, inl}
 use Rattle.sqlite.specs.{State.HasCleanDisk, Held.state}
-use Rattle.posting_rules.specs.declared.fault.Fault.TheVariants.{Down}
 use Rattle.store_rows.specs.believed.BankTables.{history as history_table, reference as reference_table}
 use Rattle.walked_rows.specs.{Pairs.HasPairs, Pairs.Pair, Stored.is_stated_of}
 use Rattle.bank_store.specs.believed.Seen.{bank_seen, connection_of, database_of}
+use Rattle.bank_store.specs.Walking.{given_of}
 use Rattle.bank_reports.specs.declared.fault.ReportFault.TheVariants.{Bank}
 use Rattle.bank_store.specs.Failures.{HasFailedToRead}
 use Rattle.bank_reports.specs.Visitors.{VisitsPostings}
@@ -21,15 +21,16 @@ returns-in_err-walk g c =
       told = λ clean rows has.
           rw (same, was.0) record {
             given = [];
-            rest = filter (is_stated_of (Some c.args.account)) rows;
+            rest = given_of is_stated_of c.args.of rows;
             are = refl;
-            ends = inl (record { visited = c.requires.none; why = tt; read = not_write _ Down refl });
+            ends = inl (record { visited = c.requires.none; why = tt });
           };
+      ends = rw same ([], inl c.requires.none);
       more = rw same tt;
       failed = λ write. absurd (not_write _ fault same write);
       reads = record {
         found = not_missing _ fault same;
-        frugal = λ is. down_not_memory _ fault same was.0 is;
+        frugal = λ is. absurd (down_not_memory _ fault same was.0 is);
         tried = λ is. was.1;
         store = λ is. absurd (down_not_store _ fault same was.0 is);
         still = λ clean written. absurd (rw same at written);
@@ -54,6 +55,7 @@ returns g c =
           subst (λ (all : List Pair). VisitsPostings g.V.Visitor.Visited g.V.Visitor.Refused c.args.visitor.now
           c.visit_rows.new.visitor all (g.W.Sink.contents c.args.writer.now) (g.W.Sink.contents c.visit_rows.new.writer)
           c.visit_rows.result) (begins.all rows has) (says.told late rows (there rows has));
+      ends = says.ends;
       more = says.more;
       failed = says.failed;
       reads = record {

@@ -1,5 +1,5 @@
 -- What ends the visits, and what one more leaves.
-use Rattle.std.proofs.Common.{rules, ◌≡◌, Ok, Err, refl, sym, ap, subst, inr, ◌∙◌, arith}
+use Rattle.std.proofs.Common.{rules, ◌≡◌, Ok, Err, refl, sym, ap, subst, inl, inr, ◌∙◌, arith}
 use Rattle.std.specs.Prelude.{IsSome}
 use Rattle.sqlite.specs.{State.HasCleanDisk, Held.state}
 use Rattle.posting_rules.specs.declared.fault.Fault.TheVariants.{Damaged, Down, Memory, Store}
@@ -48,13 +48,14 @@ returns-in_err-row g c =
           let there = still_has old mid history_table reference_table rows (it.still before) has in
           rw same (end_reading g.V.Visitor.Visited c.args.visitor.now (g.W.Sink.contents c.args.writer.now)
           old.now (λ rows. postings_to_come rows c.args.walk.now) it.visited g.V.Visitor.Refused before rows has (Err (Bank fault))
-          (step_why it.visited.given _ _ fault (c.in_err-row.ensures.told clean rows there))
-          (not_write _ fault refl));
+          (step_why it.visited.given _ _ fault (c.in_err-row.ensures.told clean rows there)));
+      ends = rw same (it.visited.given, inl it.visited.visited);
       more = rw same tt;
       failed = λ write. absurd (not_write _ fault same write);
       reads = record {
         found = not_missing _ fault same;
-        frugal = λ is. c.next.ensures.frugal (c.in_err-row.was ∙ ap Err (same_fault _ fault Memory same is));
+        frugal = λ is.
+            absurd (c.next.ensures.frugal (c.in_err-row.was ∙ ap Err (same_fault _ fault Memory same is)));
         tried = λ is.
             absurd (it.fresh (c.next.ensures.stage.down.1
             (rw (c.in_err-row.was, same_fault _ fault Down same is) refl)).0);
@@ -92,13 +93,13 @@ returns-in_default g c =
           let there = still_has old mid history_table reference_table rows (it.still before) has in
           end_reading g.V.Visitor.Visited c.args.visitor.now (g.W.Sink.contents c.args.writer.now)
           old.now (λ rows. postings_to_come rows c.args.walk.now) it.visited g.V.Visitor.Refused before rows has (Ok tt)
-          (rw c.in_default.is at (c.in_ok-row.ensures.told clean rows there)).0
-          (not_ok _ _ _ refl);
+          (rw c.in_default.is at (c.in_ok-row.ensures.told clean rows there)).0;
+      ends = (it.visited.given, it.visited.visited);
       more = it.more;
       failed = λ no. absurd (not_ok _ _ _ refl no);
       reads = record {
         found = not_ok _ _ _ refl;
-        frugal = not_ok _ _ _ refl;
+        frugal = λ no. absurd (not_ok _ _ _ refl no);
         tried = λ no. absurd (not_ok _ _ _ refl no);
         store = λ no. absurd (not_ok _ _ _ refl no);
         still = λ clean written. still clean;
@@ -129,7 +130,7 @@ returns-in_err-visit g c =
     let same : c.from_residual-in_err-visit.result ≡ Err fault = search rules in
     let says = c.in_err-visit.ensures in
     let refusal = λ (e : ReportFault) (is : c.from_residual-in_err-visit.result ≡ Err e).
-    refusal_is _ fault e same is says.faults in
+    refusal_is g.V.Visitor.TakesMemory _ fault e same is says.faults in
     let still = λ (clean : HasCleanDisk new).
     still_then old mid new (it.still (clean_before mid new quiet clean)) (c.in_ok-row.ensures.bank.same clean) in
     record {
@@ -141,6 +142,13 @@ returns-in_err-visit g c =
           old.now (λ rows. postings_to_come rows c.args.walk.now) it.visited g.V.Visitor.Refused before rows has _ c.in-Some.row _
           (rw c.in-Some.is at (c.in_ok-row.ensures.told clean rows there)) _ _ fault same
           (says.visited c.args.visitor.now (g.W.Sink.contents c.args.writer.now) it.visited.given it.visited.visited);
+      ends = rw same (
+        it.visited.given,
+        inr (
+          c.in-Some.row,
+          says.visited c.args.visitor.now (g.W.Sink.contents c.args.writer.now) it.visited.given it.visited.visited,
+        ),
+      );
       more = rw same tt;
       failed = λ is. later_failed it.more (says.failed (ap Err (error_is fault Write (sym same ∙ is))));
       reads = record {
@@ -192,12 +200,13 @@ returns g c =
       told = λ clean rows has.
           end_reading g.V.Visitor.Visited c.args.visitor.now (g.W.Sink.contents c.args.writer.now)
           old.now (λ rows. postings_to_come rows c.args.walk.now) it.visited g.V.Visitor.Refused clean rows has (Err (Bank (Damaged Value)))
-          (inr (inr (refl, omega (arith, it.visited.many, c.rows-test.false)))) (not_write _ (Damaged Value) refl);
+          (inr (refl, omega (arith, it.visited.many, c.rows-test.false)));
+      ends = (it.visited.given, inl it.visited.visited);
       more = tt;
       failed = λ write. absurd (not_write _ (Damaged Value) refl write);
       reads = record {
         found = not_missing _ (Damaged Value) refl;
-        frugal = damaged_not_memory _ Value refl;
+        frugal = λ is. absurd (damaged_not_memory _ Value refl is);
         tried = λ is. absurd (damaged_not_down _ Value refl is);
         store = λ is. absurd (damaged_not_store _ Value refl is);
         still = λ clean written. it.still clean;

@@ -11,7 +11,7 @@ use Rattle.report_contents.specs.Ranges.{HasSummed}
 use Rattle.report_contents.specs.StatementText.{part_of}
 use Rattle.report_contents.proofs.Written.{later_failed}
 use Rattle.bank_reports.specs.Postings.{WritesStatement}
-use Rattle.bank_reports.proofs.Further.{sums_read}
+use Rattle.bank_reports.proofs.Further.{sums_read, why_read}
 use Rattle.bank_reports.proofs.ReadsThen.{reads_then}
 use Rattle.bank_store.proofs.{ReadsLeave.clean_before, StepsKeep.still_has}
 use Rattle.bank_reports.proofs.statement.write_part.Goals as goal
@@ -37,7 +37,7 @@ returns-in_err-visit_postings g c =
             summed = it.given;
             rest = it.rest;
             are = it.are;
-            ends = inr (fault, refl, read.why, read.visited.silent);
+            ends = inr (fault, refl, why_read it.given it.rest (Err fault) read.why, read.visited.silent);
           };
       flushed = rw same tt;
       failed = λ write. says.failed (sym same ∙ write);

@@ -1,5 +1,5 @@
 -- The statement of an account of a bank that shows a log.
-use Rattle.std.proofs.Common.{rules, ◌≡◌, ◌∙◌, Bool, List, [], filter, Some, Err, false, true, refl, sym, ap, subst}
+use Rattle.std.proofs.Common.{rules, ◌≡◌, ◌∙◌, List, [], filter, Some, Err, refl, sym, ap, subst}
 use Rattle.std.proofs.Common.{inl, inr, arith}
 use Rattle.std.specs.Prelude.{IsSome}
 use Rattle.sqlite.specs.{State.HasCleanDisk, Held.state}
@@ -17,14 +17,11 @@ use Rattle.bank_reports.proofs.{Passed.failed_later, statement.write_selected.Gi
 use Rattle.bank_reports.proofs.OnLogs.{account_rows, has_stated, stated_rows}
 use Rattle.bank_reports.proofs.ReportEnds.{damaged_not_down, down_not_store, not_both, not_missing, not_write, of_err}
 use Rattle.bank_reports.proofs.ReportEnds.{of_ok, refused_before, refused_down, refused_leaves, refused_sound}
-use Rattle.bank_reports.proofs.ReportEnds.{same_fault, written_of}
+use Rattle.bank_reports.proofs.ReportEnds.{same_fault, tested_up, written_of}
 use Rattle.bank_store.proofs.{AsFound.commits_then, AsFound.idle_commits, ReadsLeave.idle_takes, ReadsLeave.reads_after}
 use Rattle.bank_transactions.proofs.Blamed.{comes}
 use Rattle.bank_reports.proofs.StatementReports.{ToldOfLog, log_part, log_sound, log_whole}
 use Rattle.bank_reports.proofs.statement.write_selected.Goals as goal
-
-tested_up : (tested is_down : Bool) → tested ≡ is_down → tested ≡ false → is_down ≡ true → ⊥
-tested_up tested is_down same up down = cc
 
 -- ---- a bank that was down
 
