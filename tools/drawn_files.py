@@ -7,8 +7,8 @@ third are then set back to version 1 or 2 by SQL, and migrated, with the rows th
 ways that are drawn too. To SQLite's library the file is sound, and the other table as it was. What `replay`, `digest`
 and `audit` say has to be to the byte what the oracle says, as has the status. Where a file agrees, a second bank is made
 from its plan and its records as the program gives them, which agrees too and keeps as many requests; then its postings
-get drawn moments, and what `statement` says of drawn days has to be what the oracle says. It needs the built program,
-and stands outside the gate.
+get drawn moments, and what `statement` and `statements` say of drawn days has to be what the oracle says. It needs the
+built program, and stands outside the gate.
 
     tools/drawn_files.py [FILES [SEED]]
 """
@@ -165,7 +165,7 @@ def draw_word(draw, *words):
 
 
 def state(file, draw):
-    """Statements of accounts whose postings have drawn moments, of drawn days in a drawn zone."""
+    """Statements of accounts whose postings have drawn moments, and of all accounts, of drawn days in a drawn zone."""
     first, days = draw.randrange(2_000_000_000), draw.choice([1, 400])
     by_sql(file, f"UPDATE history SET moment = {first} + abs(random()) % {days * DAY}")
     tables = oracle.tables_of(file)
@@ -181,6 +181,8 @@ def state(file, draw):
         words = [f"--{name}={word}" for name, word in options if word] + ["--csv"] * (layout == "csv")
         lines, status = oracle.statement(file, aid, first, last, zone, reference, layout)
         compare(file, ("statement", file, str(aid), *words), lines, status)
+        lines, status = oracle.statements(file, first, last, zone, reference, layout)
+        compare(file, ("statements", file, *words), lines, status)
 
 
 def main():

@@ -11,6 +11,8 @@ bank that runs, copy both files and ask the copy.
     tools/oracle.py FILE statement ACCOUNT FROM TO ZONE [REFERENCE [csv]]
                                 prints what `bank statement FILE ACCOUNT --from FROM --to TO --zone=ZONE` and so on
                                 prints; an empty word stands for an option that isn't given
+    tools/oracle.py FILE statements FROM TO ZONE [REFERENCE [csv]]
+                                prints what `bank statements FILE` with these options prints
     tools/oracle.py REPLIES decode [SHEET [words]]
                                 prints what `bank decode --sheet SHEET --words < REPLIES` and so on prints
 """
@@ -432,22 +434,28 @@ def sheet(rows):
     return text.getvalue().splitlines()
 
 
-def statement(file, aid, first="", last="", zone="", reference="", layout=""):
-    """What the bank prints of a statement of an account of a path, and its status."""
+# All moments, for the statements of all accounts where no days are asked for.
+ALL_TIME = (0, 253_402_300_800)
+
+SHEET_COLUMNS = ("account", "ordinal", "time", "teller", "branch", "amount", "balance", "reference")
+
+
+def asked(first, last, zone, reference):
+    """The seconds that are asked for, if days are; or what is wrong with the words."""
     span = range_of(first, last, zone) if first or last or zone else None
-    if isinstance(span, str):
-        return [f"bank: {span}"], 4
-    if reference and not is_reference(reference):
-        return ["bank: no reference in --reference"], 4
-    tables = tables_of(file)
-    if aid not in tables["account"]:
-        return [f"bank: no account {aid}"], 4
+    if reference and not isinstance(span, str) and not is_reference(reference):
+        return "no reference in --reference"
+    return span
+
+
+def stated(tables, aid, span, zone, reference):
+    """What a statement of an account has in columns, and its rows in a sheet."""
     rows = [(ordinal, *row) for ordinal, row in sorted(tables["history"].items()) if row[0] == aid]
     lines = [f"STATEMENT ACCOUNT {aid:012}",
              f"{'ordinal':>13} {'moment':>12} {'teller':>8} {'branch':>6} {'delta':>14} {'balance':>14} reference"]
     if span:
         lines.append(f"{'opening balance':<57} {sum(row[4] for row in rows if row[5] < span[0]):>14}")
-    balance, listed = 0, [("account", "ordinal", "time", "teller", "branch", "amount", "balance", "reference")]
+    balance, listed = 0, []
     ahead = ahead_of(zone) if zone else datetime.timedelta()
     for ordinal, _, tid, bid, delta, moment in rows:
         balance += delta
@@ -458,10 +466,33 @@ def statement(file, aid, first="", last="", zone="", reference="", layout=""):
         lines.append(f"{ordinal:>13} {moment:>12} {tid:>8} {bid:>6} {delta:>+14} {balance:>14}{shown}")
         listed.append((aid, ordinal, time_of(moment, ahead), tid, bid, decimals(delta), decimals(balance),
                        "".join(own).rstrip(" ")))
-    if layout == "csv":
-        return sheet(listed), 0
     closing = sum(row[4] for row in rows if row[5] < span[1]) if span else tables["account"][aid][0]
-    return [*lines, f"{'closing balance':<57} {closing:>14}"], 0
+    return [*lines, f"{'closing balance':<57} {closing:>14}"], listed
+
+
+def statement(file, aid, first="", last="", zone="", reference="", layout=""):
+    """What the bank prints of a statement of an account of a path, and its status."""
+    span = asked(first, last, zone, reference)
+    if isinstance(span, str):
+        return [f"bank: {span}"], 4
+    tables = tables_of(file)
+    if aid not in tables["account"]:
+        return [f"bank: no account {aid}"], 4
+    lines, listed = stated(tables, aid, span, zone, reference)
+    return sheet([SHEET_COLUMNS, *listed]) if layout == "csv" else lines, 0
+
+
+def statements(file, first="", last="", zone="", reference="", layout=""):
+    """The same of the statements of all accounts that have a posting which is asked for."""
+    span = asked(first, last, zone, reference)
+    if isinstance(span, str):
+        return [f"bank: {span}"], 4
+    tables = tables_of(file)
+    accounts = sorted({row[0] for row in tables["history"].values()})
+    parts = [stated(tables, aid, span or ALL_TIME, zone, reference) for aid in accounts]
+    if layout == "csv":
+        return sheet([SHEET_COLUMNS, *(row for _, listed in parts for row in listed)]), 0
+    return [line for lines, listed in parts if listed for line in lines], 0
 
 
 # ---- sheets of replies
@@ -588,6 +619,8 @@ def main():
         return
     if sys.argv[2:3] == ["statement"]:
         lines, status = statement(sys.argv[1], int(sys.argv[3]), *sys.argv[4:])
+    elif sys.argv[2:3] == ["statements"]:
+        lines, status = statements(sys.argv[1], *sys.argv[3:])
     elif sys.argv[2:3] == ["decode"]:
         lines, status = decode(sys.argv[1], *sys.argv[3:])
     elif len(sys.argv) > 2:
@@ -596,7 +629,7 @@ def main():
         lines, status = ([f"bank: no request {first}"], 4) if few else (digest_lines(requests[:first]), 0)
     else:
         lines, status = replay(sys.argv[1])
-    print("\n".join(lines), file=sys.stderr if status in (3, 4) else sys.stdout)
+    print("".join(line + "\n" for line in lines), end="", file=sys.stderr if status in (3, 4) else sys.stdout)
     sys.exit(status)
 
 
