@@ -21,9 +21,10 @@ use Rattle.command_line.proofs.Levels.{IsPlainLeaf, has_command, has_first, leve
 use Rattle.command_line.proofs.{Rows.HasValue, Stopped.IsNoHelp, Stopped.walk_stops}
 use Rattle.command_line.proofs.Shapes.{digest_is_plain, drive_is_plain, export_is_plain, file_and_account}
 use Rattle.command_line.proofs.Shapes.{file_and_address, file_and_after, file_and_numbers, file_and_plan}
-use Rattle.command_line.proofs.Shapes.{file_and_requests, follow_is_plain, load_is_plain, log_and_after, log_is_plain}
-use Rattle.command_line.proofs.Shapes.{one_file, one_is_plain, other_file, serve_is_plain, statement_is_plain}
-use Rattle.command_line.proofs.Shapes.{two_files, why_is_plain}
+use Rattle.command_line.proofs.Shapes.{file_and_query, file_and_requests, follow_is_plain, load_is_plain}
+use Rattle.command_line.proofs.Shapes.{log_and_after, log_is_plain, one_file, one_is_plain, other_file}
+use Rattle.command_line.proofs.Shapes.{serve_is_plain, statement_is_plain, statements_is_plain, two_files}
+use Rattle.command_line.proofs.Shapes.{why_is_plain}
 
 -- ---- the arguments of a command
 
@@ -93,7 +94,13 @@ one_completes name is = on_file (one_file name) (file_completes name is)
 why_completes : CompletesOnFile other_file
 why_completes words none = (
   has_text other_file words (codes "file") why_is_plain none (refl, refl),
-  inl (inr (inr (inr (inr (inr (inr refl)))))),
+  inl (inr (inr (inr (inr (inr (inr (inl refl))))))),
+)
+
+statements_completes : CompletesOnFile file_and_query
+statements_completes words none = (
+  has_text file_and_query words (codes "file") statements_is_plain none (refl, refl),
+  inl (inr (inr (inr (inr (inr (inr (inr refl))))))),
 )
 
 load_completes : CompletesOnFile two_files
@@ -226,26 +233,32 @@ each_completes name other = (
           (
             λ named. on_file file_and_account statement_completes,
             (
-              λ named. one_completes (codes "replay") (inr (inr (inr (inl refl)))),
+              λ named. on_file file_and_query statements_completes,
               (
-                λ named. on_file file_and_requests digest_completes,
+                λ named. one_completes (codes "replay") (inr (inr (inr (inl refl)))),
                 (
-                  λ named. on_file file_and_after export_completes,
+                  λ named. on_file file_and_requests digest_completes,
                   (
-                    λ named. on_file log_and_after log_completes,
+                    λ named. on_file file_and_after export_completes,
                     (
-                      λ named. one_completes (codes "plan") (inr (inr (inr (inr (inl refl))))),
+                      λ named. on_file log_and_after log_completes,
                       (
-                        λ named. on_file file_and_plan follow_completes,
+                        λ named. one_completes (codes "plan") (inr (inr (inr (inr (inl refl))))),
                         (
-                          λ named. on_file file_and_address serve_completes,
+                          λ named. on_file file_and_plan follow_completes,
                           (
-                            λ named. one_completes (codes "migrate") (inr (inr (inr (inr (inr (inl refl)))))),
+                            λ named. on_file file_and_address serve_completes,
                             (
-                              λ named. on_file other_file why_completes,
+                              λ named. one_completes (codes "migrate") (inr (inr (inr (inr (inr (inl refl)))))),
                               (
-                                λ named words none. inl refl,
-                                (λ named words none. inr (inl refl), (λ named. absurd (is_help name other named), tt)),
+                                λ named. on_file other_file why_completes,
+                                (
+                                  λ named words none. inl refl,
+                                  (
+                                    λ named words none. inr (inl refl),
+                                    (λ named. absurd (is_help name other named), tt),
+                                  ),
+                                ),
                               ),
                             ),
                           ),

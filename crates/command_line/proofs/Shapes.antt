@@ -3,7 +3,8 @@ use Rattle.std.proofs.Common.{◌≡◌, false, refl, arith, inl, inr}
 use Rattle.clap.specs.{Walk.Text, Simple.Shape, Simple.built_leaf, Simple.inherited, Simple.marked_built}
 use Rattle.clap.specs.Simple.{new_app, on_top, with_leaf_noted, with_rule}
 use Rattle.command_line.specs.CommandLine.{bank_app, digest_app, drive_app, export_app, file_rule, follow_app}
-use Rattle.command_line.specs.CommandLine.{load_app, log_app, serve_app, statement_app, why_app}
+use Rattle.command_line.specs.CommandLine.{load_app, log_app, serve_app, statement_app, statements_app}
+use Rattle.command_line.specs.CommandLine.{why_app}
 use Rattle.command_line.proofs.{Levels.IsPlainLeaf, Rows.ArePlainRules}
 
 -- a command of the program with what building adds to it
@@ -29,6 +30,10 @@ file_and_numbers = leaf_of drive_app.top
 -- `statement`, as built
 abbrev pub file_and_account : Shape
 file_and_account = leaf_of statement_app.top
+
+-- `statements`, as built
+abbrev pub file_and_query : Shape
+file_and_query = leaf_of statements_app.top
 
 -- `serve`, as built
 abbrev pub file_and_address : Shape
@@ -86,6 +91,24 @@ statement_is_plain = plain_leaf file_and_account (
             (inl (refl, omega arith), refl, tt),
             ((inr (inr (refl, refl)), refl, refl), ((inr (inl refl), refl, tt), tt)),
           ),
+        ),
+      ),
+    ),
+  ),
+) refl refl refl
+
+pub statements_is_plain : IsPlainLeaf file_and_query
+statements_is_plain = plain_leaf file_and_query (
+  (inl (refl, omega arith), refl, tt),
+  (
+    (inl (refl, omega arith), refl, tt),
+    (
+      (inl (refl, omega arith), refl, tt),
+      (
+        (inl (refl, omega arith), refl, tt),
+        (
+          (inl (refl, omega arith), refl, tt),
+          ((inr (inr (refl, refl)), refl, refl), ((inr (inl refl), refl, tt), tt)),
         ),
       ),
     ),

@@ -119,14 +119,25 @@ reference_rule = text_rule (codes "reference")
 abbrev pub csv_rule : Rule
 csv_rule = flag_rule (codes "csv")
 
--- `statement FILE ACCOUNT [--from DATE] [--to DATE] [--zone ZONE]`
-abbrev pub range_app : App
-range_app = with_rule (with_rule (with_rule (with_rule (with_rule (new_app (codes "statement")) file_rule)
-    account_rule) from_rule) to_rule) zone_rule
+-- the command with `[--from DATE] [--to DATE] [--zone ZONE]`
+abbrev pub with_days : App → App
+with_days app = with_rule (with_rule (with_rule app from_rule) to_rule) zone_rule
 
--- the same with `[--reference TEXT] [--csv]`
+-- the command with the options of a query: these, and `[--reference TEXT] [--csv]`
+abbrev pub with_query : App → App
+with_query app = with_rule (with_rule (with_days app) reference_rule) csv_rule
+
+-- `statement FILE ACCOUNT`
+abbrev pub account_app : App
+account_app = with_rule (with_rule (new_app (codes "statement")) file_rule) account_rule
+
+-- the same with the options of a query
 abbrev pub statement_app : App
-statement_app = with_rule (with_rule range_app reference_rule) csv_rule
+statement_app = with_query account_app
+
+-- `statements FILE` with the options of a query
+abbrev pub statements_app : App
+statements_app = with_query (with_rule (new_app (codes "statements")) file_rule)
 
 -- `replay FILE`
 abbrev pub replay_app : App
@@ -190,8 +201,9 @@ bank_alone = let bank = new_app (codes "bank") in record bank {
 
 -- the commands of `bank`, in the order of its help
 abbrev pub bank_commands : List App
-bank_commands = init_app ∷ load_app ∷ post_app ∷ drive_app ∷ audit_app ∷ statement_app ∷ replay_app ∷ digest_app
-    ∷ export_app ∷ log_app ∷ plan_app ∷ follow_app ∷ serve_app ∷ migrate_app ∷ why_app ∷ encode_app ∷ decode_app ∷ []
+bank_commands = init_app ∷ load_app ∷ post_app ∷ drive_app ∷ audit_app ∷ statement_app ∷ statements_app ∷ replay_app
+    ∷ digest_app ∷ export_app ∷ log_app ∷ plan_app ∷ follow_app ∷ serve_app ∷ migrate_app ∷ why_app ∷ encode_app
+    ∷ decode_app ∷ []
 
 -- the command line `bank` with these commands
 abbrev pub with_commands : App → List App → App

@@ -16,7 +16,7 @@ use Rattle.command_line.specs.declared.limits.TheConstants.{MAX_CONNECTIONS}
 use Rattle.command_line.specs.declared.reading.Command.{Command}
 use Rattle.command_line.specs.declared.reading.Command.TheVariants.{Audit, Decode, Digest, Drive, Encode, Export}
 use Rattle.command_line.specs.declared.reading.Command.TheVariants.{Follow, Init, Load, Log, Migrate, Plan, Post}
-use Rattle.command_line.specs.declared.reading.Command.TheVariants.{Replay, Serve, Statement, Why}
+use Rattle.command_line.specs.declared.reading.Command.TheVariants.{Replay, Serve, Statement, Statements, Why}
 
 -- the number that a text of digits spells; a plus may come before them
 abbrev pub number_of : Text → ℕ
@@ -97,6 +97,8 @@ IsCommandOf p (Drive file seed count) = (p.0 ≡ codes "drive") × IsText (codes
 IsCommandOf p (Audit file) = (p.0 ≡ codes "audit") × IsText (codes "file") p.1 file.now
 IsCommandOf p (Statement file account query) = (p.0 ≡ codes "statement") × IsText (codes "file") p.1 file.now
     × IsNumber (codes "account") p.1 account × (query ≡ query_in p.1)
+IsCommandOf p (Statements file query) = (p.0 ≡ codes "statements") × IsText (codes "file") p.1 file.now
+    × (query ≡ query_in p.1)
 IsCommandOf p (Replay file) = (p.0 ≡ codes "replay") × IsText (codes "file") p.1 file.now
 IsCommandOf p (Digest file requests) = (p.0 ≡ codes "digest") × IsText (codes "file") p.1 file.now
     × IsNumber (codes "requests") p.1 requests
@@ -127,10 +129,11 @@ AreInRange _ = ⊤
 abbrev pub IsReadFrom : List Text → Command → Type 0
 IsReadFrom words command = IsSomeAnd (subcommand_of bank_app words) (λ p. IsCommandOf p command)
 
--- the name is that of a command with a file alone
+-- the name is that of a command that has to have a file alone
 abbrev pub IsOfOneFile : Text → Type 0
 IsOfOneFile name = (name ≡ codes "init") ⊎ (name ≡ codes "post") ⊎ (name ≡ codes "audit") ⊎ (name ≡ codes "replay")
     ⊎ (name ≡ codes "plan") ⊎ (name ≡ codes "migrate") ⊎ (name ≡ codes "why")
+    ⊎ (name ≡ codes "statements")
 
 -- it is that of one with more, each of which has a value where it is required
 abbrev pub HasMoreValues : Text × List Row → Type 0

@@ -1,11 +1,11 @@
 //! The program's command line as `clap` gets it: its commands, their arguments, and the texts of help.
 ghost use Rattle.std.specs.Prelude.{◌≡◌, IfOk, codes, false};
 ghost use Rattle.clap.specs.Words.{App, Rule, app_of, new_app, rule_of, with_rule, with_subcommand};
-ghost use Rattle.command_line.specs.CommandLine.{IsApp, bank_alone, bank_app, decode_app, digest_app, drive_app};
-ghost use Rattle.command_line.specs.CommandLine.{export_app, file_rule, flag_rule, follow_app, init_app, load_app};
-ghost use Rattle.command_line.specs.CommandLine.{log_app, number_rule, optional_rule, range_app};
-ghost use Rattle.command_line.specs.CommandLine.{account_rule, required_rule, serve_app, statement_app, text_rule};
-ghost use Rattle.command_line.specs.CommandLine.{why_app};
+ghost use Rattle.command_line.specs.CommandLine.{IsApp, account_app, bank_alone, bank_app, decode_app, digest_app};
+ghost use Rattle.command_line.specs.CommandLine.{drive_app, export_app, file_rule, flag_rule, follow_app, init_app};
+ghost use Rattle.command_line.specs.CommandLine.{load_app, log_app, number_rule, optional_rule, required_rule};
+ghost use Rattle.command_line.specs.CommandLine.{serve_app, statement_app, statements_app, text_rule, why_app};
+ghost use Rattle.command_line.specs.CommandLine.{with_days, with_query};
 
 use crate::limits::MAX_CONNECTIONS;
 use crate::texts::{self, CommandTexts};
@@ -25,6 +25,7 @@ pub fn bank_command<'a>(alloc: Global) -> Result<Command<'a>, AllocError>
     let bank = with_command(bank, drive_command(alloc));
     let bank = with_command(bank, command_on_file(alloc, "audit", texts::AUDIT));
     let bank = with_command(bank, statement_command(alloc));
+    let bank = with_command(bank, statements_command(alloc));
     let bank = with_command(bank, command_on_file(alloc, "replay", texts::REPLAY));
     let bank = with_command(bank, digest_command(alloc));
     let bank = with_command(bank, export_command(alloc));
@@ -119,32 +120,50 @@ fn drive_command<'a>(alloc: Global) -> Result<Command<'a>, AllocError>
 fn statement_command<'a>(alloc: Global) -> Result<Command<'a>, AllocError>
     ensures { IfOk result (IsApp statement_app) }
 {
-    let statement = statement_of_range(alloc);
-    let reference = optional_text(alloc, "reference", "TEXT", texts::OF_REFERENCE);
-    let csv = flag(alloc, "csv", texts::AS_CSV);
-    with_argument(with_argument(statement, reference), csv)
-}
-
-// The same with no other option than days.
-fn statement_of_range<'a>(alloc: Global) -> Result<Command<'a>, AllocError>
-    ensures { IfOk result (IsApp range_app) }
-{
-    let statement = statement_of_all(alloc);
-    let from = optional_text(alloc, "from", "DATE", texts::FROM);
-    let to = optional_text(alloc, "to", "DATE", texts::TO);
-    let zone = optional_text(alloc, "zone", "ZONE", texts::ZONE);
-    with_argument(with_argument(with_argument(statement, from), to), zone)
+    with_query(alloc, statement_of_account(alloc))
 }
 
 // The same without options.
-fn statement_of_all<'a>(alloc: Global) -> Result<Command<'a>, AllocError>
-    ensures { IfOk result (IsApp (with_rule (with_rule (new_app (codes "statement")) file_rule) account_rule)) }
+fn statement_of_account<'a>(alloc: Global) -> Result<Command<'a>, AllocError>
+    ensures { IfOk result (IsApp account_app) }
 {
     let statement = command_on_file(alloc, "statement", texts::STATEMENT)?;
     let account = required_argument(alloc, "account", "ACCOUNT", texts::ACCOUNT).value_parser(
         ValueParser::unsigned(1, MAX_ACCOUNT),
     );
     statement.after_help(texts::STATEMENT_EXAMPLE).arg(account)
+}
+
+fn statements_command<'a>(alloc: Global) -> Result<Command<'a>, AllocError>
+    ensures { IfOk result (IsApp statements_app) }
+{
+    let statements = command_on_file(alloc, "statements", texts::STATEMENTS);
+    with_query(alloc, statements)
+}
+
+// The command with the options that say what a statement shows, where it could be made.
+fn with_query<'a>(
+    alloc: Global,
+    statement: Result<Command<'a>, AllocError>,
+) -> Result<Command<'a>, AllocError>
+    ensures { (app : App) → IfOk statement.entry (IsApp app) → IfOk result (IsApp (with_query app)) }
+{
+    let reference = optional_text(alloc, "reference", "TEXT", texts::OF_REFERENCE);
+    let csv = flag(alloc, "csv", texts::AS_CSV);
+    with_argument(with_argument(with_days(alloc, statement), reference), csv)
+}
+
+// The command with the options that say of which days.
+fn with_days<'a>(
+    alloc: Global,
+    statement: Result<Command<'a>, AllocError>,
+) -> Result<Command<'a>, AllocError>
+    ensures { (app : App) → IfOk statement.entry (IsApp app) → IfOk result (IsApp (with_days app)) }
+{
+    let from = optional_text(alloc, "from", "DATE", texts::FROM);
+    let to = optional_text(alloc, "to", "DATE", texts::TO);
+    let zone = optional_text(alloc, "zone", "ZONE", texts::ZONE);
+    with_argument(with_argument(with_argument(statement, from), to), zone)
 }
 
 fn digest_command<'a>(alloc: Global) -> Result<Command<'a>, AllocError>

@@ -51,6 +51,11 @@ pub enum Command<'a> {
         account: Account,
         query: Result<Query, QueryFault>,
     },
+    /// Write the statement of each account of the file's bank that has a posting which is asked for, if it is something.
+    Statements {
+        file: &'a str,
+        query: Result<Query, QueryFault>,
+    },
     /// Replay the file's bank.
     Replay {
         file: &'a str,
@@ -176,6 +181,10 @@ fn command_on_file<'a>(name: &str, values: &ArgMatches<'a>) -> Command<'a>
         "plan" => Command::Plan { file },
         "migrate" => Command::Migrate { file },
         "why" => Command::Why { file },
+        "statements" => {
+            let query = query_in(values);
+            Command::Statements { file, query }
+        }
         _ => command_with_values(name, file, values),
     }
 }

@@ -66,6 +66,39 @@ pub const STATEMENT_EXAMPLE: &str = "\
 Example:
   bank statement bank.db 100001";
 
+pub const STATEMENTS: CommandTexts = CommandTexts {
+    about: "List the postings of all accounts",
+    at_length: "\
+Write the statement of each account in the bank of FILE that has a posting to be
+listed, one after another by their numbers, as `bank statement` writes that of a
+range of days: between the balance before them and the balance at their end.
+
+With dates the postings of these days alone are listed, without dates all. With
+a reference those alone that have it: the balances stay those of the account
+and of the days, with all postings.",
+    details: "\
+Examples:
+  bank statements bank.db
+  bank statements bank.db --from 2026-11-01 --to 2026-11-30 > november
+  bank statements bank.db --reference 'RENT MAY' --csv > rent.csv
+
+Without dates the balance before is 0. A sheet has the names of its columns
+once: `bank help statement` has them, and how a zone is written. The postings
+of the bank are read into memory first.
+
+Statuses: 0 done, 2 no command, and with a line on standard error
+  3  store fault: FILE can't be used, is in use, or the disk failed: see
+     `bank help faults`
+  3  no memory: the machine refused memory, such as for the postings
+  3  write failed: standard output failed, or its reader has gone
+  3  damaged rule N: FILE has rows that no history could produce
+  4  no date in --from, no date in --to, no zone in --zone: it has to be as
+     2026-11-28, from 1970 to 9999, or as +01:00
+  4  --to is before --from
+  4  no reference in --reference: it has 1 to 20 bytes of printable ASCII
+  4  no bank, foreign tables, version N: FILE is no bank: see `bank help faults`",
+};
+
 pub const REPLAY: CommandTexts = CommandTexts {
     about: "Report whether the tables are what the rules give",
     at_length: "\

@@ -26,6 +26,9 @@ returns-in-migrate-clause-command c = (c.in-migrate.is, c.text_in-file.ensures)
 pub returns-in-why-clause-command : goal.returns-in-why-clause-command
 returns-in-why-clause-command c = (c.in-why.is, c.text_in-file.ensures)
 
+pub returns-in-statements-clause-command : goal.returns-in-statements-clause-command
+returns-in-statements-clause-command c = (c.in-statements.is, c.text_in-file.ensures, c.query_in-query.ensures)
+
 -- none of the names of a command with one file
 pub command_with_values-requires : goal.command_with_values-requires
 command_with_values-requires c = record {
@@ -36,7 +39,8 @@ command_with_values-requires c = record {
     | inl (inr (inr (inr (inl replay)))) ↦ absurd (c.in_default.not-replay replay)
     | inl (inr (inr (inr (inr (inl plan))))) ↦ absurd (c.in_default.not-plan plan)
     | inl (inr (inr (inr (inr (inr (inl migrate)))))) ↦ absurd (c.in_default.not-migrate migrate)
-    | inl (inr (inr (inr (inr (inr (inr why)))))) ↦ absurd (c.in_default.not-why why)
+    | inl (inr (inr (inr (inr (inr (inr (inl why))))))) ↦ absurd (c.in_default.not-why why)
+    | inl (inr (inr (inr (inr (inr (inr (inr statements))))))) ↦ absurd (c.in_default.not-statements statements)
     | inr more ↦ more
   ];
   file = c.text_in-file.ensures;
