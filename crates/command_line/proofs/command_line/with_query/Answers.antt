@@ -1,5 +1,5 @@
 -- Each argument is added in its turn.
-use Rattle.command_line.specs.CommandLine.{csv_rule, reference_rule, with_days}
+use Rattle.command_line.specs.CommandLine.{csv_rule, reference_rule}
 use Rattle.command_line.proofs.command_line.with_query.Goals as goal
 
 pub returns : goal.returns
