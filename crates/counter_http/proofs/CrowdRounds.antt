@@ -1,7 +1,7 @@
 -- Clients that are served at once, round by round.
 use Rattle.std.proofs.Common.{◌≡◌, ℕ, ◌+◌, ◌-◌, ◌^◌, ◌<◌, ◌≤◌, ◌⊎◌, suc, List, [], ◌∷◌, ◌++◌, length, map, take, Option, Some}
 use Rattle.std.proofs.Common.{Result, Ok, Err, refl, sym, ap, subst, ◌∙◌, append_assoc, append-nil, arith, inl, inr}
-use Rattle.std.specs.Prelude.{◌≢◌, None, Contains, AllPairs, IfErr, OnOk}
+use Rattle.std.specs.Prelude.{◌≢◌, None, Contains, AllPairs, IfErr, IsErr, OnOk, ⊤}
 use Rattle.std.specs.List.{AllByRecursion, AllZip, slice_get}
 use Rattle.std.proofs.Math.Seq.{take-append-add}
 use Rattle.std.proofs.lemmas.List.{length-append, length-map, Concat.flat_map-append}
@@ -21,33 +21,34 @@ use Rattle.posting_core.specs.believed.Clock.{AreReadings}
 use Rattle.posting_core.specs.Told.{HasMore}
 use Rattle.posting_core.specs.believed.Told.{GrowsBy}
 use Rattle.posting_core.proofs.{Stops.stop_all, StreamedBatches.all_more, StreamedBatches.takes_more, Telling.adds-none, Telling.more_more}
-use Rattle.counter_http.specs.Clients.{ClientsTold, Gave}
+use Rattle.counter_http.specs.Clients.{ClientsTold, Gave, given_up_told}
 use Rattle.counter_http.specs.Connections.{Known}
 use Rattle.counter_http.specs.together.Crowd.{Differ, GoesOn, HasLeft, HaveCome, HaveMoved, IsCrowd, IsHere, Scene, ServesRounds}
 use Rattle.counter_http.specs.together.Crowd.{WereRefused, all_numbers, fault_of_bank}
 use Rattle.counter_http.specs.together.Order.{AreFigured, CountsRounds, IsRound, Round, Step, readings_in, readings_of, steps_in}
 use Rattle.counter_http.specs.together.Order.{steps_of, submitted_by}
-use Rattle.counter_http.specs.together.Rounds.{AnswersRound, IsOfOneOf, fault_in, numbers}
+use Rattle.counter_http.specs.together.Rounds.{AnswersRound, IsOfOneOf, fault_in, given_up, numbers}
 use Rattle.counter_http.specs.together.Standing.{AreRefused, IsUpToDate, StandsHere, Writes, unread}
 use Rattle.counter_http.specs.together.Serving.{ClientIsRefused, EndsTogether, HasRefused, IfBank, IsCutOff, IsOfVisit, IsToldTo}
-use Rattle.counter_http.specs.together.Serving.{IsVisited, IsWhyRefused, OfOthers, ServesTogether, Visit, number_of}
+use Rattle.counter_http.specs.together.Serving.{IsVisited, IsVisitWhy, IsWhyRefused, OfOthers, ServesTogether, Visit, number_of}
 use Rattle.counter_http.specs.Figures.{nothing}
 use Rattle.counter_http.specs.declared.client.Client.{Client}
+use Rattle.counter_http.specs.declared.clients.Readiness.{Readiness}
 use Rattle.counter_http.specs.declared.figures.Figures.{Figures}
 use Rattle.counter_http.specs.declared.figures.Tally.{Tally}
 use Rattle.counter_http.specs.declared.listen_fault.ListenFault.{ListenFault}
 use Rattle.counter_http.specs.declared.listen_fault.ListenFault.TheVariants.{Network, Bank}
 use Rattle.counter_http.proofs.Beside.{served_beside}
 use Rattle.counter_http.proofs.Counted.{counts_none, figured_more, rounds_then}
-use Rattle.counter_http.proofs.Crowds.{all_first, all_last, all_stay, crowd_moved, each_weaker, moved_grows}
-use Rattle.counter_http.proofs.Crowds.{pairs_differ, refused_first, refused_last}
+use Rattle.counter_http.proofs.Crowds.{all_first, all_last, all_stay, crowd_moved, crowd_on, crowd_stops, crowd_waits, each_weaker}
+use Rattle.counter_http.proofs.Crowds.{moved_grows, none_given, pairs_differ, refused_first, refused_last}
 use Rattle.counter_http.proofs.ConnectionLoop.{unfinished_none}
 use Rattle.counter_http.proofs.Fronts.{going_of}
 use Rattle.counter_http.proofs.Readings.{number_read, read_here}
 use Rattle.counter_http.proofs.Refused.{refused_written}
 use Rattle.counter_http.proofs.Steps.{OfOther, submitted-append}
 use Rattle.counter_http.proofs.Turning.{readings_append}
-use Rattle.counter_http.proofs.Written.{given_up, number_written, written_here}
+use Rattle.counter_http.proofs.Written.{number_written, written_here}
 
 -- ---- each client on its own
 
@@ -69,9 +70,7 @@ goes_here : {R W : Type 0} {known : R × W → Known} {c c' : Seen} {steps : Lis
     → IsHere known c c' steps None [] calls new
 goes_here {known = known} {c} {c'} {steps} {calls} old new (inl same) is =
     subst (λ (x : Client _ _). IsHere known c c' steps None [] calls x) (sym same) is
-goes_here old new (inr (inl lost)) is =
-    here_as old new lost.number (λ k stands. given_up old new lost stands) (λ k stands told. tt) is
-goes_here old new (inr (inr served)) is =
+goes_here old new (inr served) is =
     here_as old new (number_read served.between new served.reads ∙ number_written old served.between served.writes)
     (λ k stands. read_here served.between new served.reads (written_here old served.between served.writes stands))
     (λ k stands told. tt) is
@@ -79,8 +78,7 @@ goes_here old new (inr (inr served)) is =
 goes_number : {R W : Type 0} {known : R × W → Known} (old new : Client R W) → GoesOn known old new
     → new.number ≡ old.number
 goes_number old new (inl same) = ap (λ (x : Client _ _). x.number) same
-goes_number old new (inr (inl lost)) = lost.number
-goes_number old new (inr (inr served)) =
+goes_number old new (inr served) =
     number_read served.between new served.reads ∙ number_written old served.between served.writes
 
 told_written : {R W : Type 0} (known : R × W → Known) (k : Known) (c c' : Seen) (steps : List Step) (fault : Option Fault)
@@ -118,11 +116,11 @@ all_by M P Q f (x ∷ xs) [] all h = absurd all
 all_by M P Q f (x ∷ xs) (y ∷ ys) all h = (f x y all.0 h.0, all_by M P Q f xs ys all.1 h.1)
 
 -- the same clients are here, and stand there
-pub crowd_as : {R W : Type 0} {known : R × W → Known} {g t : Option (List (ClientsTold (R × W)))} {c c' : Seen}
+pub crowd_as : {R W : Type 0} {stops : Type 0} {given : List ℕ} {known : R × W → Known} {g t : Option (List (ClientsTold (R × W)))} {c c' : Seen}
     {steps : List Step} {fault : Option Fault} {refused : List Step} {came : ℕ} {here : List (Client R W)} (here' : List (Client R W))
-    (crowd : IsCrowd known g c c' steps fault refused (record { told = t; came = came; here = here })) → numbers here' ≡ numbers here
+    (crowd : IsCrowd stops given known g c c' steps fault refused (record { told = t; came = came; here = here })) → numbers here' ≡ numbers here
     → AllByRecursion (IsHere known c c' steps fault refused crowd.calls) here'
-    → IsCrowd known g c c' steps fault refused (record { told = t; came = came; here = here' })
+    → IsCrowd stops given known g c c' steps fault refused (record { told = t; came = came; here = here' })
 crowd_as {steps = steps} {fault} {refused} {came} {here} here' crowd same stand =
     let all = ap (λ (ns : List ℕ). map number_of crowd.visits ++ ns) (sym same) in
     record {
@@ -131,6 +129,7 @@ crowd_as {steps = steps} {fault} {refused} {came} {here} here' crowd same stand 
       visits = crowd.visits;
       closed = crowd.closed;
       visited = crowd.visited;
+      to_give_up = crowd.to_give_up;
       are_here = stand;
       differ = subst Differ all crowd.differ;
       below = subst (λ (ns : List ℕ). AllByRecursion (λ (n : ℕ). n < came) ns) all crowd.below;
@@ -139,27 +138,27 @@ crowd_as {steps = steps} {fault} {refused} {came} {here} here' crowd same stand 
       many = subst (λ (ns : List ℕ). length ns ≡ came) all crowd.many;
     }
 
-pub crowd_goes : {R W : Type 0} {known : R × W → Known} {g t : Option (List (ClientsTold (R × W)))} {c c' : Seen}
+pub crowd_goes : {R W : Type 0} {stops : Type 0} {given : List ℕ} {known : R × W → Known} {g t : Option (List (ClientsTold (R × W)))} {c c' : Seen}
     {steps : List Step} {came : ℕ} (here here' : List (Client R W)) → AllZip (GoesOn known) here here'
-    → IsCrowd known g c c' steps None [] (record { told = t; came = came; here = here })
-    → IsCrowd known g c c' steps None [] (record { told = t; came = came; here = here' })
+    → IsCrowd stops given known g c c' steps None [] (record { told = t; came = came; here = here })
+    → IsCrowd stops given known g c c' steps None [] (record { told = t; came = came; here = here' })
 crowd_goes {known = known} {c = c} {c'} {steps} here here' goes crowd =
     crowd_as here' crowd (same_numbers (GoesOn known) goes_number here here' goes)
     (all_by (GoesOn known) (IsHere known c c' steps None [] crowd.calls) (IsHere known c c' steps None [] crowd.calls) goes_here here here'
     goes crowd.are_here)
 
-pub crowd_writes : {R W : Type 0} {known : R × W → Known} {g t : Option (List (ClientsTold (R × W)))} {c c' : Seen}
+pub crowd_writes : {R W : Type 0} {stops : Type 0} {given : List ℕ} {known : R × W → Known} {g t : Option (List (ClientsTold (R × W)))} {c c' : Seen}
     {steps : List Step} {fault : Option Fault} {refused : List Step} {came : ℕ} (here here' : List (Client R W)) → AllZip (Writes known) here here'
-    → IsCrowd known g c c' steps fault refused (record { told = t; came = came; here = here })
-    → IsCrowd known g c c' steps fault refused (record { told = t; came = came; here = here' })
+    → IsCrowd stops given known g c c' steps fault refused (record { told = t; came = came; here = here })
+    → IsCrowd stops given known g c c' steps fault refused (record { told = t; came = came; here = here' })
 crowd_writes {known = known} {c = c} {c'} {steps} {fault} {refused} here here' writes crowd =
     crowd_as here' crowd (same_numbers (Writes known) number_written here here' writes)
     (all_by (Writes known) (IsHere known c c' steps fault refused crowd.calls) (IsHere known c c' steps fault refused crowd.calls) writes_here here
     here' writes crowd.are_here)
 
 -- no two have the same number
-pub crowd_differs : {R W : Type 0} {known : R × W → Known} {g : Option (List (ClientsTold (R × W)))} {c c' : Seen}
-    {steps : List Step} {fault : Option Fault} {refused : List Step} {a : Scene R W} → IsCrowd known g c c' steps fault refused a → AllPairs (λ (m n : ℕ). m ≢ n) (numbers a.here)
+pub crowd_differs : {R W : Type 0} {stops : Type 0} {given : List ℕ} {known : R × W → Known} {g : Option (List (ClientsTold (R × W)))} {c c' : Seen}
+    {steps : List Step} {fault : Option Fault} {refused : List Step} {a : Scene R W} → IsCrowd stops given known g c c' steps fault refused a → AllPairs (λ (m n : ℕ). m ≢ n) (numbers a.here)
 crowd_differs {a = a} crowd =
     pairs_differ (numbers a.here) (last_of (map number_of crowd.visits) (numbers a.here) crowd.differ)
   where
@@ -174,9 +173,9 @@ up_to_date : {R W : Type 0} {known : R × W → Known} {c c' : Seen} {steps : Li
 up_to_date client is going none =
     unfinished_none (unread client) ((going_of client going is.stands).waits none)
 
-pub all_up_to_date : {R W : Type 0} {known : R × W → Known} {g : Option (List (ClientsTold (R × W)))} {c c' : Seen}
+pub all_up_to_date : {R W : Type 0} {stops : Type 0} {given : List ℕ} {known : R × W → Known} {g : Option (List (ClientsTold (R × W)))} {c c' : Seen}
     {steps : List Step} {fault : Option Fault} {refused : List Step} {a : Scene R W}
-    → IsCrowd known g c c' steps fault refused a → AllByRecursion IsUpToDate a.here
+    → IsCrowd stops given known g c c' steps fault refused a → AllByRecursion IsUpToDate a.here
 all_up_to_date {known = known} {c = c} {c'} {steps} {fault} {refused} {a} crowd =
     each_weaker (IsHere known c c' steps fault refused crowd.calls) IsUpToDate up_to_date a.here crowd.are_here
 
@@ -199,20 +198,21 @@ none_refused known c c' steps (Some why) [] v others = tt
 none_refused known c c' steps (Some why) (s ∷ ss) v others =
     ((λ own. absurd (others.0 own)), none_refused known c c' steps (Some why) ss v others.1)
 
-visited_further : {R W : Type 0} (known : R × W → Known) (c c' c'' : Seen) (steps : List Step)
+visited_further : {R W : Type 0} (stops : Type 0) (known : R × W → Known) (c c' c'' : Seen) (steps : List Step)
     (calls : List (ClientsTold (R × W))) (ns : List ℕ) (more : List Step) (fault : Option Fault) (refused : List Step)
     (visits : List (Visit (R × W))) → (c''.honest → c'.honest) → AllByRecursion (IsOfOneOf ns) more
     → AllByRecursion (IsOfOneOf ns) refused → Differ (map number_of visits ++ ns)
-    → AllByRecursion (HasLeft known c c' steps None [] calls) visits
-    → AllByRecursion (HasLeft known c c'' (steps ++ more) fault refused calls) visits
-visited_further known c c' c'' steps calls ns more fault refused [] honest whose too differ all = tt
-visited_further known c c' c'' steps calls ns more fault refused (v ∷ vs) honest whose too differ all =
+    → AllByRecursion (HasLeft stops known c c' steps None [] calls) visits
+    → AllByRecursion (HasLeft stops known c c'' (steps ++ more) fault refused calls) visits
+visited_further stops known c c' c'' steps calls ns more fault refused [] honest whose too differ all = tt
+visited_further stops known c c' c'' steps calls ns more fault refused (v ∷ vs) honest whose too differ all =
     let apart = all_last (λ (m : ℕ). v.number ≢ m) (map number_of vs) ns differ.0 in (
       (
         (all.0.0.0, served_beside more (others_of v.number ns more apart whose) honest all.0.0.1),
         none_refused known c c'' (steps ++ more) fault refused v (others_of v.number ns refused apart too),
+        all.0.2,
       ),
-      visited_further known c c' c'' steps calls ns more fault refused vs honest whose too differ.1 all.1,
+      visited_further stops known c c' c'' steps calls ns more fault refused vs honest whose too differ.1 all.1,
     )
 
 whose_more : (ms ns : List ℕ) (ss : List Step) → AllByRecursion (IsOfOneOf ns) ss → AllByRecursion (IsOfOneOf (ms ++ ns)) ss
@@ -245,10 +245,10 @@ zip_places M (x ∷ xs) (y ∷ ys) same at = (
 pub crowd_round : {C R W : Type 0} (seen : C → Seen) {reason : Fault → C → C → Type 0} {known : R × W → Known}
     {k k' : Option (List ℕ)} {g t : Option (List (ClientsTold (R × W)))} {X : Type 0} (first old new : C)
     (steps : List Step) {came seconds : ℕ} {u u' : Tally} (here here' : List (Client R W)) (result : Result X Fault)
-    → IsCrowd known g (seen first) (seen old) steps None [] (record { told = t; came = came; here = here })
+    → IsCrowd ⊥ [] known g (seen first) (seen old) steps None [] (record { told = t; came = came; here = here })
     → Takes (seen first) (seen old) (submitted_by steps)
     → (r : AnswersRound seen reason known k k' old new here here' u u' seconds result)
-    → IsCrowd known g (seen first) (seen new) (steps ++ steps_in r.round) (fault_in result) r.refused
+    → IsCrowd ⊥ [] known g (seen first) (seen new) (steps ++ steps_in r.round) (fault_in result) r.refused
     (record { told = t; came = came; here = here' })
 crowd_round {C} {R} {W} seen {known = known} first old new steps {came = came} here here' result crowd takes r =
     let more = steps_in r.round in
@@ -267,7 +267,8 @@ crowd_round {C} {R} {W} seen {known = known} first old new steps {came = came} h
       told = crowd.told;
       visits = crowd.visits;
       closed = crowd.closed;
-      visited = visited_further known (seen first) (seen old) (seen new) steps crowd.calls (numbers here) more fault r.refused crowd.visits honest r.whose r.whose_refused crowd.differ crowd.visited;
+      visited = visited_further ⊥ known (seen first) (seen old) (seen new) steps crowd.calls (numbers here) more fault r.refused crowd.visits honest r.whose r.whose_refused crowd.differ crowd.visited;
+      to_give_up = none_given fault crowd.calls;
       are_here = all_by (λ (x y : Client R W). (y.number ≡ x.number) × Moved x y)
           (IsHere known (seen first) (seen old) steps None [] crowd.calls)
           (IsHere known (seen first) (seen new) (steps ++ more) fault r.refused crowd.calls)
@@ -300,7 +301,7 @@ pub record Rounding {C R W : Type 0} (seen : C → Seen) (known : R × W → Kno
   pub takes : Takes (seen old) (seen now) (submitted_by (steps_of rounds))
   pub idle : (seen old).is_down → now ≡ old
   pub few : came ≤ n
-  pub crowd : IsCrowd known g (seen old) (seen now) (steps_of rounds) None [] (record { told = t; came = came; here = here })
+  pub crowd : IsCrowd ⊥ [] known g (seen old) (seen now) (steps_of rounds) None [] (record { told = t; came = came; here = here })
 
 pub rounding_none : {C R W : Type 0} (seen : C → Seen) {known : R × W → Known} (g : Option (List (ClientsTold (R × W))))
     (k : Option (List ℕ)) (old : C) (n : ℕ) (here : List (Client R W)) (tally : Tally) → here ≡ [] → tally ≡ nothing
@@ -323,6 +324,7 @@ rounding_none {C} {R} {W} seen {known} g k old n here tally none zero = record {
     visits = [];
     closed = refl;
     visited = tt;
+    to_give_up = tt;
     are_here = tt;
     differ = tt;
     below = tt;
@@ -336,7 +338,7 @@ rounding_none {C} {R} {W} seen {known} g k old n here tally none zero = record {
 pub rounding_on : {C R W : Type 0} {seen : C → Seen} {known : R × W → Known} {g t t' : Option (List (ClientsTold (R × W)))}
     {k k' : Option (List ℕ)} {old now : C} {n came came' turns : ℕ} {here here' : List (Client R W)} {tally : Tally}
     (s : Rounding seen known g t k k' old now n came here tally turns)
-    → IsCrowd known g (seen old) (seen now) (steps_of s.rounds) None [] (record { told = t'; came = came'; here = here' })
+    → IsCrowd ⊥ [] known g (seen old) (seen now) (steps_of s.rounds) None [] (record { told = t'; came = came'; here = here' })
     → came' ≤ n → Rounding seen known g t' k k' old now n came' here' tally turns
 rounding_on s crowd few = record {
   rounds = s.rounds;
@@ -389,7 +391,7 @@ pub rounding_next : {C R W X : Type 0} (seen : C → Seen) {reason : Fault → C
     {n came came' seconds turns : ℕ} {here here' here'' : List (Client R W)} {u u' : Tally} {x : X}
     (s : Rounding seen known g t k k' old now n came here u turns)
     (r : AnswersRound seen reason known k' k'' now new here here' u u' seconds (Ok x))
-    → IsCrowd known g (seen old) (seen new) (steps_of s.rounds ++ steps_in r.round) None r.refused
+    → IsCrowd ⊥ [] known g (seen old) (seen new) (steps_of s.rounds ++ steps_in r.round) None r.refused
     (record { told = t'; came = came'; here = here'' })
     → came' ≤ n → Rounding seen known g t' k k'' old new n came' here'' u' (turns + 1)
 rounding_next seen {known = known} {g = g} {t' = t'} {k} {k'} {k''} old now new {came' = came'} {here'' = here''} s r crowd
@@ -411,9 +413,9 @@ rounding_next seen {known = known} {g = g} {t' = t'} {k} {k'} {k''} old now new 
           (subst (λ (c : _). Takes (seen now) (seen c) (submitted_by (steps_in r.round))) (sym same) r.takes);
       idle = idle_after seen old now s.idle new r.idle;
       few = few;
-      crowd = subst (λ (x : List Step). IsCrowd known g (seen old) (seen new) x None []
+      crowd = subst (λ (x : List Step). IsCrowd ⊥ [] known g (seen old) (seen new) x None []
           (record { told = t'; came = came'; here = here'' })) (steps_one_more s.rounds r.round)
-          (subst (λ (x : List Step). IsCrowd known g (seen old) (seen new) (steps_of s.rounds ++ steps_in r.round) None x
+          (subst (λ (x : List Step). IsCrowd ⊥ [] known g (seen old) (seen new) (steps_of s.rounds ++ steps_in r.round) None x
           (record { told = t'; came = came'; here = here'' })) r.ends.0 crowd);
     }
 
@@ -422,9 +424,9 @@ rounding_next seen {known = known} {g = g} {t' = t'} {k} {k'} {k''} old now new 
 -- nobody came or left
 pub waited_still : {R W : Type 0} {known : R × W → Known} {g t t' : Option (List (ClientsTold (R × W)))} {c c' : Seen}
     {steps : List Step} {fault : Option Fault} {refused : List Step} {came : ℕ} {here : List (Client R W)} → GrowsBy t t' []
-    → IsCrowd known g c c' steps fault refused (record { told = t; came = came; here = here })
-    → IsCrowd known g c c' steps fault refused (record { told = t'; came = came; here = here })
-waited_still waited crowd = crowd_moved (all_stay (record {
+    → IsCrowd ⊥ [] known g c c' steps fault refused (record { told = t; came = came; here = here })
+    → IsCrowd ⊥ [] known g c c' steps fault refused (record { told = t'; came = came; here = here })
+waited_still waited crowd = crowd_moved (λ stop. stop) (all_stay (record {
   calls = [];
   told = waited;
   none_came = refl;
@@ -433,17 +435,30 @@ waited_still waited crowd = crowd_moved (all_stay (record {
   came = refl;
 })) crowd
 
+-- those who were here were waited for and gone on with, some were given up, and others were taken in
 pub before_round : {C R W : Type 0} {seen : C → Seen} {known : R × W → Known}
-    {g t t' t'' : Option (List (ClientsTold (R × W)))} {k k' : Option (List ℕ)} {old now : C} {n came came' turns : ℕ}
-    {tally : Tally} (here viewed gone here' here'' : List (Client R W)) → viewed ≡ here → here' ≡ gone
-    → Rounding seen known g t k k' old now n came here tally turns → GrowsBy t t' [] → AllZip (GoesOn known) viewed gone
-    → HaveMoved (record { told = t'; came = came; here = here' }) (record { told = t''; came = came'; here = here'' })
+    {g t t' u t'' : Option (List (ClientsTold (R × W)))} {k k' : Option (List ℕ)} {old now : C} {n came came' turns : ℕ}
+    {tally : Tally} (asked here viewed gone here' left here'' : List (Client R W)) (said told : List Readiness)
+    → asked ≡ here → viewed ≡ here → here' ≡ gone → told ≡ said
+    → Rounding seen known g t k k' old now n came here tally turns
+    → GrowsBy t t' (given_up_told (given_up (numbers asked) said)) → AllZip (GoesOn known) viewed gone
+    → ((m : ℕ) → HaveMoved ⊥ (given_up (numbers here') told) (record { told = t'; came = m; here = here' })
+    (record { told = u; came = m; here = left }))
+    → HaveMoved ⊥ [] (record { told = u; came = came; here = left }) (record { told = t''; came = came'; here = here'' })
     → came' ≤ n → Rounding seen known g t'' k k' old now n came' here'' tally turns
-before_round {known = known} here viewed gone here' here'' old new s waited goes moved few =
+before_round {R = R} {W} {known = known} {g} {t} {t'} {came = came} asked here viewed gone here' left here'' said told same old new as_said s
+    waited goes leave moved few =
     let all : AllZip (GoesOn known) here here' =
     subst (λ (xs : List (Client _ _)). AllZip (GoesOn known) xs here') old
     (subst (λ (ys : List (Client _ _)). AllZip (GoesOn known) viewed ys) (sym new) goes) in
-    rounding_on s (crowd_moved moved (crowd_goes here here' all (waited_still waited s.crowd))) few
+    let those : given_up (numbers here') told ≡ given_up (numbers asked) said =
+    ap (λ (ns : List ℕ). given_up ns told) (same_numbers (GoesOn known) goes_number here here' all)
+    ∙ ap (λ (xs : List (Client R W)). given_up (numbers xs) told) (sym same)
+    ∙ ap (λ (rs : List Readiness). given_up (numbers asked) rs) as_said in
+    let given = given_up (numbers here') told in
+    rounding_on s (crowd_moved (λ stop. stop) moved (crowd_on (crowd_moved (λ stop. stop) (leave came)
+    (crowd_goes here here' all (crowd_waits given
+    (subst (λ (ns : List ℕ). GrowsBy t t' (given_up_told ns)) (sym those) waited) s.crowd))))) few
 
 pub after_round : {C R W X : Type 0} (seen : C → Seen) {reason : Fault → C → C → Type 0} {known : R × W → Known}
     {g t t' : Option (List (ClientsTold (R × W)))} {k k' k'' : Option (List ℕ)} (old now new : C)
@@ -451,19 +466,24 @@ pub after_round : {C R W X : Type 0} (seen : C → Seen) {reason : Fault → C �
     (result : Result X Fault) → viewed ≡ here' → here'' ≡ gone
     → (s : Rounding seen known g t k k' old now n came here u turns)
     (r : AnswersRound seen reason known k' k'' now new here here' u u' seconds result) → AllZip (Writes known) viewed gone
-    → ((came : ℕ) → HaveMoved (record { told = t; came = came; here = here'' })
+    → ((came : ℕ) → HaveMoved ⊥ [] (record { told = t; came = came; here = here'' })
     (record { told = t'; came = came; here = left }))
-    → IsCrowd known g (seen old) (seen new) (steps_of s.rounds ++ steps_in r.round) (fault_in result) r.refused
+    → IsCrowd ⊥ [] known g (seen old) (seen new) (steps_of s.rounds ++ steps_in r.round) (fault_in result) r.refused
     (record { told = t'; came = came; here = left })
 after_round seen {known = known} old now new {came = came} here here' viewed gone here'' left result same is s r writes
     moved =
     let all : AllZip (Writes known) here' here'' =
     subst (λ (xs : List (Client _ _)). AllZip (Writes known) xs here'') same
     (subst (λ (ys : List (Client _ _)). AllZip (Writes known) viewed ys) (sym is) writes) in
-    crowd_moved (moved came) (crowd_writes here' here'' all
+    crowd_moved (λ stop. stop) (moved came) (crowd_writes here' here'' all
     (crowd_round seen old now new (steps_of s.rounds) here here' result s.crowd s.takes r))
 
 -- ---- how the serving ends
+
+-- nobody is here
+pub none_here : {A : Type 0} (here : List A) → length here ≡ 0 → here ≡ []
+none_here [] none = refl
+none_here (x ∷ xs) none = absurd (omega (arith, none))
 
 -- a crash leaves what was taken before
 stop_more : (c : Seen) (log cs ds es : List Command) (n m : ℕ) → es ≡ cs ++ ds → m ≡ length cs + n
@@ -488,7 +508,7 @@ pub rounds_end : {C R W : Type 0} (seen : C → Seen) {reason : Fault → C → 
     {g t : Option (List (ClientsTold (R × W)))} {k k' : Option (List ℕ)} (old new : C) {n came turns : ℕ}
     {here : List (Client R W)} {tally : Tally} (result : Result (Unit {0}) ListenFault)
     → EndsTogether seen result new new [] → IfErr result (λ fault. IfBank fault (IsOfCall seen reason old new))
-    → OnOk result (came ≡ n) → fault_of_bank result ≡ None
+    → OnOk result ((came ≡ n) × (here ≡ [])) → fault_of_bank result ≡ None
     → (s : Rounding seen known g t k k' old new n came here tally turns) → IsCutOff g t result s.rounds
     → ServesRounds seen reason known g t k k' old new n here result
 rounds_end seen {known = known} {g} {t} old new {came = came} {here = here} result ends why done none s network = record {
@@ -511,7 +531,7 @@ rounds_end seen {known = known} {g} {t} old new {came = came} {here = here} resu
   came = came;
   few = s.few;
   done = done;
-  crowd = subst (λ (f : Option Fault). IsCrowd known g (seen old) (seen new) (steps_of s.rounds) f []
+  crowd = subst (λ (f : Option Fault). IsCrowd ⊥ [] known g (seen old) (seen new) (steps_of s.rounds) f []
       (record { told = t; came = came; here = here })) (sym none) s.crowd;
 }
 
@@ -528,7 +548,7 @@ pub rounds_broken : {C R W X : Type 0} (seen : C → Seen) {reason : Fault → C
     {n came came' seconds turns : ℕ} {here here' here'' : List (Client R W)} {u u' : Tally} (fault : Fault)
     (s : Rounding seen known g t k k' old now n came here u turns)
     (r : AnswersRound {X = X} seen reason known k' k'' now new here here' u u' seconds (Err fault))
-    → IsCrowd known g (seen old) (seen new) (steps_of s.rounds ++ steps_in r.round) (Some fault) r.refused
+    → IsCrowd ⊥ [] known g (seen old) (seen new) (steps_of s.rounds ++ steps_in r.round) (Some fault) r.refused
     (record { told = t'; came = came'; here = here'' })
     → came' ≤ n → ServesRounds seen reason known g t' k k'' old new n here'' (Err (Bank fault))
 rounds_broken seen {reason} {known} {g = g} {t' = t'} {k} {k'} {k''} old now new {came' = came'} {here'' = here''} fault s
@@ -565,7 +585,7 @@ rounds_broken seen {reason} {known} {g = g} {t' = t'} {k} {k'} {k''} old now new
       came = came';
       few = few;
       done = tt;
-      crowd = subst (λ (x : List Step). IsCrowd known g (seen old) (seen new) x (Some fault) r.refused
+      crowd = subst (λ (x : List Step). IsCrowd ⊥ [] known g (seen old) (seen new) x (Some fault) r.refused
           (record { told = t'; came = came'; here = here'' })) order crowd;
     }
 
@@ -622,17 +642,23 @@ all_told {E} known c c' steps fault visits (s ∷ ss) told whose =
           (λ v all. all.1) visits told) whose.1,
     )
 
-told_of : {E : Type 0} (known : E → Known) (c c' : Seen) (steps : List Step) (calls : List (ClientsTold E))
+told_of : {E : Type 0} (stops : Type 0) (known : E → Known) (c c' : Seen) (steps : List Step) (calls : List (ClientsTold E))
     (visits : List (Visit E)) (refused : List Step) (result : Result (Unit {0}) ListenFault)
-    → AllByRecursion (HasLeft known c c' steps (fault_of_bank result) refused calls) visits
+    → AllByRecursion (HasLeft stops known c c' steps (fault_of_bank result) refused calls) visits
     → AllByRecursion (IsOfVisit visits) refused
     → IfErr result (λ fault. IfBank fault (λ f. AllByRecursion (IsToldTo known c c' steps visits f) refused))
-told_of known c c' steps calls visits refused (Ok done) left whose = tt
-told_of known c c' steps calls visits refused (Err Network) left whose = tt
-told_of known c c' steps calls visits refused (Err (Bank fault)) left whose =
+told_of stops known c c' steps calls visits refused (Ok done) left whose = tt
+told_of stops known c c' steps calls visits refused (Err Network) left whose = tt
+told_of stops known c c' steps calls visits refused (Err (Bank fault)) left whose =
     all_told known c c' steps fault visits refused
-    (each_weaker (HasLeft known c c' steps (Some fault) refused calls) (WereRefused known c c' steps (Some fault) refused)
-    (λ v left. left.1) visits left) whose
+    (each_weaker (HasLeft stops known c c' steps (Some fault) refused calls)
+    (WereRefused known c c' steps (Some fault) refused) (λ v left. left.1) visits left) whose
+
+-- clients are stopped where some are here, and so not where the serving ends well
+stopped_by : {R W : Type 0} (came n : ℕ) (here : List (Client R W)) (result : Result (Unit {0}) ListenFault)
+    → OnOk result ((came ≡ n) × (here ≡ [])) → here ≢ [] → IsErr result
+stopped_by came n here (Ok done) ends some = absurd (some ends.1)
+stopped_by came n here (Err fault) ends some = refl
 
 -- connections were closed after that
 cut_off_then : {E : Type 0} {g t t' : Option (List (ClientsTold E))} (result : Result (Unit {0}) ListenFault)
@@ -648,13 +674,14 @@ pub serves_together : {C R W : Type 0} (seen : C → Seen) {reason : Fault → C
     {g t t' : Option (List (ClientsTold (R × W)))} {k k' : Option (List ℕ)} (old new : C) {n : ℕ}
     (here here' : List (Client R W)) (result : Result (Unit {0}) ListenFault)
     → ServesRounds seen reason known g t k k' old new n here result
-    → ((came : ℕ) → HaveMoved (record { told = t; came = came; here = here }) (record { told = t'; came = came; here = here' }))
+    → ((came : ℕ) → HaveMoved (here ≢ []) [] (record { told = t; came = came; here = here })
+    (record { told = t'; came = came; here = here' }))
     → here' ≡ [] → ServesTogether seen reason known g t' k k' old new n result
-serves_together {C} {R} {W} seen {reason} {known} {g} {t} {t'} old new here here' result s moved none =
-    let after : IsCrowd known g (seen old) (seen new) (steps_of s.rounds) (fault_of_bank result) s.refused (record { told = t'; came = s.came; here = here' }) =
-    crowd_moved (moved s.came) s.crowd in
-    let crowd : IsCrowd known g (seen old) (seen new) (steps_of s.rounds) (fault_of_bank result) s.refused (record { told = t'; came = s.came; here = [] }) =
-    subst (λ (x : List (Client R W)). IsCrowd known g (seen old) (seen new) (steps_of s.rounds) (fault_of_bank result) s.refused
+serves_together {C} {R} {W} seen {reason} {known} {g} {t} {t'} old new {n} here here' result s moved none =
+    let after : IsCrowd (IsErr result) [] known g (seen old) (seen new) (steps_of s.rounds) (fault_of_bank result) s.refused (record { told = t'; came = s.came; here = here' }) =
+    crowd_moved (stopped_by s.came n here result s.done) (moved s.came) (crowd_stops (λ no. absurd no) s.crowd) in
+    let crowd : IsCrowd (IsErr result) [] known g (seen old) (seen new) (steps_of s.rounds) (fault_of_bank result) s.refused (record { told = t'; came = s.came; here = [] }) =
+    subst (λ (x : List (Client R W)). IsCrowd (IsErr result) [] known g (seen old) (seen new) (steps_of s.rounds) (fault_of_bank result) s.refused
     (record { told = t'; came = s.came; here = x })) none after in
     let long : length (all_numbers crowd.visits []) ≡ length crowd.visits =
     ap length (append-nil (map number_of crowd.visits)) ∙ length-map crowd.visits number_of in
@@ -685,31 +712,36 @@ serves_together {C} {R} {W} seen {reason} {known} {g} {t} {t'} old new here here
       closed = crowd.closed;
       once = visits_differ crowd.visits [] crowd.differ;
       each = All-from_recursion Visited crowd.visits
-          (each_weaker (HasLeft known (seen old) (seen new) (steps_of s.rounds) (fault_of_bank result) s.refused crowd.calls)
-          Visited (λ v left. left.0) crowd.visits crowd.visited);
+          (each_weaker (HasLeft (IsErr result) known (seen old) (seen new) (steps_of s.rounds) (fault_of_bank result)
+          s.refused crowd.calls) Visited (λ v left. left.0) crowd.visits crowd.visited);
+      parted = All-from_recursion (IsVisitWhy (IsErr result) crowd.calls) crowd.visits
+          (each_weaker (HasLeft (IsErr result) known (seen old) (seen new) (steps_of s.rounds) (fault_of_bank result)
+          s.refused crowd.calls) (IsVisitWhy (IsErr result) crowd.calls) (λ v left. left.2) crowd.visits crowd.visited);
       all = sym long ∙ crowd.all;
-      refusals = told_of known (seen old) (seen new) (steps_of s.rounds) crowd.calls crowd.visits s.refused result
+      refusals = told_of (IsErr result) known (seen old) (seen new) (steps_of s.rounds) crowd.calls crowd.visits s.refused result
           crowd.visited (all_last (IsOfVisit crowd.visits) (steps_of s.rounds) s.refused whose);
       whose = whose;
       many = omega (arith, long, crowd.many, s.few);
     }
 
-come_where : {E : Type 0} (g g' : Option (List (ClientsTold E))) (came n : ℕ) (result : Result (Unit {0}) ListenFault)
-    → OnOk result (came ≡ n) → HaveCome g g' came → OnOk result (HaveCome g g' n)
-come_where g g' came n (Ok done) same come = subst (λ (m : ℕ). HaveCome g g' m) same come
-come_where g g' came n (Err fault) same come = tt
+come_where : {E : Type 0} (P : Type 0) (g g' : Option (List (ClientsTold E))) (came n : ℕ)
+    (result : Result (Unit {0}) ListenFault) → OnOk result ((came ≡ n) × P) → HaveCome g g' came → OnOk result (HaveCome g g' n)
+come_where P g g' came n (Ok done) same come = subst (λ (m : ℕ). HaveCome g g' m) same.0 come
+come_where P g g' came n (Err fault) same come = tt
 
 -- all came that were to come
 pub all_came : {C R W : Type 0} (seen : C → Seen) {reason : Fault → C → C → Type 0} {known : R × W → Known}
     {g t t' : Option (List (ClientsTold (R × W)))} {k k' : Option (List ℕ)} (old new : C) {n : ℕ}
     (here here' : List (Client R W)) (result : Result (Unit {0}) ListenFault)
     → ServesRounds seen reason known g t k k' old new n here result
-    → ((came : ℕ) → HaveMoved (record { told = t; came = came; here = here }) (record { told = t'; came = came; here = here' }))
+    → ((came : ℕ) → HaveMoved (here ≢ []) [] (record { told = t; came = came; here = here })
+    (record { told = t'; came = came; here = here' }))
     → OnOk result (HaveCome g t' n)
 all_came seen {known = known} {g} {t} {t'} old new {n} here here' result s moved =
-    let after : IsCrowd known g (seen old) (seen new) (steps_of s.rounds) (fault_of_bank result) s.refused
-    (record { told = t'; came = s.came; here = here' }) = crowd_moved (moved s.came) s.crowd in
-    come_where g t' s.came n result s.done
+    let after : IsCrowd ⊤ [] known g (seen old) (seen new) (steps_of s.rounds) (fault_of_bank result) s.refused
+    (record { told = t'; came = s.came; here = here' }) = crowd_moved (λ some. tt) (moved s.came)
+    (crowd_stops (λ no. absurd no) s.crowd) in
+    come_where (here ≡ []) g t' s.came n result s.done
     (record { calls = after.calls; told = after.told; many = sym after.all ∙ after.many })
 
 -- memory was refused before anybody came
@@ -738,6 +770,7 @@ nobody_came seen g k old n = record {
   closed = refl;
   once = visits_differ [] [] tt;
   each = All-from_recursion _ [] tt;
+  parted = All-from_recursion _ [] tt;
   all = refl;
   refusals = tt;
   whose = tt;
@@ -748,8 +781,16 @@ nobody_came seen g k old n = record {
 pub cut_off_by : {C R W : Type 0} {seen : C → Seen} {known : R × W → Known}
     {g t t' t'' : Option (List (ClientsTold (R × W)))} {k k' : Option (List ℕ)} {old now : C} {n came turns : ℕ}
     {here : List (Client R W)} {tally : Tally} → Rounding seen known g t k k' old now n came here tally turns
-    → GrowsBy t t' [] → HasRefused t' t''
+    → HasMore t t' → HasRefused t' t''
     → HasRefused g t''
-cut_off_by {g = g} {t} {t'} {t''} s waited refused =
-    refused_last g t' t'' (more_more (record { calls = s.crowd.calls; made = s.crowd.told })
-    (record { calls = []; made = waited })) refused
+cut_off_by {g = g} {t} {t'} {t''} s more refused =
+    refused_last g t' t'' (more_more (record { calls = s.crowd.calls; made = s.crowd.told }) more) refused
+
+-- clients were waited for, and some were given up
+pub waited_grows : {R W : Type 0} {t t' t'' : Option (List (ClientsTold (R × W)))} {given : List ℕ}
+    (calls : List (ClientsTold (R × W))) {here here' : List (Client R W)} → GrowsBy t t' calls
+    → ((m : ℕ) → HaveMoved ⊥ given (record { told = t'; came = m; here = here })
+    (record { told = t''; came = m; here = here' })) → HasMore t t''
+waited_grows {t' = t'} {t''} calls {here} {here'} waited leave =
+    more_more (record { calls = calls; made = waited }) (moved_grows (record { told = t'; came = 0; here = here })
+    (record { told = t''; came = 0; here = here' }) (leave 0))

@@ -1,7 +1,7 @@
 -- Clients that come in, are served and leave.
 use Rattle.std.proofs.Common.{◌≡◌, ℕ, ◌+◌, ◌<◌, List, [], ◌∷◌, ◌++◌, length, map, take, drop, get_or, Option, None, Some, Bool}
 use Rattle.std.proofs.Common.{true, refl, sym, ap, subst, ◌∙◌, append_assoc, append-nil, arith, inl, inr}
-use Rattle.std.specs.Prelude.{◌≢◌, ◌⊎◌, Contains}
+use Rattle.std.specs.Prelude.{◌≢◌, ◌⊎◌, Contains, ⊤}
 use Rattle.std.specs.declared.io.ErrorKind.{ErrorKind}
 use Rattle.std.specs.List.{AllByRecursion}
 use Rattle.std.proofs.KnownBytes.{Appends-nil, Consumes-nil}
@@ -9,6 +9,7 @@ use Rattle.std.proofs.lemmas.List.{drop_more, length-append, map-append, take-ap
 use Rattle.std.proofs.lemmas.List.Elements.{All-contains, All-contains_itself, All-from_recursion, Contains-append_left}
 use Rattle.std.proofs.lemmas.List.Elements.{Contains-append_right, recursion_from_All}
 use Rattle.std.proofs.lemmas.List.Kept.{AllPairs-cons}
+use Rattle.std.proofs.lemmas.Option.{slice_get_read}
 use Rattle.posting_rules.specs.declared.fault.Fault.{Fault}
 use Rattle.posting_rules.specs.believed.Counter.{Seen}
 use Rattle.posting_core.specs.believed.Batches.{joined}
@@ -16,23 +17,23 @@ use Rattle.posting_core.specs.Told.{HasMore}
 use Rattle.posting_core.specs.believed.Told.{GrowsBy}
 use Rattle.posting_core.proofs.StreamedBatches.{all_more}
 use Rattle.posting_core.proofs.Telling.{adds-more, adds-none, more_more, more_none}
-use Rattle.counter_http.specs.Clients.{ClientsTold, Closed, Gave, Refused}
+use Rattle.counter_http.specs.Clients.{ClientsTold, Closed, Gave, Gave_up, Refused, given_up_told}
 use Rattle.counter_http.specs.Connections.{Known}
-use Rattle.counter_http.specs.together.Crowd.{Closes, Comes, Differ, HasLeft, HaveMoved, IsCrowd, IsHere, Leaves, Moves, Scene}
-use Rattle.counter_http.specs.together.Crowd.{Stays, WereRefused, all_numbers}
+use Rattle.counter_http.specs.together.Crowd.{AreGivenUp, Closes, Comes, Differ, HasLeft, HaveMoved, IsCrowd, IsHere, Leaves}
+use Rattle.counter_http.specs.together.Crowd.{MayPart, Moves, Scene, Stays, WereRefused, all_numbers}
 use Rattle.counter_http.specs.together.Order.{Step, of_client}
 use Rattle.counter_http.specs.together.Rounds.{AllDiffer, IsOfOneOf, number_in, numbers}
-use Rattle.counter_http.specs.together.Standing.{AreRefused, IsGoing, IsNew, IsParting, StandsHere}
-use Rattle.counter_http.specs.together.Serving.{HasRefused, Visit, closed_of, closings, number_of, openings}
+use Rattle.counter_http.specs.together.Standing.{AreRefused, IsGoing, IsNew, IsOver, IsParted, IsParting, MayBeLeft, StandsBy, StandsHere, pending, unread}
+use Rattle.counter_http.specs.together.Serving.{HasRefused, IsWhyParted, Visit, closed_of, closings, number_of, openings}
 use Rattle.counter_http.specs.believed.Messages.{No_head}
 use Rattle.counter_http.specs.declared.client.Client.{Client}
 use Rattle.counter_http.specs.declared.parting.Parting.{Parting}
 use Rattle.counter_http.specs.declared.parting.Parting.TheVariants as parting
 use Rattle.counter_http.proofs.Beside.{none_read_yet}
 use Rattle.counter_http.proofs.Fronts.{ends_by, going_here, parted_here}
-use Rattle.counter_http.proofs.Refused.{refused_parted}
+use Rattle.counter_http.proofs.Refused.{IsRefusedCause, refused_parted}
 use Rattle.counter_http.proofs.Steps.{OfOther, no_answers, none_of}
-use Rattle.counter_http.proofs.Stood.{left_as, lost_as}
+use Rattle.counter_http.proofs.Stood.{IsCause, left_as, lost_as}
 use Rattle.counter_http.proofs.Written.{parted_with}
 
 -- ---- numbers
@@ -102,12 +103,14 @@ openings-append [] ys = refl
 openings-append (Gave n e ∷ xs) ys = ap (λ (t : List (ℕ × _)). (n, e) ∷ t) (openings-append xs ys)
 openings-append (Closed n e ∷ xs) ys = openings-append xs ys
 openings-append (Refused kind ∷ xs) ys = openings-append xs ys
+openings-append (Gave_up n ∷ xs) ys = openings-append xs ys
 
 closings-append : {E : Type 0} (xs ys : List (ClientsTold E)) → closings (xs ++ ys) ≡ closings xs ++ closings ys
 closings-append [] ys = refl
 closings-append (Gave n e ∷ xs) ys = closings-append xs ys
 closings-append (Closed n e ∷ xs) ys = ap (λ (t : List (ℕ × _)). (n, e) ∷ t) (closings-append xs ys)
 closings-append (Refused kind ∷ xs) ys = closings-append xs ys
+closings-append (Gave_up n ∷ xs) ys = closings-append xs ys
 
 -- ---- those who are here and those who left, as more calls are made
 
@@ -117,10 +120,30 @@ here_told : {R W : Type 0} {known : R × W → Known} {c c' : Seen} {steps : Lis
 here_told calls more client is =
     record { given = is.given; came = Contains-append_left calls more _ is.came; stands = is.stands; told = is.told }
 
-visited_told : {E : Type 0} (known : E → Known) (c c' : Seen) (steps : List Step) (fault : Option Fault)
+-- and so was it said why
+why_told : {E : Type 0} (stops : Type 0) (calls more : List (ClientsTold E)) (n : ℕ) (p : Parting)
+    → IsWhyParted stops calls n p → IsWhyParted stops (calls ++ more) n p
+why_told stops calls more n parting.GivenUp is = Contains-append_left calls more (Gave_up n) is
+why_told stops calls more n parting.Stopped is = is
+why_told stops calls more n parting.Served is = tt
+why_told stops calls more n parting.Read is = tt
+why_told stops calls more n parting.Write is = tt
+why_told stops calls more n parting.Memory is = tt
+why_told stops calls more n (parting.Bank fault) is = tt
+
+visited_told : {E : Type 0} (stops : Type 0) (known : E → Known) (c c' : Seen) (steps : List Step) (fault : Option Fault)
     (refused : List Step) (calls more : List (ClientsTold E))
-    (v : Visit E) → HasLeft known c c' steps fault refused calls v → HasLeft known c c' steps fault refused (calls ++ more) v
-visited_told known c c' steps fault refused calls more v is = ((Contains-append_left calls more _ is.0.0, is.0.1), is.1)
+    (v : Visit E) → HasLeft stops known c c' steps fault refused calls v
+    → HasLeft stops known c c' steps fault refused (calls ++ more) v
+visited_told stops known c c' steps fault refused calls more v is =
+    ((Contains-append_left calls more _ is.0.0, is.0.1), is.1, why_told stops calls more v.number v.parting is.2)
+
+given_told : {E : Type 0} (calls more : List (ClientsTold E)) (fault : Option Fault) (given : List ℕ)
+    → AreGivenUp fault calls given → AreGivenUp fault (calls ++ more) given
+given_told calls more (Some why) given none = none
+given_told calls more None given all =
+    each_weaker (λ (n : ℕ). Contains calls (Gave_up n)) (λ (n : ℕ). Contains (calls ++ more) (Gave_up n))
+    (λ n is. Contains-append_left calls more (Gave_up n) is) given all
 
 -- ---- a client that came in
 
@@ -192,10 +215,10 @@ numbers_more visits here here' client n is number =
     ∙ ap (λ (m : ℕ). map number_of visits ++ (numbers here ++ m ∷ [])) number
     ∙ sym (append_assoc (map number_of visits) (numbers here) (n ∷ []))
 
-pub crowd_comes : {R W : Type 0} {known : R × W → Known} {g : Option (List (ClientsTold (R × W)))} {c c' : Seen}
-    {steps : List Step} {fault : Option Fault} {refused : List Step} {a : Scene R W} (b : Scene R W) → IsCrowd known g c c' steps fault refused a → Comes a b
-    → IsCrowd known g c c' steps fault refused b
-crowd_comes {R} {W} {known} {g} {c} {c'} {steps} {fault} {refused} {a} b crowd m =
+pub crowd_comes : {R W : Type 0} {stops : Type 0} {given : List ℕ} {known : R × W → Known} {g : Option (List (ClientsTold (R × W)))} {c c' : Seen}
+    {steps : List Step} {fault : Option Fault} {refused : List Step} {a : Scene R W} (b : Scene R W) → IsCrowd stops given known g c c' steps fault refused a → Comes a b
+    → IsCrowd stops given known g c c' steps fault refused b
+crowd_comes {R} {W} {stops} {given} {known} {g} {c} {c'} {steps} {fault} {refused} {a} b crowd m =
     let new : ClientsTold (R × W) = Gave a.came m.given in
     let calls = crowd.calls ++ new ∷ [] in
     let all = numbers_more crowd.visits a.here b.here m.client a.came m.here m.is.number_is in
@@ -215,8 +238,10 @@ crowd_comes {R} {W} {known} {g} {c} {c'} {steps} {fault} {refused} {a} b crowd m
       told = adds-more g a.told b.told crowd.calls (new ∷ []) crowd.told m.told;
       visits = crowd.visits;
       closed = crowd.closed ∙ sym (closings-append crowd.calls (new ∷ []) ∙ append-nil (closings crowd.calls));
-      visited = each_weaker (HasLeft known c c' steps fault refused crowd.calls) (HasLeft known c c' steps fault refused calls)
-          (visited_told known c c' steps fault refused crowd.calls (new ∷ [])) crowd.visits crowd.visited;
+      visited = each_weaker (HasLeft stops known c c' steps fault refused crowd.calls)
+          (HasLeft stops known c c' steps fault refused calls)
+          (visited_told stops known c c' steps fault refused crowd.calls (new ∷ [])) crowd.visits crowd.visited;
+      to_give_up = given_told crowd.calls (new ∷ []) fault given crowd.to_give_up;
       are_here = subst (λ (x : List (Client R W)). AllByRecursion (IsHere known c c' steps fault refused calls) x) (sym m.here)
           (all_more (IsHere known c c' steps fault refused calls) a.here (m.client ∷ [])
           (each_weaker (IsHere known c c' steps fault refused crowd.calls) (IsHere known c c' steps fault refused calls)
@@ -269,26 +294,108 @@ moved_long xs ys zs n = omega (
   length-append ys (n ∷ zs),
 )
 
+abbrev IfRefused : Option Fault → Type 0 → Type 0
+IfRefused None P = ⊤
+IfRefused (Some fault) P = P
+
 -- it was told what was refused of it
 left_told : {R W : Type 0} (known : R × W → Known) (c c' : Seen) (steps : List Step) (fault : Option Fault)
-    (refused : List Step) (client : Client R W) (given left : R × W) (p : Parting)
-    → IsParting client (left.0, left.1, p) → AreRefused known (known given) c c' steps fault refused client
+    (refused : List Step) (client : Client R W) (given left : R × W) (cause p : Parting)
+    → IsParting client cause (left.0, left.1, p) → IfRefused fault ((IsOver client → ⊥) → IsRefusedCause cause)
+    → AreRefused known (known given) c c' steps fault refused client
     → WereRefused known c c' steps fault refused
     (record { number = client.number; given = given; left = left; parting = p })
-left_told known c c' steps None refused client given left p is told = tt
-left_told known c c' steps (Some why) [] client given left p is told = tt
-left_told known c c' steps (Some why) (s ∷ ss) client given left p is told = (
-  (λ own. refused_parted client (left.0, left.1, p) is (told.0 own)),
-  left_told known c c' steps (Some why) ss client given left p is told.1,
+left_told known c c' steps None refused client given left cause p is ours told = tt
+left_told known c c' steps (Some why) [] client given left cause p is ours told = tt
+left_told known c c' steps (Some why) (s ∷ ss) client given left cause p is ours told = (
+  (λ own. refused_parted client cause (left.0, left.1, p) is ours (told.0 own)),
+  left_told known c c' steps (Some why) ss client given left cause p is ours told.1,
 )
 
+-- for what cause it may be parted from
+is_cause : (stops : Type 0) (given : List ℕ) (n : ℕ) (cause : Parting) → MayPart stops given n cause → IsCause cause
+is_cause stops given n parting.Memory may = tt
+is_cause stops given n parting.GivenUp may = tt
+is_cause stops given n parting.Stopped may = tt
+is_cause stops given n parting.Served may = absurd may
+is_cause stops given n parting.Read may = absurd may
+is_cause stops given n parting.Write may = absurd may
+is_cause stops given n (parting.Bank why) may = absurd may
+
+none_contained : (n : ℕ) → Contains [] n → ⊥
+none_contained n is = let within : is.0 < 0 = is.1 in omega (arith, within)
+
+is_refused_cause : (stops : Type 0) (n : ℕ) (cause : Parting) → MayPart stops [] n cause → IsRefusedCause cause
+is_refused_cause stops n parting.Memory may = tt
+is_refused_cause stops n parting.GivenUp may = absurd (none_contained n may)
+is_refused_cause stops n parting.Stopped may = tt
+is_refused_cause stops n parting.Served may = absurd may
+is_refused_cause stops n parting.Read may = absurd may
+is_refused_cause stops n parting.Write may = absurd may
+is_refused_cause stops n (parting.Bank why) may = absurd may
+
+cause_where : {E : Type 0} (s : Type 0) (calls : List (ClientsTold E)) (given : List ℕ) (n : ℕ) (cause : Parting)
+    (fault : Option Fault) (early : Type 0) → AreGivenUp fault calls given → (early → MayPart s given n cause)
+    → IfRefused fault (early → IsRefusedCause cause)
+cause_where s calls given n cause None early to_give_up may = tt
+cause_where s calls given n cause (Some why) early none may =
+    λ is. is_refused_cause s n cause (subst (λ (ns : List ℕ). MayPart s ns n cause) none (may is))
+
+-- a wait said so, or clients are stopped
+may_why : {E : Type 0} (s stops : Type 0) (calls : List (ClientsTold E)) (given : List ℕ) (n : ℕ) (cause : Parting)
+    (fault : Option Fault) → (s → stops) → AreGivenUp fault calls given → MayPart s given n cause
+    → IsWhyParted stops calls n cause
+may_why s stops calls given n parting.Memory fault far to_give_up may = tt
+may_why s stops calls given n parting.GivenUp None far to_give_up may =
+    All-contains (λ (m : ℕ). Contains calls (Gave_up m)) given n
+    (All-from_recursion (λ (m : ℕ). Contains calls (Gave_up m)) given to_give_up) may
+may_why s stops calls given n parting.GivenUp (Some why) far none may =
+    absurd (none_contained n (subst (λ (ns : List ℕ). Contains ns n) none may))
+may_why s stops calls given n parting.Stopped fault far to_give_up may = far may
+may_why s stops calls given n parting.Served fault far to_give_up may = absurd may
+may_why s stops calls given n parting.Read fault far to_give_up may = absurd may
+may_why s stops calls given n parting.Write fault far to_give_up may = absurd may
+may_why s stops calls given n (parting.Bank why) fault far to_give_up may = absurd may
+
+-- nobody who is here was given up or stopped
+own_why : {E : Type 0} (stops : Type 0) (calls : List (ClientsTold E)) (n : ℕ) (p : Parting) (left : List ℕ)
+    → MayBeLeft p left → IsWhyParted stops calls n p
+own_why stops calls n parting.GivenUp left is = absurd is
+own_why stops calls n parting.Stopped left is = absurd is
+own_why stops calls n parting.Served left is = tt
+own_why stops calls n parting.Read left is = tt
+own_why stops calls n parting.Write left is = tt
+own_why stops calls n parting.Memory left is = tt
+own_why stops calls n (parting.Bank fault) left is = tt
+
+left_why : {R W : Type 0} {known : R × W → Known} {k : Known} {c c' : Seen} {steps : List Step} {s stops : Type 0}
+    (calls : List (ClientsTold (R × W))) (given : List ℕ) (fault : Option Fault) (client : Client R W) (cause : Parting)
+    (parts : R × W × Parting) → IsParting client cause parts → (s → stops) → AreGivenUp fault calls given
+    → ((IsOver client → ⊥) → MayPart s given client.number cause) → StandsHere known k c c' steps client
+    → IsWhyParted stops calls client.number parts.2
+left_why {known = known} {k} {c} {c'} {steps} {s} {stops} calls given fault client cause parts is far to_give_up may
+    stands =
+    elim is.why [
+      | inl early ↦ subst (λ (q : Parting). IsWhyParted stops calls client.number q) (sym early.0)
+          (may_why s stops calls given client.number cause fault far to_give_up (may early.1))
+      | inr over ↦ own_why stops calls client.number parts.2 (pending client)
+          (parted_left parts.2 (pending client) (subst (λ (q : Option Parting). StandsBy q client.number k
+          (known (client.reader, client.writer)) c c' steps client.has_more client.shows_body (unread client)
+          (pending client)) over.0 stands.is.is))
+    ]
+  where
+    parted_left : (p : Parting) (left : List ℕ) → IsParted client.number k (known (client.reader, client.writer)) c c' steps left p
+        → MayBeLeft p left
+    parted_left p left is = is.left
+
 -- its place is known
-left_one : {R W : Type 0} {known : R × W → Known} {g t' : Option (List (ClientsTold (R × W)))} {c c' : Seen}
+left_one : {R W : Type 0} {stops : Type 0} {given : List ℕ} {known : R × W → Known} {g t' : Option (List (ClientsTold (R × W)))} {c c' : Seen}
     {steps : List Step} {fault : Option Fault} {refused : List Step} (t : Option (List (ClientsTold (R × W)))) (came : ℕ) (before after : List (Client R W))
-    (client : Client R W)
-    → IsCrowd known g c c' steps fault refused (record { told = t; came = came; here = before ++ client ∷ after }) → Closes t t' client
-    → IsCrowd known g c c' steps fault refused (record { told = t'; came = came; here = before ++ after })
-left_one {R} {W} {known} {g} {t'} {c} {c'} {steps} {fault} {refused} t came before after client crowd closes =
+    (client : Client R W) {s : Type 0} (cause : Parting) → (s → stops)
+    → IsCrowd stops given known g c c' steps fault refused (record { told = t; came = came; here = before ++ client ∷ after })
+    → ((IsOver client → ⊥) → MayPart s given client.number cause) → Closes t t' client cause
+    → IsCrowd stops given known g c c' steps fault refused (record { told = t'; came = came; here = before ++ after })
+left_one {R} {W} {stops} {given} {known} {g} {t'} {c} {c'} {steps} {fault} {refused} t came before after client {s} cause far crowd may closes =
     let new : ClientsTold (R × W) = Closed client.number closes.left in
     let calls = crowd.calls ++ new ∷ [] in
     let parts = without (IsHere known c c' steps fault refused crowd.calls) before after client crowd.are_here in
@@ -311,18 +418,26 @@ left_one {R} {W} {known} {g} {t'} {c} {c'} {steps} {fault} {refused} t came befo
       closed = map-append closed_of crowd.visits (v ∷ [])
           ∙ ap (λ (x : List (ℕ × (R × W))). x ++ (client.number, closes.left) ∷ []) crowd.closed
           ∙ sym (closings-append crowd.calls (new ∷ []));
-      visited = all_more (HasLeft known c c' steps fault refused calls) crowd.visits (v ∷ [])
-          (each_weaker (HasLeft known c c' steps fault refused crowd.calls) (HasLeft known c c' steps fault refused calls)
-          (visited_told known c c' steps fault refused crowd.calls (new ∷ [])) crowd.visits crowd.visited) (
+      visited = all_more (HasLeft stops known c c' steps fault refused calls) crowd.visits (v ∷ [])
+          (each_weaker (HasLeft stops known c c' steps fault refused crowd.calls)
+          (HasLeft stops known c c' steps fault refused calls)
+          (visited_told stops known c c' steps fault refused crowd.calls (new ∷ [])) crowd.visits crowd.visited) (
             (
               (
                 Contains-append_left crowd.calls (new ∷ []) _ one.came,
-                parted_with client (closes.left.0, closes.left.1, closes.parting) closes.is one.stands,
+                parted_with client cause (closes.left.0, closes.left.1, closes.parting) closes.is
+                    (λ early. is_cause s given client.number cause (may early)) one.stands,
               ),
-              left_told known c c' steps fault refused client one.given closes.left closes.parting closes.is one.told,
+              left_told known c c' steps fault refused client one.given closes.left cause closes.parting closes.is
+                  (cause_where s crowd.calls given client.number cause fault (IsOver client → ⊥) crowd.to_give_up may)
+                  one.told,
+              why_told stops crowd.calls (new ∷ []) client.number closes.parting
+                  (left_why crowd.calls given fault client cause (closes.left.0, closes.left.1, closes.parting) closes.is far crowd.to_give_up may
+                  one.stands),
             ),
             tt,
           );
+      to_give_up = given_told crowd.calls (new ∷ []) fault given crowd.to_give_up;
       are_here = each_weaker (IsHere known c c' steps fault refused crowd.calls) (IsHere known c c' steps fault refused calls)
           (here_told crowd.calls (new ∷ [])) (before ++ after) parts.1;
       differ = subst Differ (sym numbers_now) (differ_moved vs (numbers before) (numbers after) client.number
@@ -347,27 +462,28 @@ left_one {R} {W} {known} {g} {t'} {c} {c'} {steps} {fault} {refused} t came befo
       );
     }
 
-pub crowd_leaves : {R W : Type 0} {known : R × W → Known} {g : Option (List (ClientsTold (R × W)))} {c c' : Seen}
-    {steps : List Step} {fault : Option Fault} {refused : List Step} {a : Scene R W} (b : Scene R W) → IsCrowd known g c c' steps fault refused a → Leaves a b
-    → IsCrowd known g c c' steps fault refused b
-crowd_leaves {R} {W} {known} {g} {c} {c'} {steps} {fault} {refused} {a} b crowd m =
-    subst (λ (x : List (Client R W)). IsCrowd known g c c' steps fault refused (record { told = b.told; came = b.came; here = x }))
+pub crowd_leaves : {R W : Type 0} {stops : Type 0} {given : List ℕ} {known : R × W → Known} {g : Option (List (ClientsTold (R × W)))} {c c' : Seen}
+    {steps : List Step} {fault : Option Fault} {refused : List Step} {s : Type 0} {a : Scene R W} (b : Scene R W) → (s → stops)
+    → IsCrowd stops given known g c c' steps fault refused a → Leaves s given a b
+    → IsCrowd stops given known g c c' steps fault refused b
+crowd_leaves {R} {W} {stops} {given} {known} {g} {c} {c'} {steps} {fault} {refused} {s} {a} b far crowd m =
+    subst (λ (x : List (Client R W)). IsCrowd stops given known g c c' steps fault refused (record { told = b.told; came = b.came; here = x }))
     (sym m.here)
-    (subst (λ (n : ℕ). IsCrowd known g c c' steps fault refused (record { told = b.told; came = n; here = m.before ++ m.after }))
+    (subst (λ (n : ℕ). IsCrowd stops given known g c c' steps fault refused (record { told = b.told; came = n; here = m.before ++ m.after }))
     (sym m.came)
-    (left_one a.told a.came m.before m.after m.client
-    (subst (λ (x : List (Client R W)). IsCrowd known g c c' steps fault refused (record { told = a.told; came = a.came; here = x }))
-    m.was crowd) m.closes))
+    (left_one a.told a.came m.before m.after m.client m.cause far
+    (subst (λ (x : List (Client R W)). IsCrowd stops given known g c c' steps fault refused (record { told = a.told; came = a.came; here = x }))
+    m.was crowd) m.why m.closes))
 
 -- ---- nobody comes or leaves
 
-waited : {R W : Type 0} {known : R × W → Known} {g t' : Option (List (ClientsTold (R × W)))} {c c' : Seen}
+waited : {R W : Type 0} {stops : Type 0} {given : List ℕ} {known : R × W → Known} {g t' : Option (List (ClientsTold (R × W)))} {c c' : Seen}
     {steps : List Step} {fault : Option Fault} {refused : List Step} (t : Option (List (ClientsTold (R × W)))) (came : ℕ) (here : List (Client R W))
-    (more : List (ClientsTold (R × W)))
-    → IsCrowd known g c c' steps fault refused (record { told = t; came = came; here = here }) → GrowsBy t t' more
-    → openings more ≡ [] → closings more ≡ []
-    → IsCrowd known g c c' steps fault refused (record { told = t'; came = came; here = here })
-waited {R} {W} {known} {g} {t'} {c} {c'} {steps} {fault} {refused} t came here more crowd told none_came none_left =
+    (more : List (ClientsTold (R × W))) (given' : List ℕ)
+    (crowd : IsCrowd stops given known g c c' steps fault refused (record { told = t; came = came; here = here }))
+    → AreGivenUp fault (crowd.calls ++ more) given' → GrowsBy t t' more → openings more ≡ [] → closings more ≡ []
+    → IsCrowd stops given' known g c c' steps fault refused (record { told = t'; came = came; here = here })
+waited {R} {W} {stops} {given} {known} {g} {t'} {c} {c'} {steps} {fault} {refused} t came here more given' crowd to_give_up told none_came none_left =
     let calls = crowd.calls ++ more in
     record {
       calls = calls;
@@ -375,8 +491,10 @@ waited {R} {W} {known} {g} {t'} {c} {c'} {steps} {fault} {refused} t came here m
       visits = crowd.visits;
       closed = crowd.closed ∙ sym (closings-append crowd.calls more
           ∙ ap (λ (x : List (ℕ × (R × W))). closings crowd.calls ++ x) none_left ∙ append-nil (closings crowd.calls));
-      visited = each_weaker (HasLeft known c c' steps fault refused crowd.calls) (HasLeft known c c' steps fault refused calls)
-          (visited_told known c c' steps fault refused crowd.calls more) crowd.visits crowd.visited;
+      visited = each_weaker (HasLeft stops known c c' steps fault refused crowd.calls)
+          (HasLeft stops known c c' steps fault refused calls)
+          (visited_told stops known c c' steps fault refused crowd.calls more) crowd.visits crowd.visited;
+      to_give_up = to_give_up;
       are_here = each_weaker (IsHere known c c' steps fault refused crowd.calls) (IsHere known c c' steps fault refused calls)
           (here_told crowd.calls more) here crowd.are_here;
       differ = crowd.differ;
@@ -387,61 +505,149 @@ waited {R} {W} {known} {g} {t'} {c} {c'} {steps} {fault} {refused} t came here m
       many = crowd.many;
     }
 
-pub crowd_stays : {R W : Type 0} {known : R × W → Known} {g : Option (List (ClientsTold (R × W)))} {c c' : Seen}
-    {steps : List Step} {fault : Option Fault} {refused : List Step} {a : Scene R W} (b : Scene R W) → IsCrowd known g c c' steps fault refused a → Stays a b
-    → IsCrowd known g c c' steps fault refused b
-crowd_stays {R} {W} {known} {g} {c} {c'} {steps} {fault} {refused} {a} b crowd m =
-    subst (λ (x : List (Client R W)). IsCrowd known g c c' steps fault refused (record { told = b.told; came = b.came; here = x }))
+pub crowd_stays : {R W : Type 0} {stops : Type 0} {given : List ℕ} {known : R × W → Known} {g : Option (List (ClientsTold (R × W)))} {c c' : Seen}
+    {steps : List Step} {fault : Option Fault} {refused : List Step} {a : Scene R W} (b : Scene R W) → IsCrowd stops given known g c c' steps fault refused a → Stays a b
+    → IsCrowd stops given known g c c' steps fault refused b
+crowd_stays {R} {W} {stops} {given} {known} {g} {c} {c'} {steps} {fault} {refused} {a} b crowd m =
+    subst (λ (x : List (Client R W)). IsCrowd stops given known g c c' steps fault refused (record { told = b.told; came = b.came; here = x }))
     (sym m.here)
-    (subst (λ (n : ℕ). IsCrowd known g c c' steps fault refused (record { told = b.told; came = n; here = a.here })) (sym m.came)
-    (waited a.told a.came a.here m.calls crowd m.told m.none_came m.none_left))
+    (subst (λ (n : ℕ). IsCrowd stops given known g c c' steps fault refused (record { told = b.told; came = n; here = a.here })) (sym m.came)
+    (waited a.told a.came a.here m.calls given crowd (given_told crowd.calls m.calls fault given crowd.to_give_up) m.told
+    m.none_came m.none_left))
+
+none_opened : {E : Type 0} (ns : List ℕ) → openings {E = E} (given_up_told ns) ≡ []
+none_opened [] = refl
+none_opened (n ∷ ns) = none_opened ns
+
+none_closed : {E : Type 0} (ns : List ℕ) → closings {E = E} (given_up_told ns) ≡ []
+none_closed [] = refl
+none_closed (n ∷ ns) = none_closed ns
+
+all_said : {E : Type 0} (calls : List (ClientsTold E)) (ns : List ℕ)
+    → AllByRecursion (λ (n : ℕ). Contains (calls ++ given_up_told ns) (Gave_up n)) ns
+all_said calls [] = tt
+all_said {E} calls (n ∷ ns) = (
+  Contains-append_right calls (Gave_up n ∷ given_up_told ns) (Gave_up n) (0, omega arith, refl),
+  subst (λ (x : List (ClientsTold E)). AllByRecursion (λ (m : ℕ). Contains x (Gave_up m)) ns)
+      (append_assoc calls (Gave_up n ∷ []) (given_up_told ns)) (all_said (calls ++ Gave_up n ∷ []) ns),
+)
+
+-- a wait says whom to give up
+pub crowd_waits : {R W : Type 0} {stops : Type 0} {known : R × W → Known} {g t t' : Option (List (ClientsTold (R × W)))}
+    {c c' : Seen} {steps : List Step} {came : ℕ} {here : List (Client R W)} (ns : List ℕ)
+    → GrowsBy t t' (given_up_told ns)
+    → IsCrowd stops [] known g c c' steps None [] (record { told = t; came = came; here = here })
+    → IsCrowd stops ns known g c c' steps None [] (record { told = t'; came = came; here = here })
+crowd_waits {t = t} {came = came} {here = here} ns told crowd =
+    waited t came here (given_up_told ns) ns crowd (all_said crowd.calls ns) told (none_opened ns) (none_closed ns)
+
+pub none_given : {E : Type 0} (fault : Option Fault) (calls : List (ClientsTold E)) → AreGivenUp fault calls []
+none_given None calls = tt
+none_given (Some why) calls = refl
+
+-- nobody is to be given up any more
+pub crowd_on : {R W : Type 0} {stops : Type 0} {given : List ℕ} {known : R × W → Known}
+    {g : Option (List (ClientsTold (R × W)))} {c c' : Seen} {steps : List Step} {fault : Option Fault} {refused : List Step}
+    {a : Scene R W} → IsCrowd stops given known g c c' steps fault refused a
+    → IsCrowd stops [] known g c c' steps fault refused a
+crowd_on {fault = fault} crowd = record {
+  calls = crowd.calls;
+  told = crowd.told;
+  visits = crowd.visits;
+  closed = crowd.closed;
+  visited = crowd.visited;
+  to_give_up = none_given fault crowd.calls;
+  are_here = crowd.are_here;
+  differ = crowd.differ;
+  below = crowd.below;
+  whose = crowd.whose;
+  all = crowd.all;
+  many = crowd.many;
+}
+
+-- clients may be stopped from now on
+why_stopped : {E : Type 0} {s stops : Type 0} (calls : List (ClientsTold E)) (n : ℕ) (p : Parting) → (s → stops)
+    → IsWhyParted s calls n p → IsWhyParted stops calls n p
+why_stopped calls n parting.GivenUp far is = is
+why_stopped calls n parting.Stopped far is = far is
+why_stopped calls n parting.Served far is = tt
+why_stopped calls n parting.Read far is = tt
+why_stopped calls n parting.Write far is = tt
+why_stopped calls n parting.Memory far is = tt
+why_stopped calls n (parting.Bank fault) far is = tt
+
+pub crowd_stops : {R W : Type 0} {s stops : Type 0} {given : List ℕ} {known : R × W → Known}
+    {g : Option (List (ClientsTold (R × W)))} {c c' : Seen} {steps : List Step} {fault : Option Fault} {refused : List Step}
+    {a : Scene R W} → (s → stops) → IsCrowd s given known g c c' steps fault refused a
+    → IsCrowd stops given known g c c' steps fault refused a
+crowd_stops {s = s} {stops} {known = known} {c = c} {c'} {steps} {fault} {refused} far crowd = record {
+  calls = crowd.calls;
+  told = crowd.told;
+  visits = crowd.visits;
+  closed = crowd.closed;
+  visited = each_weaker (HasLeft s known c c' steps fault refused crowd.calls)
+      (HasLeft stops known c c' steps fault refused crowd.calls)
+      (λ v is. (is.0, is.1, why_stopped crowd.calls v.number v.parting far is.2)) crowd.visits crowd.visited;
+  to_give_up = crowd.to_give_up;
+  are_here = crowd.are_here;
+  differ = crowd.differ;
+  below = crowd.below;
+  whose = crowd.whose;
+  all = crowd.all;
+  many = crowd.many;
+}
 
 -- ---- one after another
 
-crowd_by : {R W : Type 0} {known : R × W → Known} {g : Option (List (ClientsTold (R × W)))} {c c' : Seen}
-    {steps : List Step} {fault : Option Fault} {refused : List Step} (ms : List (Scene R W)) (a b : Scene R W) → Moves ms a b → IsCrowd known g c c' steps fault refused a
-    → IsCrowd known g c c' steps fault refused b
-crowd_by {known = known} {g} {c} {c'} {steps} {fault} {refused} [] a b same crowd =
-    subst (λ (x : Scene _ _). IsCrowd known g c c' steps fault refused x) (sym same) crowd
-crowd_by (m ∷ ms) a b moves crowd =
-    crowd_by ms m b moves.1 (elim moves.0 [
+crowd_by : {R W : Type 0} {stops : Type 0} {given : List ℕ} {known : R × W → Known} {g : Option (List (ClientsTold (R × W)))} {c c' : Seen}
+    {steps : List Step} {fault : Option Fault} {refused : List Step} {s : Type 0} (far : s → stops) (ms : List (Scene R W)) (a b : Scene R W)
+    → Moves s given ms a b → IsCrowd stops given known g c c' steps fault refused a
+    → IsCrowd stops given known g c c' steps fault refused b
+crowd_by {stops = stops} {given} {known} {g} {c} {c'} {steps} {fault} {refused} far [] a b same crowd =
+    subst (λ (x : Scene _ _). IsCrowd stops given known g c c' steps fault refused x) (sym same) crowd
+crowd_by far (m ∷ ms) a b moves crowd =
+    crowd_by far ms m b moves.1 (elim moves.0 [
       | inl came ↦ crowd_comes m crowd came
       | inr other ↦ elim other [
-        | inl left ↦ crowd_leaves m crowd left
+        | inl left ↦ crowd_leaves m far crowd left
         | inr same ↦ crowd_stays m crowd same
       ]
     ])
 
-pub crowd_moved : {R W : Type 0} {known : R × W → Known} {g : Option (List (ClientsTold (R × W)))} {c c' : Seen}
-    {steps : List Step} {fault : Option Fault} {refused : List Step} {a b : Scene R W} → HaveMoved a b → IsCrowd known g c c' steps fault refused a → IsCrowd known g c c' steps fault refused b
-crowd_moved {a = a} {b} moved crowd = crowd_by moved.scenes a b moved.moves crowd
+pub crowd_moved : {R W : Type 0} {stops : Type 0} {given : List ℕ} {known : R × W → Known} {g : Option (List (ClientsTold (R × W)))} {c c' : Seen}
+    {steps : List Step} {fault : Option Fault} {refused : List Step} {s : Type 0} {a b : Scene R W} → (s → stops) → HaveMoved s given a b
+    → IsCrowd stops given known g c c' steps fault refused a → IsCrowd stops given known g c c' steps fault refused b
+crowd_moved {a = a} {b} far moved crowd = crowd_by far moved.scenes a b moved.moves crowd
 
-moves_then : {R W : Type 0} (ms ns : List (Scene R W)) (a b d : Scene R W) → Moves ms a b → Moves ns b d
-    → Moves (ms ++ ns) a d
-moves_then [] ns a b d same moves = subst (λ (x : Scene _ _). Moves ns x d) same moves
-moves_then (m ∷ ms) ns a b d one two = (one.0, moves_then ms ns m b d one.1 two)
+moves_then : {R W : Type 0} (s : Type 0) (given : List ℕ) (ms ns : List (Scene R W)) (a b d : Scene R W)
+    → Moves s given ms a b → Moves s given ns b d → Moves s given (ms ++ ns) a d
+moves_then s given [] ns a b d same moves = subst (λ (x : Scene _ _). Moves s given ns x d) same moves
+moves_then s given (m ∷ ms) ns a b d one two = (one.0, moves_then s given ms ns m b d one.1 two)
 
-pub moved_then : {R W : Type 0} {a b d : Scene R W} → HaveMoved a b → HaveMoved b d → HaveMoved a d
-moved_then {a = a} {b} {d} one two =
-    record { scenes = one.scenes ++ two.scenes; moves = moves_then one.scenes two.scenes a b d one.moves two.moves }
+pub moved_then : {R W : Type 0} {s : Type 0} {given : List ℕ} {a b d : Scene R W} → HaveMoved s given a b
+    → HaveMoved s given b d → HaveMoved s given a d
+moved_then {s = s} {given} {a} {b} {d} one two =
+    record { scenes = one.scenes ++ two.scenes; moves = moves_then s given one.scenes two.scenes a b d one.moves two.moves }
 
-pub one_comes : {R W : Type 0} {a b : Scene R W} → Comes a b → HaveMoved a b
+pub one_comes : {R W : Type 0} {s : Type 0} {given : List ℕ} {a b : Scene R W} → Comes a b → HaveMoved s given a b
 one_comes {b = b} came = record { scenes = b ∷ []; moves = (inl came, refl) }
 
-pub one_leaves : {R W : Type 0} {a b : Scene R W} → Leaves a b → HaveMoved a b
+pub one_leaves : {R W : Type 0} {s : Type 0} {given : List ℕ} {a b : Scene R W} → Leaves s given a b
+    → HaveMoved s given a b
 one_leaves {b = b} left = record { scenes = b ∷ []; moves = (inr (inl left), refl) }
 
-pub all_stay : {R W : Type 0} {a b : Scene R W} → Stays a b → HaveMoved a b
+pub all_stay : {R W : Type 0} {s : Type 0} {given : List ℕ} {a b : Scene R W} → Stays a b → HaveMoved s given a b
 all_stay {b = b} same = record { scenes = b ∷ []; moves = (inr (inr same), refl) }
 
 -- ---- the moves of the loops
 
 -- the one at a place left
-pub left_at : {R W : Type 0} {t t' : Option (List (ClientsTold (R × W)))} (here here' : List (Client R W)) (place : ℕ)
-    (client : Client R W) → place < length here → client ≡ get_or here place client
-    → here' ≡ take place here ++ drop (place + 1) here → Closes t t' client
-    → (came : ℕ) → HaveMoved (record { told = t; came = came; here = here }) (record { told = t'; came = came; here = here' })
-left_at here here' place client within is rest closes came = one_leaves (record {
+pub left_at : {R W : Type 0} {s : Type 0} {given : List ℕ} {t t' : Option (List (ClientsTold (R × W)))}
+    (here here' : List (Client R W)) (place : ℕ) (client : Client R W) (cause : Parting) → place < length here
+    → client ≡ get_or here place client → here' ≡ take place here ++ drop (place + 1) here
+    → ((IsOver client → ⊥) → MayPart s given client.number cause) → Closes t t' client cause
+    → (came : ℕ) → HaveMoved s given (record { told = t; came = came; here = here }) (record { told = t'; came = came; here = here' })
+left_at here here' place client cause within is rest why closes came = one_leaves (record {
   before = take place here;
   client = client;
   after = drop (place + 1) here;
@@ -449,31 +655,48 @@ left_at here here' place client within is rest closes came = one_leaves (record 
       ∙ ap (λ (x : List (Client _ _)). take place here ++ x) (drop_more here place client within
       ∙ ap (λ (x : Client _ _). x ∷ drop (place + 1) here) (sym is));
   here = rest;
+  cause = cause;
+  why = why;
   closes = closes;
   came = refl;
 })
 
+-- the one at the place is that which was removed
+pub over_at : {R W : Type 0} (here : List (Client R W)) (place : ℕ) (looked removed : Client R W) → place < length here
+    → looked ≡ get_or here place looked → removed ≡ get_or here place removed → IsOver looked → IsOver removed
+over_at here place looked removed within is same over =
+    let one = slice_get_read here (length here) place looked refl within is in
+    let two = slice_get_read here (length here) place removed refl within same in
+    subst (λ (x : Client _ _). IsOver x) (cc (one, two)) over
+
 -- the last one left
-pub left_last : {R W : Type 0} {t t' : Option (List (ClientsTold (R × W)))} (here here' : List (Client R W))
-    (client : Client R W) → here ≡ here' ++ client ∷ [] → Closes t t' client
-    → (came : ℕ) → HaveMoved (record { told = t; came = came; here = here }) (record { told = t'; came = came; here = here' })
-left_last here here' client is closes came = one_leaves (record {
+pub left_last : {R W : Type 0} {s : Type 0} {given : List ℕ} {t t' : Option (List (ClientsTold (R × W)))}
+    (here here' : List (Client R W)) (client : Client R W) (cause : Parting) → here ≡ here' ++ client ∷ []
+    → MayPart s given client.number cause → Closes t t' client cause
+    → (came : ℕ) → HaveMoved s given (record { told = t; came = came; here = here }) (record { told = t'; came = came; here = here' })
+left_last here here' client cause is why closes came = one_leaves (record {
   before = here';
   client = client;
   after = [];
   was = is;
   here = sym (append-nil here');
+  cause = cause;
+  why = λ early. why;
   closes = closes;
   came = refl;
 })
 
+pub some_last : {A : Type 0} (here here' : List A) (x : A) → here ≡ here' ++ x ∷ [] → here ≢ []
+some_last here here' x is none =
+    absurd (omega (arith, ap length is, length-append here' (x ∷ []), ap length none))
+
 -- one came in
-pub came_in : {R W : Type 0} {t t' : Option (List (ClientsTold (R × W)))} (came came' : ℕ) (here here' : List (Client R W))
-    (given : R × W) (client : Client R W) → IsNew came given.0 given.1 client → here' ≡ here ++ client ∷ []
-    → came' ≡ came + 1 → GrowsBy t t' (Gave came given ∷ [])
-    → HaveMoved (record { told = t; came = came; here = here }) (record { told = t'; came = came'; here = here' })
-came_in came came' here here' given client is more next told = one_comes (record {
-  given = given;
+pub came_in : {R W : Type 0} {s : Type 0} {given : List ℕ} {t t' : Option (List (ClientsTold (R × W)))} (came came' : ℕ) (here here' : List (Client R W))
+    (ends : R × W) (client : Client R W) → IsNew came ends.0 ends.1 client → here' ≡ here ++ client ∷ []
+    → came' ≡ came + 1 → GrowsBy t t' (Gave came ends ∷ [])
+    → HaveMoved s given (record { told = t; came = came; here = here }) (record { told = t'; came = came'; here = here' })
+came_in came came' here here' ends client is more next told = one_comes (record {
+  given = ends;
   client = client;
   is = is;
   here = more;
@@ -482,19 +705,21 @@ came_in came came' here here' given client is more next told = one_comes (record
 })
 
 -- there was no memory for it, and it left at once
-pub turned_away : {R W : Type 0} {t t' t'' : Option (List (ClientsTold (R × W)))} (came came' : ℕ)
-    (here here' : List (Client R W)) (given : R × W) (client other : Client R W) → IsNew came given.0 given.1 client
-    → other ≡ client → here' ≡ here → came' ≡ came + 1 → GrowsBy t t' (Gave came given ∷ []) → Closes t' t'' other
-    → HaveMoved (record { told = t; came = came; here = here }) (record { told = t''; came = came'; here = here' })
-turned_away {R} {W} {t} {t'} {t''} came came' here here' given client other is same rest next told closes =
-    moved_then (came_in {t = t} {t' = t'} came came' here (here ++ client ∷ []) given client is refl next told)
-    (left_last (here ++ client ∷ []) here' client (ap (λ (x : List (Client R W)). x ++ client ∷ []) (sym rest))
-    (subst (λ (x : Client R W). Closes t' t'' x) same closes) came')
+pub turned_away : {R W : Type 0} {s : Type 0} {given : List ℕ} {t t' t'' : Option (List (ClientsTold (R × W)))} (came came' : ℕ)
+    (here here' : List (Client R W)) (ends : R × W) (client other : Client R W) → IsNew came ends.0 ends.1 client
+    → other ≡ client → here' ≡ here → came' ≡ came + 1 → GrowsBy t t' (Gave came ends ∷ [])
+    → Closes t' t'' other parting.Memory
+    → HaveMoved s given (record { told = t; came = came; here = here }) (record { told = t''; came = came'; here = here' })
+turned_away {R} {W} {s} {given} {t} {t'} {t''} came came' here here' ends client other is same rest next told closes =
+    moved_then (came_in {s = s} {given = given} {t = t} {t' = t'} came came' here (here ++ client ∷ []) ends client is refl next told)
+    (left_last (here ++ client ∷ []) here' client parting.Memory
+    (ap (λ (x : List (Client R W)). x ++ client ∷ []) (sym rest)) tt
+    (subst (λ (x : Client R W). Closes t' t'' x parting.Memory) same closes) came')
 
 -- nobody came
-pub nobody_came_in : {R W : Type 0} {t t' : Option (List (ClientsTold (R × W)))} (came : ℕ) (here : List (Client R W))
+pub nobody_came_in : {R W : Type 0} {s : Type 0} {given : List ℕ} {t t' : Option (List (ClientsTold (R × W)))} (came : ℕ) (here : List (Client R W))
     (calls : List (ClientsTold (R × W))) → openings calls ≡ [] → closings calls ≡ [] → GrowsBy t t' calls
-    → HaveMoved (record { told = t; came = came; here = here }) (record { told = t'; came = came; here = here })
+    → HaveMoved s given (record { told = t; came = came; here = here }) (record { told = t'; came = came; here = here })
 nobody_came_in came here calls none_came none_left told = all_stay (record {
   calls = calls;
   told = told;
@@ -506,18 +731,18 @@ nobody_came_in came here calls none_came none_left told = all_stay (record {
 
 -- ---- the calls that were made on the way
 
-one_grows : {R W : Type 0} (a m : Scene R W) → Comes a m ⊎ (Leaves a m ⊎ Stays a m) → HasMore a.told m.told
+one_grows : {R W : Type 0} {s : Type 0} {given : List ℕ} (a m : Scene R W) → Comes a m ⊎ (Leaves s given a m ⊎ Stays a m) → HasMore a.told m.told
 one_grows a m (inl comes) = record { calls = Gave a.came comes.given ∷ []; made = comes.told }
 one_grows a m (inr (inl leaves)) =
     record { calls = Closed leaves.client.number leaves.closes.left ∷ []; made = leaves.closes.told }
 one_grows a m (inr (inr stays)) = record { calls = stays.calls; made = stays.told }
 
-all_grow : {R W : Type 0} (ms : List (Scene R W)) (a b : Scene R W) → Moves ms a b → HasMore a.told b.told
-all_grow [] a b same = subst (λ (x : Scene _ _). HasMore a.told x.told) (sym same) (more_none a.told)
-all_grow (m ∷ ms) a b moves = more_more (one_grows a m moves.0) (all_grow ms m b moves.1)
+all_grow : {R W : Type 0} (s : Type 0) (given : List ℕ) (ms : List (Scene R W)) (a b : Scene R W) → Moves s given ms a b → HasMore a.told b.told
+all_grow s given [] a b same = subst (λ (x : Scene _ _). HasMore a.told x.told) (sym same) (more_none a.told)
+all_grow s given (m ∷ ms) a b moves = more_more (one_grows a m moves.0) (all_grow s given ms m b moves.1)
 
-pub moved_grows : {R W : Type 0} (a b : Scene R W) → HaveMoved a b → HasMore a.told b.told
-moved_grows a b moved = all_grow moved.scenes a b moved.moves
+pub moved_grows : {R W : Type 0} {s : Type 0} {given : List ℕ} (a b : Scene R W) → HaveMoved s given a b → HasMore a.told b.told
+moved_grows {s = s} {given} a b moved = all_grow s given moved.scenes a b moved.moves
 
 pub one_refused : {E : Type 0} (a b : Option (List (ClientsTold E))) (kind : ErrorKind)
     → GrowsBy a b (Refused kind ∷ []) → HasRefused a b

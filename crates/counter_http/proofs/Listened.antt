@@ -37,6 +37,7 @@ none_served seen reason k c n = record {
   closed = refl;
   once = λ i j d before short. absurd (omega (arith, before, short));
   each = λ i d short. absurd (omega (arith, short));
+  parted = λ i d short. absurd (omega (arith, short));
   all = refl;
   refusals = tt;
   whose = tt;

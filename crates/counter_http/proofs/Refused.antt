@@ -1,7 +1,7 @@
 -- Where a client stands whose message the bank refused.
 use Rattle.std.proofs.Common.{◌≡◌, ℕ, List, [], ◌∷◌, ◌++◌, drop, take, Option, None, Some, Bool, true, refl, sym, ap, subst, ◌∙◌}
 use Rattle.std.proofs.Common.{inl, inr}
-use Rattle.std.specs.Prelude.{◌≢◌}
+use Rattle.std.specs.Prelude.{◌≢◌, ⊤}
 use Rattle.std.specs.Io.KnownBytes.{Appends}
 use Rattle.posting_rules.specs.declared.fault.Fault.{Fault}
 use Rattle.posting_rules.specs.believed.Counter.{Seen}
@@ -10,7 +10,7 @@ use Rattle.posting_core.specs.believed.Told.{EndsWith}
 use Rattle.posting_core.proofs.Telling.{more_failed}
 use Rattle.counter_http.specs.Connections.{Known}
 use Rattle.counter_http.specs.together.Order.{Step, of_client}
-use Rattle.counter_http.specs.together.Standing.{HasEndedWith, IsHeadOf, IsParting, IsRefused, StandsHere, StandsRefused}
+use Rattle.counter_http.specs.together.Standing.{HasEndedWith, IsHeadOf, IsOver, IsParting, IsRefused, StandsHere, StandsRefused}
 use Rattle.counter_http.specs.together.Standing.{Writes, pending, unread}
 use Rattle.counter_http.specs.together.Serving.{ClientIsRefused, IsOfRefusal, PartingIsOfItsEnd}
 use Rattle.counter_http.specs.believed.Answers.{answer_text, bare}
@@ -23,7 +23,7 @@ use Rattle.counter_http.specs.declared.parting.Parting.{Parting}
 use Rattle.counter_http.specs.declared.parting.Parting.TheVariants as parting
 use Rattle.counter_http.proofs.Answering.{answered_unavailable}
 use Rattle.counter_http.proofs.Fronts.{ends_by, going_of}
-use Rattle.counter_http.proofs.Stood.{IsLeft, IsLoss, closed_as, closed_stopped, left_after, left_as, lost_as, loses, wrote_to}
+use Rattle.counter_http.proofs.Stood.{IsLeft, IsLoss, closed_as, closed_early, closed_for, left_after, left_as, lost_as, loses, wrote_to}
 use Rattle.counter_http.proofs.Written.{failed_more}
 
 -- ---- where it stands
@@ -55,10 +55,8 @@ lost_to parting.Write loss is ends lost told =
     record { parted = lost_as parting.Write loss is ends; lost = lost; told = told }
 lost_to parting.Memory loss is ends lost told =
     record { parted = lost_as parting.Memory loss is ends; lost = lost; told = told }
-lost_to parting.GivenUp loss is ends lost told =
-    record { parted = lost_as parting.GivenUp loss is ends; lost = lost; told = told }
-lost_to parting.Stopped loss is ends lost told =
-    record { parted = lost_as parting.Stopped loss is ends; lost = lost; told = told }
+lost_to parting.GivenUp loss is ends lost told = absurd loss
+lost_to parting.Stopped loss is ends lost told = absurd loss
 
 -- there was no memory for the 503
 forgotten : {i : ℕ} {k l : Known} {c c' : Seen} {steps : List Step} {left : List ℕ} {turn : Turn} {p : Parting}
@@ -119,16 +117,35 @@ refused_written {fault = fault} old new (inr (inr w)) is =
 
 -- ---- its connection is closed
 
-refused_stopped : {i : ℕ} {k l : Known} {c c' : Seen} {steps : List Step} {left : List ℕ} {turn : Turn} {p : Parting}
-    (fault : Fault) → IsRefused i k l c c' steps left turn p
-    → ClientIsRefused i k l c c' steps fault turn parting.Stopped
-unfolding closed_stopped left_as
-refused_stopped {p = p} fault is = record {
-  served = closed_stopped (left_as (Some p) {has_more = true} {shown = true} {rest = []} (record { is = is.parted }));
+-- the causes for which one that was refused may be parted from
+abbrev pub IsRefusedCause : Parting → Type 0
+IsRefusedCause parting.Memory = ⊤
+IsRefusedCause parting.Stopped = ⊤
+IsRefusedCause _ = ⊥
+
+refused_early : {i : ℕ} {k l : Known} {c c' : Seen} {steps : List Step} {left : List ℕ} {turn : Turn} {p : Parting}
+    (fault : Fault) (cause : Parting) → IsRefusedCause cause → IsRefused i k l c c' steps left turn p
+    → ClientIsRefused i k l c c' steps fault turn cause
+unfolding closed_early closed_for left_as
+refused_early {p = p} fault parting.Memory ours is = record {
+  served = closed_early parting.Memory tt
+      (left_as (Some p) {has_more = true} {shown = true} {rest = []} (record { is = is.parted }));
   lost = is.lost;
   told = is.told;
   why = tt;
 }
+refused_early {p = p} fault parting.Stopped ours is = record {
+  served = closed_early parting.Stopped tt
+      (left_as (Some p) {has_more = true} {shown = true} {rest = []} (record { is = is.parted }));
+  lost = is.lost;
+  told = is.told;
+  why = tt;
+}
+refused_early fault parting.GivenUp ours is = absurd ours
+refused_early fault parting.Served ours is = absurd ours
+refused_early fault parting.Read ours is = absurd ours
+refused_early fault parting.Write ours is = absurd ours
+refused_early fault (parting.Bank why) ours is = absurd ours
 
 refused_over : {i : ℕ} {k l : Known} {c c' : Seen} {steps : List Step} {left : List ℕ} {turn : Turn} {p : Parting}
     (fault : Fault) → left ≡ [] → IsOfRefusal fault p → IsRefused i k l c c' steps left turn p
@@ -141,16 +158,16 @@ some_same : (p q : Parting) → Some p ≡ Some q → p ≡ q
 some_same p q e = cc e
 
 pub refused_parted : {R W : Type 0} {known : R × W → Known} {k : Known} {c c' : Seen} {steps : List Step} {fault : Fault}
-    {turn : Turn} (client : Client R W) (parts : R × W × Parting) → IsParting client parts
-    → StandsRefused known k c c' steps fault turn client
+    {turn : Turn} (client : Client R W) (cause : Parting) (parts : R × W × Parting) → IsParting client cause parts
+    → ((IsOver client → ⊥) → IsRefusedCause cause) → StandsRefused known k c c' steps fault turn client
     → ClientIsRefused client.number k (known (parts.0, parts.1)) c c' steps fault turn parts.2
-refused_parted {known = known} {k} {c} {c'} {steps} {fault} {turn} client parts is stands =
+refused_parted {known = known} {k} {c} {c'} {steps} {fault} {turn} client cause parts is ours stands =
     subst (λ (l : Known). ClientIsRefused client.number k l c c' steps fault turn parts.2)
     (sym (ends_by known is.reader is.writer))
     (elim is.why [
-      | inl stop ↦
+      | inl early ↦
           subst (λ (q : Parting). ClientIsRefused client.number k (known (client.reader, client.writer)) c c' steps fault
-          turn q) (sym stop) (refused_stopped fault stands.is)
+          turn q) (sym early.0) (refused_early fault cause (ours early.1) stands.is)
       | inr over ↦
           subst (λ (q : Parting). ClientIsRefused client.number k (known (client.reader, client.writer)) c c' steps fault
           turn q) (some_same stands.parting parts.2 (sym stands.parting_is ∙ over.0))

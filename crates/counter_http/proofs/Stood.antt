@@ -110,10 +110,9 @@ left_as {i} {k} {l} {c} {c'} {steps} (Some p) {pending = pending} so = let g : I
 
 -- the faults after which a prefix of the answers was written
 abbrev pub IsLoss : Parting → Type 0
-IsLoss parting.Served = ⊥
-IsLoss parting.Read = ⊥
-IsLoss (parting.Bank fault) = ⊥
-IsLoss _ = ⊤
+IsLoss parting.Write = ⊤
+IsLoss parting.Memory = ⊤
+IsLoss _ = ⊥
 
 unfoldable pub loses : {i : ℕ} {k l : Known} {c c' : Seen} {steps : List Step} (p : Parting) (is : IsLeft i k l c c' steps)
     → PartsAs p (HasEnded l.reader k.reads l.reads) (of_client i steps) is.lost is.rest is.last
@@ -151,27 +150,45 @@ lost_as parting.Write loss is ends = loses parting.Write is is.stands
     (λ h log s. no_more_written is.written _ (is.answers h log s)) refl ends
 lost_as parting.Memory loss is ends = loses parting.Memory is is.stands
     (λ h log s. no_more_written is.written _ (is.answers h log s)) refl ends
-lost_as parting.GivenUp loss is ends = loses parting.GivenUp is is.stands
-    (λ h log s. no_more_written is.written _ (is.answers h log s)) refl ends
-lost_as parting.Stopped loss is ends = loses parting.Stopped is is.stands
-    (λ h log s. no_more_written is.written _ (is.answers h log s)) refl ends
+lost_as parting.GivenUp loss is ends = absurd loss
+lost_as parting.Stopped loss is ends = absurd loss
 
 -- ---- its connection is closed
 
-unfoldable pub closed_stopped : {i : ℕ} {k l : Known} {c c' : Seen} {steps : List Step} → IsLeft i k l c c' steps
-    → ClientIsServed i k l c c' steps parting.Stopped
-closed_stopped is = record {
+-- the causes that are not of the client itself
+abbrev pub IsCause : Parting → Type 0
+IsCause parting.Memory = ⊤
+IsCause parting.GivenUp = ⊤
+IsCause parting.Stopped = ⊤
+IsCause _ = ⊥
+
+unfoldable pub closed_for : {i : ℕ} {k l : Known} {c c' : Seen} {steps : List Step} (cause : Parting)
+    (is : IsLeft i k l c c' steps) → PartsAs cause (HasEnded l.reader k.reads l.reads) (of_client i steps) is.lost is.rest is.last
+    → (c'.honest → (log : List Command) → ShowsLog c log
+    → IsWrittenAs cause is.written (joined (answers_at i log steps ++ is.last)))
+    → PartingIsOfItsEnd cause k.reads l.reads k.writes l.writes → ClientIsServed i k l c c' steps cause
+closed_for cause is parts answers ends = record {
   lost = is.lost;
   rest = is.rest;
   last = is.last;
   read = is.read;
   written = is.written;
   wrote = is.wrote;
-  parts = is.stands;
-  answers = is.answers;
-  ends = tt;
+  parts = parts;
+  answers = answers;
+  ends = ends;
   prompt = is.prompt;
 }
+
+unfoldable pub closed_early : {i : ℕ} {k l : Known} {c c' : Seen} {steps : List Step} (cause : Parting) → IsCause cause
+    → IsLeft i k l c c' steps → ClientIsServed i k l c c' steps cause
+closed_early parting.Memory ours is = closed_for parting.Memory is is.stands is.answers tt
+closed_early parting.GivenUp ours is = closed_for parting.GivenUp is is.stands is.answers tt
+closed_early parting.Stopped ours is = closed_for parting.Stopped is is.stands is.answers tt
+closed_early parting.Served ours is = absurd ours
+closed_early parting.Read ours is = absurd ours
+closed_early parting.Write ours is = absurd ours
+closed_early (parting.Bank fault) ours is = absurd ours
 
 unfoldable pub closed_as : {i : ℕ} {k l : Known} {c c' : Seen} {steps : List Step} {pending : List ℕ} {p : Parting}
     → pending ≡ [] → IsParted i k l c c' steps pending p → ClientIsServed i k l c c' steps p
@@ -206,8 +223,8 @@ wrote_flushed parting.Read k l v' pending left some through = absurd (some left)
 wrote_flushed parting.Write k l v' pending left some through = absurd (some left)
 wrote_flushed (parting.Bank fault) k l v' pending left some through = through
 wrote_flushed parting.Memory k l v' pending left some through = tt
-wrote_flushed parting.GivenUp k l v' pending left some through = tt
-wrote_flushed parting.Stopped k l v' pending left some through = tt
+wrote_flushed parting.GivenUp k l v' pending left some through = absurd left
+wrote_flushed parting.Stopped k l v' pending left some through = absurd left
 
 pub still_left : (p : Parting) (pending : List ℕ) (n : ℕ) → MayBeLeft p pending → pending ≢ []
     → MayBeLeft p (drop n pending)
@@ -216,8 +233,8 @@ still_left parting.Read pending n left some = absurd (some left)
 still_left parting.Write pending n left some = absurd (some left)
 still_left (parting.Bank fault) pending n left some = tt
 still_left parting.Memory pending n left some = absurd (some left)
-still_left parting.GivenUp pending n left some = absurd (some left)
-still_left parting.Stopped pending n left some = absurd (some left)
+still_left parting.GivenUp pending n left some = absurd left
+still_left parting.Stopped pending n left some = absurd left
 
 -- so many bytes of what was left were written, and where no more is left they were flushed
 unfoldable pub wrote_to : {i : ℕ} {k l : Known} {c c' : Seen} {steps : List Step} (p : Option Parting) {has_more shown : Bool}

@@ -1,18 +1,18 @@
--- Where a client stands that was written to or given up, and what became of one whose connection is closed.
+-- Where a client stands that was written to, and what became of one whose connection is closed.
 use Rattle.std.proofs.Common.{◌≡◌, ℕ, List, [], ◌++◌, Option, Some, Bool, sym, ap, subst, ◌∙◌, inl, inr}
 use Rattle.posting_rules.specs.{believed.Counter.Seen}
 use Rattle.posting_core.specs.Told.{HasMore, HasWriteFailed, IsWriteFailure, WriteTold}
 use Rattle.posting_core.proofs.Telling.{last_some, more_failed}
 use Rattle.counter_http.specs.Connections.{Known}
 use Rattle.counter_http.specs.together.Order.{Step}
-use Rattle.counter_http.specs.together.Standing.{IsLost, IsParting, StandsAs, StandsBy, StandsHere, Writes, WritesLast, WritesSome}
+use Rattle.counter_http.specs.together.Standing.{IsOver, IsParting, StandsAs, StandsBy, StandsHere, Writes, WritesLast, WritesSome}
 use Rattle.counter_http.specs.together.Standing.{pending, unread}
 use Rattle.counter_http.specs.together.Serving.{ClientIsServed}
 use Rattle.counter_http.specs.declared.client.Client.{Client}
 use Rattle.counter_http.specs.declared.parting.Parting.{Parting}
 use Rattle.counter_http.specs.declared.parting.Parting.TheVariants as parting
-use Rattle.counter_http.proofs.Fronts.{ends_by, lost_here, parted_here}
-use Rattle.counter_http.proofs.Stood.{closed_as, closed_stopped, left_after, left_as, lost_as, wrote_to}
+use Rattle.counter_http.proofs.Fronts.{ends_by, parted_here}
+use Rattle.counter_http.proofs.Stood.{IsCause, closed_as, closed_early, left_after, left_as, lost_as, wrote_to}
 
 -- where it stands, by its fields
 stands_as : {R W : Type 0} {known : R × W → Known} {k : Known} {c c' : Seen} {steps : List Step} {i : ℕ} {l : Known}
@@ -69,21 +69,14 @@ number_written old new (inl same) = ap (λ (x : Client _ _). x.number) same
 number_written old new (inr (inl w)) = w.number
 number_written old new (inr (inr w)) = w.number
 
--- ---- it is given up
-
-pub given_up : {R W : Type 0} {known : R × W → Known} {k : Known} {c c' : Seen} {steps : List Step}
-    (old new : Client R W) → IsLost old new parting.GivenUp → StandsHere known k c c' steps old
-    → StandsHere known k c c' steps new
-given_up old new lost stands = lost_here old new parting.GivenUp tt lost tt (left_as old.parting stands.is)
-
 -- ---- its connection is closed
 
-stopped : {R W : Type 0} {known : R × W → Known} {k : Known} {c c' : Seen} {steps : List Step} (client : Client R W)
-    (p : Parting) → p ≡ parting.Stopped → StandsHere known k c c' steps client
+before_over : {R W : Type 0} {known : R × W → Known} {k : Known} {c c' : Seen} {steps : List Step} (client : Client R W)
+    (cause p : Parting) → p ≡ cause → IsCause cause → StandsHere known k c c' steps client
     → ClientIsServed client.number k (known (client.reader, client.writer)) c c' steps p
-stopped {known = known} {k} {c} {c'} {steps} client p is stands =
+before_over {known = known} {k} {c} {c'} {steps} client cause p is ours stands =
     subst (λ (q : Parting). ClientIsServed client.number k (known (client.reader, client.writer)) c c' steps q) (sym is)
-    (closed_stopped (left_as client.parting stands.is))
+    (closed_early cause ours (left_as client.parting stands.is))
 
 finished : {R W : Type 0} {known : R × W → Known} {k : Known} {c c' : Seen} {steps : List Step} (client : Client R W)
     (p : Parting) → client.parting ≡ Some p → pending client ≡ [] → StandsHere known k c c' steps client
@@ -93,12 +86,13 @@ finished {known = known} {k} {c} {c'} {steps} client p is none stands =
     steps client.has_more client.shows_body (unread client) (pending client)) is stands.is.is)
 
 pub parted_with : {R W : Type 0} {known : R × W → Known} {k : Known} {c c' : Seen} {steps : List Step}
-    (client : Client R W) (parts : R × W × Parting) → IsParting client parts → StandsHere known k c c' steps client
+    (client : Client R W) (cause : Parting) (parts : R × W × Parting) → IsParting client cause parts
+    → ((IsOver client → ⊥) → IsCause cause) → StandsHere known k c c' steps client
     → ClientIsServed client.number k (known (parts.0, parts.1)) c c' steps parts.2
-parted_with {known = known} {k} {c} {c'} {steps} client parts is stands =
+parted_with {known = known} {k} {c} {c'} {steps} client cause parts is ours stands =
     subst (λ (l : Known). ClientIsServed client.number k l c c' steps parts.2)
     (sym (ends_by known is.reader is.writer))
     (elim is.why [
-      | inl stop ↦ stopped client parts.2 stop stands
+      | inl early ↦ before_over client cause parts.2 early.0 (ours early.1) stands
       | inr over ↦ finished client parts.2 over.0 over.1 stands
     ])

@@ -1,4 +1,5 @@
--- What the calls of what gives clients returned, where it is known: its openings and its closings.
+-- What the calls of what gives clients returned, where it is known: its openings, its closings, and whom it said to give
+-- up.
 use Rattle.std.specs.Prelude.{ℕ, List, [], ◌∷◌, Option, Some, None, Result, Ok, Err}
 use Rattle.std.specs.IoError.{error_kind}
 use Rattle.std.specs.declared.io.Error.{Error}
@@ -11,6 +12,12 @@ pub data ClientsTold (E : Type 0) : Type 0 where
   Refused : ErrorKind → ClientsTold E
   -- the connection of the client of this number was closed, and its ends were these
   Closed : ℕ → E → ClientsTold E
+  -- a wait said to give up the client of this number
+  Gave_up : ℕ → ClientsTold E
+
+abbrev pub given_up_told : {E : Type 0} → List ℕ → List (ClientsTold E)
+given_up_told [] = []
+given_up_told (n ∷ ns) = Gave_up n ∷ given_up_told ns
 
 abbrev pub opened_told : {E : Type 0} → ℕ → Result (Option E) Error → List (ClientsTold E)
 opened_told number (Ok (Some ends)) = Gave number ends ∷ []

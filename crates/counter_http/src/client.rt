@@ -431,14 +431,14 @@ impl<R: Source + Drop, W: Sink + Drop> Client<R, W> {
         self.end_with(&unavailable(), head.shows_body, Parting::Bank(fault));
     }
 
-    /// Its two ends, as they are left, and why it was parted from.
-    pub(crate) fn part(self) -> (R, W, Parting)
-        ensures { IsParting self result }
+    /// Its two ends, as they are left, and why it was parted from: for this cause, unless it is over.
+    pub(crate) fn part(self, cause: Parting) -> (R, W, Parting)
+        ensures { IsParting self cause result }
     {
-        let parting = match self.parting {
-            Some(parting) if self.is_written() => parting,
-            _ => Parting::Stopped,
-        };
-        (self.reader, self.writer, parting)
+        if self.is_over() {
+            let parting = self.parting.unwrap_or(cause);
+            return (self.reader, self.writer, parting);
+        }
+        (self.reader, self.writer, cause)
     }
 }

@@ -2,7 +2,8 @@
 ghost use Rattle.std.specs.Prelude.{◌∷◌, [], ℕ, List, Option, None};
 ghost use Rattle.std.specs.List.{AllByRecursion};
 ghost use Rattle.posting_core.specs.believed.Told.{GrowsBy};
-ghost use Rattle.counter_http.specs.Clients.{ClientsTold, Closed, opened_told};
+ghost use Rattle.counter_http.specs.Clients.{ClientsTold, Closed, given_up_told, opened_told};
+ghost use Rattle.counter_http.specs.together.Rounds.{given_up, numbers};
 ghost use Rattle.counter_http.specs.together.Standing.{IsUpToDate};
 
 use crate::client::Client;
@@ -27,7 +28,7 @@ pub trait Clients {
 
     type Writer: Sink + Drop;
 
-    /// What each opening returned so far, and what each closing was given, where it is known.
+    /// What each opening returned so far, whom each wait gave up, and what each closing was given, where it is known.
     ghost told: { Self → Option (List (ClientsTold (Self.Reader × Self.Writer))) } = { λ _. None };
 
     /// Waits until a stream is ready, one more client has come where more are to come, or a limit has passed. It
@@ -41,7 +42,7 @@ pub trait Clients {
         readiness: &mut Vec<Readiness>,
     )
         requires { AllByRecursion IsUpToDate clients.now }
-        ensures { GrowsBy (told self.old) (told self.new) [] };
+        ensures { GrowsBy (told self.old) (told self.new) (given_up_told (given_up (numbers clients.now) readiness.new.items)) };
 
     /// The next client, the one before whom so many came; none where nobody waits to be taken in.
     fn open(&mut self, number: u64) -> io::Result<Option<(Self::Reader, Self::Writer)>>

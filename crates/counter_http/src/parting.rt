@@ -14,8 +14,8 @@ pub enum Parting {
     Bank(Fault),
     /// Memory was refused for its answers. A prefix of them was written.
     Memory,
-    /// It kept the others waiting, or its place was needed. A prefix of the answers was written.
+    /// A wait gave it up: it kept a limit waiting, or its place was needed. A prefix of the answers was written.
     GivenUp,
-    /// The serving ended while it was served. A prefix of the answers was written.
+    /// The serving ended by a fault while it was served. A prefix of the answers was written.
     Stopped,
 }

@@ -1,11 +1,11 @@
 //! Clients that are served at once, in one thread: the records that they sent while the bank was busy are
 //! submitted together, by one call. So the more clients wait for a commit, the more records the next one has.
 //! Nobody waits for more records.
-ghost use Rattle.std.specs.Prelude.{◌≡◌, ◌<◌, ◌≤◌, ℕ, [], Err, OnErr, OnOk, length};
+ghost use Rattle.std.specs.Prelude.{◌≡◌, ◌≢◌, ◌<◌, ◌≤◌, ℕ, [], Err, OnErr, OnOk, length};
 ghost use Rattle.std.specs.List.{AllByRecursion, AllZip};
 ghost use Rattle.counter_http.specs.Connections.{known_ends};
 ghost use Rattle.counter_http.specs.together.Crowd.{Closes, GoesOn, HaveCome, HaveMoved, ServesRounds};
-ghost use Rattle.counter_http.specs.together.Rounds.{AllDiffer, AnswersRound, numbers};
+ghost use Rattle.counter_http.specs.together.Rounds.{AllDiffer, AnswersRound, given_up, numbers};
 ghost use Rattle.counter_http.specs.together.Standing.{Writes};
 ghost use Rattle.counter_http.specs.together.Submitting.{Gathers, IsBatchOf, IsElsewhere, IsFrom, LooksAt, LooksOver, MayAdd};
 ghost use Rattle.counter_http.specs.together.Serving.{HasRefused, ServesTogether};
@@ -39,7 +39,7 @@ fn take_in<D: Clients>(
     here: &mut Vec<Client<D::Reader, D::Writer>>,
 ) -> Result<(), ListenFault>
     requires { came.old ≤ connections }
-    ensures come { HaveMoved (record { told = D.told door.old; came = came.old; here = here.old.items })
+    ensures come { HaveMoved ⊥ [] (record { told = D.told door.old; came = came.old; here = here.old.items })
         (record { told = D.told door.new; came = came.new; here = here.new.items }) }
     ensures few { came.new ≤ connections }
     ensures fault { OnErr result (result ≡ Err ListenFault.Network) }
@@ -51,7 +51,7 @@ fn take_in<D: Clients>(
                 let client = Client::new(alloc, *came, reader, writer);
                 *came += 1;
                 if let Err(refused) = here.push(client) {
-                    close(door, refused.value);
+                    close(door, refused.value, Parting::Memory);
                     return Ok(());
                 }
             }
@@ -62,12 +62,12 @@ fn take_in<D: Clients>(
     Ok(())
 }
 
-// Closes the connection of a client.
-fn close<D: Clients>(door: &mut D, client: Client<D::Reader, D::Writer>)
-    ensures { Closes (D.told door.old) (D.told door.new) client }
+// Closes the connection of a client, for this cause, unless it is over.
+fn close<D: Clients>(door: &mut D, client: Client<D::Reader, D::Writer>, cause: Parting)
+    ensures { Closes (D.told door.old) (D.told door.new) client cause }
 {
     let number = client.number();
-    let (reader, writer, _) = client.part();
+    let (reader, writer, _) = client.part(cause);
     door.close(number, reader, writer);
 }
 
@@ -79,8 +79,7 @@ fn go_on_with<R: Source + Drop, W: Sink + Drop>(
     ensures { GoesOn (known_ends R.remaining R.told R.beside W.contents W.told) client.old client.new }
 {
     match readiness {
-        Some(Readiness::Waits) => {}
-        Some(Readiness::GivenUp) => client.lose(Parting::GivenUp),
+        Some(Readiness::Waits | Readiness::GivenUp) => {}
         _ => {
             client.write();
             client.read();
@@ -94,6 +93,31 @@ fn go_on<R: Source + Drop, W: Sink + Drop>(here: &mut [Client<R, W>], readiness:
 {
     for (place, client) in here.iter_mut().enumerate() {
         go_on_with(client, readiness.get(place));
+    }
+}
+
+// Closes the connections of those that are given up.
+fn give_up<D: Clients>(
+    door: &mut D,
+    here: &mut Vec<Client<D::Reader, D::Writer>>,
+    readiness: &[Readiness],
+)
+    ensures { (came : ℕ) → HaveMoved ⊥ (given_up (numbers here.old.items) readiness.now)
+        (record { told = D.told door.old; came = came; here = here.old.items })
+        (record { told = D.told door.new; came = came; here = here.new.items }) }
+{
+    let mut place = 0;
+    for found in readiness {
+        if place >= here.len() {
+            return;
+        }
+        match found {
+            Readiness::GivenUp => {
+                let client = here.remove(place);
+                close(door, client, Parting::GivenUp);
+            }
+            _ => place += 1,
+        }
     }
 }
 
@@ -197,14 +221,14 @@ fn answer<R: Source + Drop, W: Sink + Drop, K: Clock, C: Followed>(
 
 // Closes the connections of those for whom nothing more is done.
 fn part<D: Clients>(door: &mut D, here: &mut Vec<Client<D::Reader, D::Writer>>)
-    ensures { (came : ℕ) → HaveMoved (record { told = D.told door.old; came = came; here = here.old.items })
+    ensures { (came : ℕ) → HaveMoved ⊥ [] (record { told = D.told door.old; came = came; here = here.old.items })
         (record { told = D.told door.new; came = came; here = here.new.items }) }
 {
     let mut place = 0;
     'clients: while place < here.len() {
         if here[place].is_over() {
             let client = here.remove(place);
-            close(door, client);
+            close(door, client, Parting::Stopped);
         } else {
             place += 1;
         }
@@ -213,12 +237,12 @@ fn part<D: Clients>(door: &mut D, here: &mut Vec<Client<D::Reader, D::Writer>>)
 
 // Closes the connections of all.
 fn part_from_all<D: Clients>(door: &mut D, here: &mut Vec<Client<D::Reader, D::Writer>>)
-    ensures leave { (came : ℕ) → HaveMoved (record { told = D.told door.old; came = came; here = here.old.items })
+    ensures leave { (came : ℕ) → HaveMoved (here.old.items ≢ []) [] (record { told = D.told door.old; came = came; here = here.old.items })
         (record { told = D.told door.new; came = came; here = here.new.items }) }
     ensures none { here.new.items ≡ [] }
 {
     'clients: while let Some(client) = here.pop() {
-        close(door, client);
+        close(door, client, Parting::Stopped);
     }
 }
 
@@ -258,6 +282,7 @@ fn serve_rounds<D: Clients, K: Clock, C: Followed>(
         }
         door.wait(here, came < connections, &mut readiness);
         go_on(here, &readiness);
+        give_up(door, here, &readiness);
         take_in(alloc, door, &mut came, connections, here)?;
         let seconds = door.seconds();
         let answered = answer(alloc, routes, here, first, &mut tally, seconds, clock, bank);

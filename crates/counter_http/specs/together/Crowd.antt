@@ -10,13 +10,13 @@ use Rattle.posting_rules.specs.believed.Counter.{Seen, ShowsLog, StandsAt, Leave
 use Rattle.posting_core.specs.Stream.{IsOfCall}
 use Rattle.posting_core.specs.believed.Clock.{AreReadings}
 use Rattle.posting_core.specs.believed.Told.{GrowsBy}
-use Rattle.counter_http.specs.Clients.{ClientsTold, Gave, Closed}
+use Rattle.counter_http.specs.Clients.{ClientsTold, Gave, Gave_up, Closed}
 use Rattle.counter_http.specs.Connections.{Known}
 use Rattle.counter_http.specs.together.Order.{AreFigured, Step, Round, IsRound, steps_of, readings_of, submitted_by}
 use Rattle.counter_http.specs.together.Reading.{Reads}
 use Rattle.counter_http.specs.together.Rounds.{IsOfOneOf, numbers}
-use Rattle.counter_http.specs.together.Standing.{AreRefused, IsLost, IsNew, IsParting, StandsHere, Writes}
-use Rattle.counter_http.specs.together.Serving.{ClientIsRefused, EndsTogether, IfBank, IsCutOff, IsVisited, Visit, closed_of}
+use Rattle.counter_http.specs.together.Standing.{AreRefused, IsNew, IsOver, IsParting, StandsHere, Writes}
+use Rattle.counter_http.specs.together.Serving.{ClientIsRefused, EndsTogether, IfBank, IsCutOff, IsVisited, IsVisitWhy, Visit, closed_of}
 use Rattle.counter_http.specs.together.Serving.{closings, number_of, openings}
 use Rattle.counter_http.specs.declared.client.Client.{Client}
 use Rattle.counter_http.specs.declared.listen_fault.ListenFault.{ListenFault}
@@ -32,15 +32,25 @@ pub record WritesAndReads {R W : Type 0} (known : R × W → Known) (old new : C
   pub writes : Writes known old between
   pub reads : Reads known between new
 
--- or it was given up, or left as it was
+-- or it was left as it was
 abbrev pub GoesOn : {R W : Type 0} → (R × W → Known) → Client R W → Client R W → Type 0
-GoesOn known old new = (new ≡ old) ⊎ (IsLost old new parting.GivenUp ⊎ WritesAndReads known old new)
+GoesOn known old new = (new ≡ old) ⊎ WritesAndReads known old new
 
--- its connection was closed, where the calls of what gives clients had returned g before and g' after
-pub record Closes {R W : Type 0} (g g' : Option (List (ClientsTold (R × W)))) (client : Client R W) : Type 0 where
+-- for what cause it may be parted from before it is over: memory was refused for it, it is one of those that are to be
+-- given up, or clients are stopped
+abbrev pub MayPart : (stops : Type 0) → (given : List ℕ) → ℕ → Parting → Type 0
+MayPart stops given n parting.Memory = ⊤
+MayPart stops given n parting.GivenUp = Contains given n
+MayPart stops given n parting.Stopped = stops
+MayPart stops given n _ = ⊥
+
+-- its connection was closed, for this cause if it wasn't over, where the calls of what gives clients had returned g before
+-- and g' after
+pub record Closes {R W : Type 0} (g g' : Option (List (ClientsTold (R × W)))) (client : Client R W) (cause : Parting)
+    : Type 0 where
   pub left : R × W
   pub parting : Parting
-  pub is : IsParting client (left.0, left.1, parting)
+  pub is : IsParting client cause (left.0, left.1, parting)
   pub told : GrowsBy g g' (Closed client.number left ∷ [])
 
 -- ---- clients come and leave
@@ -59,13 +69,15 @@ pub record Comes {R W : Type 0} (a b : Scene R W) : Type 0 where
   pub told : GrowsBy a.told b.told (Gave a.came given ∷ [])
   pub came : b.came ≡ a.came + 1
 
-pub record Leaves {R W : Type 0} (a b : Scene R W) : Type 0 where
+pub record Leaves {R W : Type 0} (stops : Type 0) (given : List ℕ) (a b : Scene R W) : Type 0 where
   pub before : List (Client R W)
   pub client : Client R W
   pub after : List (Client R W)
   pub was : a.here ≡ before ++ client ∷ after
   pub here : b.here ≡ before ++ after
-  pub closes : Closes a.told b.told client
+  pub cause : Parting
+  pub why : (IsOver client → ⊥) → MayPart stops given client.number cause
+  pub closes : Closes a.told b.told client cause
   pub came : b.came ≡ a.came
 
 -- a call gave no client and closed no connection
@@ -78,13 +90,13 @@ pub record Stays {R W : Type 0} (a b : Scene R W) : Type 0 where
   pub came : b.came ≡ a.came
 
 -- one after another
-abbrev pub Moves : {R W : Type 0} → List (Scene R W) → (a b : Scene R W) → Type 0
-Moves [] a b = b ≡ a
-Moves (m ∷ ms) a b = (Comes a m ⊎ (Leaves a m ⊎ Stays a m)) × Moves ms m b
+abbrev pub Moves : {R W : Type 0} → (stops : Type 0) → (given : List ℕ) → List (Scene R W) → (a b : Scene R W) → Type 0
+Moves stops given [] a b = b ≡ a
+Moves stops given (m ∷ ms) a b = (Comes a m ⊎ (Leaves stops given a m ⊎ Stays a m)) × Moves stops given ms m b
 
-pub record HaveMoved {R W : Type 0} (a b : Scene R W) : Type 0 where
+pub record HaveMoved {R W : Type 0} (stops : Type 0) (given : List ℕ) (a b : Scene R W) : Type 0 where
   pub scenes : List (Scene R W)
-  pub moves : Moves scenes a b
+  pub moves : Moves stops given scenes a b
 
 -- ---- all who came
 
@@ -105,10 +117,15 @@ WereRefused known c c' steps (Some fault) refused v =
     AllByRecursion (λ s. s.client ≡ v.number
     → ClientIsRefused v.number (known v.given) (known v.left) c c' steps fault s.turn v.parting) refused
 
-abbrev pub HasLeft : {E : Type 0} → (E → Known) → (c c' : Seen) → List Step → Option Fault → List Step
+abbrev pub HasLeft : {E : Type 0} → (stops : Type 0) → (E → Known) → (c c' : Seen) → List Step → Option Fault → List Step
     → List (ClientsTold E) → Visit E → Type 0
-HasLeft known c c' steps fault refused calls v =
-    IsVisited known c c' steps calls v × WereRefused known c c' steps fault refused v
+HasLeft stops known c c' steps fault refused calls v =
+    IsVisited known c c' steps calls v × WereRefused known c c' steps fault refused v × IsVisitWhy stops calls v
+
+-- a wait said to give these up, and the bank refused nothing yet
+abbrev pub AreGivenUp : {E : Type 0} → Option Fault → List (ClientsTold E) → List ℕ → Type 0
+AreGivenUp None calls given = AllByRecursion (λ n. Contains calls (Gave_up n)) given
+AreGivenUp (Some fault) calls given = given ≡ []
 
 abbrev pub all_numbers : {R W : Type 0} → List (Visit (R × W)) → List (Client R W) → List ℕ
 all_numbers visits here = map number_of visits ++ numbers here
@@ -118,14 +135,16 @@ abbrev pub Differ : List ℕ → Type 0
 Differ [] = ⊤
 Differ (n ∷ ns) = AllByRecursion (λ m. n ≢ m) ns × Differ ns
 
--- those who left were served, each once, and the others are here; the bank refused some messages at last, or none
-pub record IsCrowd {R W : Type 0} (known : R × W → Known) (g : Option (List (ClientsTold (R × W)))) (c c' : Seen)
+-- those who left were served, each once, and the others are here; the bank refused some messages at last, or none; these
+-- are to be given up, and clients may be stopped
+pub record IsCrowd {R W : Type 0} (stops : Type 0) (given : List ℕ) (known : R × W → Known) (g : Option (List (ClientsTold (R × W)))) (c c' : Seen)
     (steps : List Step) (fault : Option Fault) (refused : List Step) (a : Scene R W) : Type 0 where
   pub calls : List (ClientsTold (R × W))
   pub told : GrowsBy g a.told calls
   pub visits : List (Visit (R × W))
   pub closed : map closed_of visits ≡ closings calls
-  pub visited : AllByRecursion (HasLeft known c c' steps fault refused calls) visits
+  pub visited : AllByRecursion (HasLeft stops known c c' steps fault refused calls) visits
+  pub to_give_up : AreGivenUp fault calls given
   pub are_here : AllByRecursion (IsHere known c c' steps fault refused calls) a.here
   pub differ : Differ (all_numbers visits a.here)
   pub below : AllByRecursion (λ n. n < a.came) (all_numbers visits a.here)
@@ -162,8 +181,8 @@ pub record ServesRounds {C R W : Type 0} (seen : C → Seen) (reason : Fault →
   pub network : IsCutOff g g' result rounds
   pub came : ℕ
   pub few : came ≤ n
-  pub done : OnOk result (came ≡ n)
-  pub crowd : IsCrowd known g (seen old) (seen new) (steps_of rounds) (fault_of_bank result) refused
+  pub done : OnOk result ((came ≡ n) × (here ≡ []))
+  pub crowd : IsCrowd ⊥ [] known g (seen old) (seen new) (steps_of rounds) (fault_of_bank result) refused
       (record { told = g'; came = came; here = here })
 
 -- so many clients were given by openings

@@ -1,6 +1,6 @@
 -- One round of clients that are served at once: what was read from them is answered. The bank is old before and
 -- new after, the clients are here before and here' after, and the clock's known readings are k and k'.
-use Rattle.std.specs.Prelude.{◌≡◌, ◌≢◌, ◌⊎◌, ◌<◌, ℕ, List, [], ◌++◌, length, map, Option, None, Some, Result, Ok, Err, IfErr}
+use Rattle.std.specs.Prelude.{◌≡◌, ◌≢◌, ◌⊎◌, ◌<◌, ℕ, List, [], ◌∷◌, ◌++◌, length, map, Option, None, Some, Result, Ok, Err, IfErr}
 use Rattle.std.specs.Prelude.{AllPairs, Contains, OnOk}
 use Rattle.std.specs.List.{AllByRecursion, slice_get}
 use Rattle.posting_rules.specs.declared.fault.Fault.{Fault}
@@ -15,6 +15,8 @@ use Rattle.counter_http.specs.together.Order.{IsRound, Round, Step, steps_in, su
 use Rattle.counter_http.specs.together.Standing.{AreRefused, MovesOn, StandsHere}
 use Rattle.counter_http.specs.Figures.{Counts}
 use Rattle.counter_http.specs.declared.client.Client.{Client}
+use Rattle.counter_http.specs.declared.clients.Readiness.{Readiness}
+use Rattle.counter_http.specs.declared.clients.Readiness.TheVariants as readiness
 use Rattle.counter_http.specs.declared.figures.Tally.{Tally}
 use Rattle.counter_http.specs.declared.parting.Parting.TheVariants as parting
 
@@ -25,6 +27,13 @@ number_in client = client.number
 
 abbrev pub numbers : {R W : Type 0} → List (Client R W) → List ℕ
 numbers here = map number_in here
+
+-- whom a wait said to give up, where it said so of each in their order
+abbrev pub given_up : List ℕ → List Readiness → List ℕ
+given_up [] rs = []
+given_up (n ∷ ns) [] = []
+given_up (n ∷ ns) (readiness.GivenUp ∷ rs) = n ∷ given_up ns rs
+given_up (n ∷ ns) (r ∷ rs) = given_up ns rs
 
 abbrev pub AllDiffer : List ℕ → Type 0
 AllDiffer ns = AllPairs (λ m n. m ≢ n) ns

@@ -2,7 +2,7 @@
 -- bank. The bank is old before and new after, and seen says what is seen of it. Of the ends of a client k is known
 -- before and l after.
 use Rattle.std.specs.Prelude.{◌≡◌, ◌<◌, ◌≤◌, ◌≢◌, ◌-◌, ◌^◌, ◌⊎◌, ℕ, List, [], ◌∷◌, ◌++◌, length, map, take, get_or, Option}
-use Rattle.std.specs.Prelude.{Result, Err, ⊤, All, AllPairs, Contains, IfErr}
+use Rattle.std.specs.Prelude.{Result, Err, ⊤, All, AllPairs, Contains, IfErr, IsErr}
 use Rattle.std.specs.List.{AllByRecursion}
 use Rattle.std.specs.Io.KnownBytes.{Appends, Consumes}
 use Rattle.std.specs.declared.io.ErrorKind.{ErrorKind}
@@ -15,7 +15,7 @@ use Rattle.posting_core.specs.believed.Batches.{joined}
 use Rattle.posting_core.specs.believed.Clock.{AreReadings}
 use Rattle.posting_core.specs.believed.Told.{EndsWith, GrowsBy, ReadTold}
 use Rattle.posting_core.specs.Told.{Beside, HasWriteFailed, IsReadFailure, IsThrough, WriteTold, unknown}
-use Rattle.counter_http.specs.Clients.{ClientsTold, Gave, Refused, Closed}
+use Rattle.counter_http.specs.Clients.{ClientsTold, Gave, Gave_up, Refused, Closed}
 use Rattle.counter_http.specs.Connections.{Known}
 use Rattle.counter_http.specs.declared.listen_fault.ListenFault.{ListenFault}
 use Rattle.counter_http.specs.declared.listen_fault.ListenFault.TheVariants.{Network, Bank}
@@ -162,12 +162,14 @@ openings [] = []
 openings (Gave n e ∷ cs) = (n, e) ∷ openings cs
 openings (Closed n e ∷ cs) = openings cs
 openings (Refused kind ∷ cs) = openings cs
+openings (Gave_up n ∷ cs) = openings cs
 
 abbrev pub closings : {E : Type 0} → List (ClientsTold E) → List (ℕ × E)
 closings [] = []
 closings (Gave n e ∷ cs) = closings cs
 closings (Closed n e ∷ cs) = (n, e) ∷ closings cs
 closings (Refused kind ∷ cs) = closings cs
+closings (Gave_up n ∷ cs) = closings cs
 
 -- each was given by an opening, and was served so
 abbrev pub IsVisited : {E : Type 0} → (known : E → Known) → (c c' : Seen) → List Step → List (ClientsTold E)
@@ -175,6 +177,15 @@ abbrev pub IsVisited : {E : Type 0} → (known : E → Known) → (c c' : Seen) 
 IsVisited known c c' steps calls v =
     Contains calls (Gave v.number v.given)
     × ClientIsServed v.number (known v.given) (known v.left) c c' steps v.parting
+
+-- a client was given up only where a wait said so, and stopped only where clients were
+abbrev pub IsWhyParted : {E : Type 0} → (stops : Type 0) → List (ClientsTold E) → ℕ → Parting → Type 0
+IsWhyParted stops calls n parting.GivenUp = Contains calls (Gave_up n)
+IsWhyParted stops calls n parting.Stopped = stops
+IsWhyParted stops calls n _ = ⊤
+
+abbrev pub IsVisitWhy : {E : Type 0} → (stops : Type 0) → List (ClientsTold E) → Visit E → Type 0
+IsVisitWhy stops calls v = IsWhyParted stops calls v.number v.parting
 
 -- a message that the bank refused is of one of them, who was told so
 pub record IsToldTo {E : Type 0} (known : E → Known) (c c' : Seen) (steps : List Step) (visits : List (Visit E))
@@ -247,6 +258,8 @@ pub record ServesTogether {C E : Type 0} (seen : C → Seen) (reason : Fault →
   pub once : AllPairs OfOthers visits
   pub each : All (IsVisited known (seen old) (seen new) (steps_of rounds) calls) visits
   pub all : length visits ≡ length (openings calls)
+  -- nobody else is given up than a wait says, and nobody is stopped where the serving ends well
+  pub parted : All (IsVisitWhy (IsErr result) calls) visits
   -- each message that was refused is its client's own, who was told so
   pub refusals : IfErr result (λ fault. IfBank fault
       (λ f. AllByRecursion (IsToldTo known (seen old) (seen new) (steps_of rounds) visits f) refused))

@@ -52,10 +52,12 @@ pub record IsGoing (i : ℕ) (k l : Known) (c c' : Seen) (steps : List Step) (ha
   pub prompt : AnswersBeforeItsReads i k.reads l.reads k.beside l.beside k.writer k.writes c c' steps
       (texts_of (of_client i steps) ++ rest)
 
--- some answers may be left, where they are written still
+-- some answers may be left, where they are written still; who is given up or stopped is parted from at once
 abbrev pub MayBeLeft : Parting → List ℕ → Type 0
 MayBeLeft parting.Served pending = ⊤
 MayBeLeft (parting.Bank fault) pending = ⊤
+MayBeLeft parting.GivenUp pending = ⊥
+MayBeLeft parting.Stopped pending = ⊥
 MayBeLeft _ pending = pending ≡ []
 
 -- no more of its messages are answered
@@ -196,11 +198,11 @@ pub record IsOver {R W : Type 0} (client : Client R W) : Type 0 where
   pub is : client.parting ≡ Some parting
   pub none : pending client ≡ []
 
--- by these ends it is parted from, which are its own, and for its own cause where nothing is left to be written
-pub record IsParting {R W : Type 0} (client : Client R W) (parts : R × W × Parting) : Type 0 where
+-- by these ends it is parted from, which are its own: for its own cause where it is over, and else for this one
+pub record IsParting {R W : Type 0} (client : Client R W) (cause : Parting) (parts : R × W × Parting) : Type 0 where
   pub reader : parts.0 ≡ client.reader
   pub writer : parts.1 ≡ client.writer
-  pub why : (parts.2 ≡ parting.Stopped) ⊎ ((client.parting ≡ Some parts.2) × (pending client ≡ []))
+  pub why : ((parts.2 ≡ cause) × (IsOver client → ⊥)) ⊎ ((client.parting ≡ Some parts.2) × (pending client ≡ []))
 
 -- of its ends and of who it is nothing changed
 pub record IsSame {R W : Type 0} (old new : Client R W) : Type 0 where

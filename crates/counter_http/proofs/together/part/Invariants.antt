@@ -1,4 +1,4 @@
-use Rattle.std.proofs.Common.{◌-◌, ℕ, vec_len}
+use Rattle.std.proofs.Common.{◌-◌, ℕ, [], vec_len}
 use Rattle.counter_http.specs.together.Crowd.{HaveMoved}
 use Rattle.counter_http.proofs.together.part.Given as goal
 
@@ -7,5 +7,5 @@ decreases-clients g l = vec_len l.here - l.place
 
 abbrev pub invariant-clients : goal.invariant-clients
 invariant-clients g l = (came : ℕ)
-    → HaveMoved (record { told = g.D.Clients.told l.fn.door; came = came; here = l.fn.here.items })
+    → HaveMoved ⊥ [] (record { told = g.D.Clients.told l.fn.door; came = came; here = l.fn.here.items })
     (record { told = g.D.Clients.told l.door; came = came; here = l.here.items })

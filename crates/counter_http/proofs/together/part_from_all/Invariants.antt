@@ -1,4 +1,5 @@
-use Rattle.std.proofs.Common.{ℕ, vec_len}
+use Rattle.std.proofs.Common.{ℕ, [], vec_len}
+use Rattle.std.specs.Prelude.{◌≢◌}
 use Rattle.counter_http.specs.together.Crowd.{HaveMoved}
 use Rattle.counter_http.proofs.together.part_from_all.Given as goal
 
@@ -6,6 +7,9 @@ abbrev pub decreases-clients : goal.decreases-clients
 decreases-clients g l = vec_len l.here
 
 abbrev pub invariant-clients : goal.invariant-clients
-invariant-clients g l = (came : ℕ)
-    → HaveMoved (record { told = g.D.Clients.told l.fn.door; came = came; here = l.fn.here.items })
-    (record { told = g.D.Clients.told l.door; came = came; here = l.here.items })
+invariant-clients g l = record {
+  moved : (came : ℕ)
+      → HaveMoved (l.fn.here.items ≢ []) [] (record { told = g.D.Clients.told l.fn.door; came = came; here = l.fn.here.items })
+      (record { told = g.D.Clients.told l.door; came = came; here = l.here.items });
+  some : l.here.items ≢ [] → l.fn.here.items ≢ [];
+}

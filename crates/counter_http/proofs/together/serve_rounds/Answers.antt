@@ -1,10 +1,13 @@
-use Rattle.std.proofs.Common.{◌≡◌, ◌∙◌, arith, inl, inr, refl, Ok, Err}
+use Rattle.std.proofs.Common.{◌≡◌, ◌∙◌, arith, inl, inr, refl, sym, Ok, Err}
 use Rattle.std.specs.Vec.{with_items}
 use Rattle.std.proofs.lemmas.List.{with_items_is}
 use Rattle.std.proofs.lemmas.Result.{err_from_is_err_and}
+use Rattle.std.proofs.lemmas.Bool.{eqb-true}
 use Rattle.counter_http.specs.declared.listen_fault.ListenFault.TheVariants.{Network}
-use Rattle.counter_http.proofs.CrowdRounds.{after_round, all_up_to_date, before_round, crowd_differs, cut_off_by, rounding_next}
-use Rattle.counter_http.proofs.CrowdRounds.{rounding_none, rounds_broken, rounds_end, waited_still}
+use Rattle.counter_http.proofs.CrowdRounds.{after_round, all_up_to_date, before_round, crowd_differs, cut_off_by, none_here}
+use Rattle.counter_http.proofs.CrowdRounds.{rounding_next, rounding_none, rounds_broken, rounds_end, waited_grows, waited_still}
+use Rattle.counter_http.specs.Clients.{given_up_told}
+use Rattle.counter_http.specs.together.Rounds.{given_up, numbers}
 use Rattle.counter_http.proofs.together.serve_rounds.Goals as goal
 
 pub rounds-init : goal.rounds-init
@@ -17,38 +20,50 @@ rounds-init g c = record {
 -- all were served
 pub returns-then-is_empty-clause-serves : goal.returns-then-is_empty-clause-serves
 returns-then-is_empty-clause-serves g c =
-    rounds_end g.C.Counter.seen c.args.bank.now c.rounds.bank (Ok tt) (refl, refl) tt c.if-came-connections.true refl
+    rounds_end g.C.Counter.seen c.args.bank.now c.rounds.bank (Ok tt) (refl, refl) tt (
+      c.if-came-connections.true,
+      none_here c.rounds.here.items
+          (omega (arith, c.rounds.here.ok.0, eqb-true c.rounds.here.len 0 (sym c.is_empty.ensures ∙ c.if-is_empty.true))),
+    ) refl
     c.rounds.invariant.rounding (λ same. absurd (cc same))
 
 -- an opening failed
 pub returns-in_err-take_in-clause-serves : goal.returns-in_err-take_in-clause-serves
 returns-in_err-take_in-clause-serves g c =
-    let s = before_round c.rounds.here.items c.deref_mut.result.now c.go_on.new.here
-    (with_items c.rounds.here c.go_on.new.here).items c.take_in.new.here.items c.deref_mut.ensures.value
-    (with_items_is c.rounds.here c.go_on.new.here (c.go_on.auto.here ∙ c.deref_mut.ensures.len))
-    c.rounds.invariant.rounding c.wait.ensures c.go_on.ensures c.take_in.ensures.come c.take_in.ensures.few in
+    let s = before_round c.deref.result.now c.rounds.here.items c.deref_mut.result.now c.go_on.new.here
+    (with_items c.rounds.here c.go_on.new.here).items c.give_up.new.here.items c.take_in.new.here.items
+    c.wait.new.readiness.items c.deref-in-rounds-2.result.now c.deref.ensures.value c.deref_mut.ensures.value
+    (with_items_is c.rounds.here c.go_on.new.here (c.go_on.auto.here ∙ c.deref_mut.ensures.len)) c.deref-in-rounds-2.ensures.value
+    c.rounds.invariant.rounding c.wait.ensures c.go_on.ensures c.give_up.ensures c.take_in.ensures.come
+    c.take_in.ensures.few in
     let told = err_from_is_err_and c.from_residual.result c.from_residual.ensures.1 in
     let network : c.in_err-take_in.field-0.0 ≡ Network = cc (c.in_err-take_in.ensures.fault) in
     rw (told.1, told.2, network)
     (rounds_end g.C.Counter.seen c.args.bank.now c.rounds.bank (Err Network) (refl, refl) tt tt refl s
-    (λ same. inl (cut_off_by c.rounds.invariant.rounding c.wait.ensures c.in_err-take_in.ensures.refused)))
+    (λ same. inl (cut_off_by c.rounds.invariant.rounding (waited_grows (given_up_told (given_up (numbers c.deref.result.now) c.wait.new.readiness.items)) c.wait.ensures
+    c.give_up.ensures)
+    c.in_err-take_in.ensures.refused)))
 
 -- no two clients have the same number
 pub answer-answered-requires : goal.answer-answered-requires
 answer-answered-requires g c =
-    let s = before_round c.rounds.here.items c.deref_mut.result.now c.go_on.new.here
-    (with_items c.rounds.here c.go_on.new.here).items c.take_in.new.here.items c.deref_mut.ensures.value
-    (with_items_is c.rounds.here c.go_on.new.here (c.go_on.auto.here ∙ c.deref_mut.ensures.len))
-    c.rounds.invariant.rounding c.wait.ensures c.go_on.ensures c.take_in.ensures.come c.take_in.ensures.few in
+    let s = before_round c.deref.result.now c.rounds.here.items c.deref_mut.result.now c.go_on.new.here
+    (with_items c.rounds.here c.go_on.new.here).items c.give_up.new.here.items c.take_in.new.here.items
+    c.wait.new.readiness.items c.deref-in-rounds-2.result.now c.deref.ensures.value c.deref_mut.ensures.value
+    (with_items_is c.rounds.here c.go_on.new.here (c.go_on.auto.here ∙ c.deref_mut.ensures.len)) c.deref-in-rounds-2.ensures.value
+    c.rounds.invariant.rounding c.wait.ensures c.go_on.ensures c.give_up.ensures c.take_in.ensures.come
+    c.take_in.ensures.few in
     record { others = crowd_differs s.crowd }
 
 -- the bank refused a call
 pub returns-in-Err-clause-serves : goal.returns-in-Err-clause-serves
 returns-in-Err-clause-serves g c =
-    let s = before_round c.rounds.here.items c.deref_mut.result.now c.go_on.new.here
-    (with_items c.rounds.here c.go_on.new.here).items c.take_in.new.here.items c.deref_mut.ensures.value
-    (with_items_is c.rounds.here c.go_on.new.here (c.go_on.auto.here ∙ c.deref_mut.ensures.len))
-    c.rounds.invariant.rounding c.wait.ensures c.go_on.ensures c.take_in.ensures.come c.take_in.ensures.few in
+    let s = before_round c.deref.result.now c.rounds.here.items c.deref_mut.result.now c.go_on.new.here
+    (with_items c.rounds.here c.go_on.new.here).items c.give_up.new.here.items c.take_in.new.here.items
+    c.wait.new.readiness.items c.deref-in-rounds-2.result.now c.deref.ensures.value c.deref_mut.ensures.value
+    (with_items_is c.rounds.here c.go_on.new.here (c.go_on.auto.here ∙ c.deref_mut.ensures.len)) c.deref-in-rounds-2.ensures.value
+    c.rounds.invariant.rounding c.wait.ensures c.go_on.ensures c.give_up.ensures c.take_in.ensures.come
+    c.take_in.ensures.few in
     let answered = c.answer-answered in
     let crowd = after_round g.C.Counter.seen c.args.bank.now c.rounds.bank answered.new.bank c.take_in.new.here.items
     answered.new.here.items c.deref_mut-in-rounds.result.now c.write.new.here
@@ -67,10 +82,12 @@ returns-in-Err-clause-spares g c =
 -- one round more
 pub rounds-preserved : goal.rounds-preserved
 rounds-preserved g c =
-    let s = before_round c.rounds.here.items c.deref_mut.result.now c.go_on.new.here
-    (with_items c.rounds.here c.go_on.new.here).items c.take_in.new.here.items c.deref_mut.ensures.value
-    (with_items_is c.rounds.here c.go_on.new.here (c.go_on.auto.here ∙ c.deref_mut.ensures.len))
-    c.rounds.invariant.rounding c.wait.ensures c.go_on.ensures c.take_in.ensures.come c.take_in.ensures.few in
+    let s = before_round c.deref.result.now c.rounds.here.items c.deref_mut.result.now c.go_on.new.here
+    (with_items c.rounds.here c.go_on.new.here).items c.give_up.new.here.items c.take_in.new.here.items
+    c.wait.new.readiness.items c.deref-in-rounds-2.result.now c.deref.ensures.value c.deref_mut.ensures.value
+    (with_items_is c.rounds.here c.go_on.new.here (c.go_on.auto.here ∙ c.deref_mut.ensures.len)) c.deref-in-rounds-2.ensures.value
+    c.rounds.invariant.rounding c.wait.ensures c.go_on.ensures c.give_up.ensures c.take_in.ensures.come
+    c.take_in.ensures.few in
     let answered = c.answer-answered in
     let crowd = after_round g.C.Counter.seen c.args.bank.now c.rounds.bank answered.new.bank c.take_in.new.here.items
     answered.new.here.items c.deref_mut-in-rounds.result.now c.write.new.here
