@@ -1,10 +1,10 @@
 -- What is told of the statements of all accounts of a bank that shows a log.
-use Rattle.std.proofs.Common.{◌≡◌, ◌<◌, ◌+◌, ◌++◌, ℕ, Bool, true, false, cond, List, [], ◌∷◌, filter, length, map}
+use Rattle.std.proofs.Common.{◌≡◌, ◌<◌, ◌+◌, ◌++◌, ℕ, Bool, true, false, cond, List, [], ◌∷◌, length, map}
 use Rattle.std.proofs.Common.{Option, Result, Ok, Err, refl, sym, ap, subst, ◌∙◌, append-nil, inl, inr, arith}
-use Rattle.std.specs.Prelude.{ℤ, pos, ◌+ℤ◌, ◌≤ℤ◌, ◌==◌, ◌&&◌, All, nat_abs}
+use Rattle.std.specs.Prelude.{ℤ, pos, ◌+ℤ◌, ◌==◌, ◌&&◌, nat_abs}
 use Rattle.std.specs.{List.AllByRecursion, Io.KnownBytes.Appends, Ordering.int_eq}
 use Rattle.std.proofs.lemmas.{Int.ints, List.Elements.All-from_recursion, List.Elements.filter-append}
-use Rattle.message_records.specs.declared.limits.TheConstants.{MAX_ACCOUNT, MAX_BALANCE}
+use Rattle.message_records.specs.declared.limits.TheConstants.{MAX_BALANCE}
 use Rattle.posting_rules.specs.declared.fault.{Rule.Rule, Rule.TheVariants.Balance}
 use Rattle.posting_rules.specs.declared.fault.Fault.TheVariants.{Damaged, Memory}
 use Rattle.posting_rules.specs.believed.Commands.{Command, AreCommands}
@@ -18,10 +18,10 @@ use Rattle.report_contents.specs.declared.query.Query.{Query}
 use Rattle.report_contents.proofs.Written.{nothing_written}
 use Rattle.bank_reports.specs.declared.fault.ReportFault.{ReportFault}
 use Rattle.bank_reports.specs.declared.fault.ReportFault.TheVariants.{Bank, Write}
-use Rattle.bank_reports.specs.AllPostings.{EndsUngathered, IsNoAccount, IsOfAccount, StopsAtAccount, WhyUngathered}
+use Rattle.bank_reports.specs.AllPostings.{IsNoAccount, IsOfAccount, StopsAtAccount, WhyUngathered}
 use Rattle.bank_reports.specs.AllPostings.{WritesGathered, WritesStatements}
-use Rattle.bank_reports.specs.Postings.{WhyStopped, delta_of, sum_of}
-use Rattle.bank_reports.specs.StatedLines.{all_postings, is_posted_to, postings_that, postings_to, stated_of}
+use Rattle.bank_reports.specs.Postings.{delta_of, sum_of}
+use Rattle.bank_reports.specs.StatedLines.{all_postings, postings_to, stated_of}
 use Rattle.bank_reports.proofs.{ByAccount.listing, Further.error_is, LogHistory.each_within, ReportEnds.not_ok}
 use Rattle.bank_reports.proofs.Lined.{AllRunWithin, never_beyond, runs_within}
 use Rattle.bank_reports.proofs.OnLogs.{one_entry, prefix}

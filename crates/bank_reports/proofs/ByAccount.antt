@@ -1,8 +1,8 @@
 -- Postings that stand by rising accounts, and the statements of those accounts.
-use Rattle.std.proofs.Common.{◌≡◌, ◌≤◌, ◌<◌, ◌+◌, ◌-◌, ◌++◌, ℕ, Bool, true, false, cond, List, [], ◌∷◌, filter, length, take}
+use Rattle.std.proofs.Common.{◌≡◌, ◌≤◌, ◌<◌, ◌+◌, ◌-◌, ◌++◌, ℕ, Bool, true, false, cond, List, [], ◌∷◌, length, take}
 use Rattle.std.proofs.Common.{drop, leb, Option, Result, Ok, Err, refl, sym, ap, subst, ◌∙◌, inl, inr, arith, append-nil, append_assoc}
 use Rattle.std.specs.Prelude.{ℤ, pos, negsuc, ◌==◌, ◌≤ℤ◌, All, nat_abs, slice_index_or}
-use Rattle.std.specs.{Bool.MatchBool, Io.KnownBytes.Appends, List.Contains, List.flat_map, List.list_any, Ordering.int_eq}
+use Rattle.std.specs.{Bool.MatchBool, Io.KnownBytes.Appends, List.list_any, Ordering.int_eq}
 use Rattle.std.specs.List.Sorted.{IsNonDecreasingBy, IsPartitionPoint}
 use Rattle.std.proofs.lemmas.List.Sorted.{IsNonDecreasingBy-drop}
 use Rattle.std.proofs.{KnownBytes.Appends-nil, KnownBytes.Appends-trans, lemmas.Int.ints}
@@ -14,7 +14,6 @@ use Rattle.message_records.specs.declared.limits.TheConstants.{MAX_ACCOUNT}
 use Rattle.walked_rows.specs.declared.stated.StatedPosting.{StatedPosting}
 use Rattle.report_contents.specs.AllStatements.{AreListed, account_text, is_listed, is_posting_of, postings_of, text_up_to}
 use Rattle.report_contents.specs.Queries.{is_selected}
-use Rattle.report_contents.specs.Written.{AppendsPart}
 use Rattle.report_contents.specs.declared.{query.Query.Query, query.Selection.Selection}
 use Rattle.report_contents.proofs.Below.{below, below_begins, below_gap, below_has, below_more, below_none}
 use Rattle.report_contents.proofs.Below.{below_only, below_rises}
@@ -23,7 +22,7 @@ use Rattle.report_contents.proofs.Written.{first_part, same_all, same_part, then
 use Rattle.bank_reports.specs.declared.fault.ReportFault.{ReportFault}
 use Rattle.bank_reports.specs.declared.fault.ReportFault.TheVariants.{Bank, Write}
 use Rattle.posting_rules.specs.declared.fault.{Fault.TheVariants.Damaged, Rule.TheVariants.Balance}
-use Rattle.bank_reports.specs.{AllPostings.IsOfAccount, Gathering.account_of, Parts.StopsBefore, Parts.WritesAccount}
+use Rattle.bank_reports.specs.{AllPostings.IsOfAccount, Gathering.account_of, Parts.WritesAccount}
 use Rattle.bank_reports.specs.Parts.{WritesListed, WritesParts, parts_text}
 
 -- ---- whose a posting is

@@ -1,6 +1,5 @@
 -- Rows that are gathered, and then the statements of what was gathered.
-use Rattle.std.proofs.Common.{◌≡◌, ◌∷◌, ◌⊎◌, List, map, Option, Result, Ok, Err, ℕ, refl, sym, subst, ◌∙◌, inl, inr}
-use Rattle.std.specs.Prelude.{All}
+use Rattle.std.proofs.Common.{◌≡◌, ◌∷◌, ◌⊎◌, List, Option, Result, Ok, Err, ℕ, refl, sym, subst, inl, inr}
 use Rattle.posting_rules.specs.declared.fault.{Fault.TheVariants.Damaged, Fault.TheVariants.Down, Fault.TheVariants.Memory}
 use Rattle.posting_rules.specs.declared.fault.{Fault.TheVariants.Store, Rule.TheVariants.Value}
 use Rattle.walked_rows.specs.{Pairs.Pair, Stored.stated_pair, declared.stated.StatedPosting.StatedPosting}
@@ -8,7 +7,7 @@ use Rattle.report_contents.specs.declared.query.Query.{Query}
 use Rattle.bank_reports.specs.declared.fault.ReportFault.{ReportFault}
 use Rattle.bank_reports.specs.declared.fault.ReportFault.TheVariants.{Bank, NoAccount, Write}
 use Rattle.bank_reports.specs.declared.gathering.Gathered.{Gathered}
-use Rattle.bank_reports.specs.AllPostings.{IsNoAccount, IsOfAccount, WhyUngathered, WritesGathered, WritesStatements}
+use Rattle.bank_reports.specs.AllPostings.{IsNoAccount, WhyUngathered, WritesGathered, WritesStatements}
 use Rattle.bank_reports.specs.Gathering.{HasGathered, RefusesRow}
 use Rattle.bank_reports.specs.Postings.{WhyRead}
 use Rattle.bank_reports.specs.Visitors.{EndsVisits, VisitsPostings}

@@ -1,11 +1,11 @@
 -- The lines of postings that are at hand, one after another, and the statement of their account.
-use Rattle.std.proofs.Common.{◌≡◌, ◌++◌, ℕ, List, [], ◌∷◌, Option, Result, Ok, Err, refl, sym, ap, subst, ◌∙◌, append_assoc}
+use Rattle.std.proofs.Common.{◌≡◌, ◌++◌, ℕ, List, [], ◌∷◌, Option, Ok, Err, sym, ap, subst, ◌∙◌, append_assoc}
 use Rattle.std.specs.Prelude.{ℤ, pos, ◌+ℤ◌}
 use Rattle.std.specs.Io.KnownBytes.{Appends}
 use Rattle.std.proofs.KnownBytes.{Appends-trans}
 use Rattle.posting_rules.specs.declared.fault.{Fault.TheVariants.Damaged, Rule.TheVariants.Balance}
 use Rattle.walked_rows.specs.declared.stated.StatedPosting.{StatedPosting}
-use Rattle.report_contents.specs.AllStatements.{above_in, account_text, form_in, text_up_to}
+use Rattle.report_contents.specs.AllStatements.{above_in, account_text, form_in}
 use Rattle.report_contents.specs.{Lines.text_of, Written.AppendsPart}
 use Rattle.report_contents.specs.StatementText.{last_of, line_of, lines_by}
 use Rattle.report_contents.specs.declared.{form.Form.Form, query.Query.Query}
@@ -14,7 +14,7 @@ use Rattle.report_contents.proofs.Written.{first_part, same_all, same_part, then
 use Rattle.bank_reports.specs.declared.fault.ReportFault.{ReportFault}
 use Rattle.bank_reports.specs.declared.fault.ReportFault.TheVariants.{Bank, Write}
 use Rattle.bank_reports.specs.Parts.{WritesAbove, WritesAccount, WritesLines}
-use Rattle.bank_reports.specs.Postings.{WritesLine, delta_of, form_lines, sum_of}
+use Rattle.bank_reports.specs.Postings.{WritesLine, form_lines, sum_of}
 use Rattle.bank_reports.proofs.Further.{text_more}
 use Rattle.bank_reports.proofs.Lined.{sum_of-snoc}
 use Rattle.bank_reports.proofs.OnLogs.{lines-append}

@@ -1,10 +1,10 @@
 -- The statements of all accounts below what stands above all, of postings by account as of those that were gathered.
-use Rattle.std.proofs.Common.{◌≡◌, ◌++◌, ℕ, List, [], ◌∷◌, Option, Result, Ok, Err, refl, sym, ap, subst, ◌∙◌, append-nil, append_assoc}
-use Rattle.std.specs.{Io.KnownBytes.Appends, List.Contains, List.list_any}
+use Rattle.std.proofs.Common.{◌≡◌, ◌++◌, ℕ, List, [], ◌∷◌, Option, Ok, Err, refl, sym, ap, ◌∙◌, append-nil, append_assoc}
+use Rattle.std.specs.{Io.KnownBytes.Appends, List.list_any}
 use Rattle.std.proofs.KnownBytes.{Appends-trans}
 use Rattle.posting_rules.specs.declared.fault.{Fault.TheVariants.Damaged, Rule.TheVariants.Balance}
 use Rattle.walked_rows.specs.declared.stated.StatedPosting.{StatedPosting}
-use Rattle.report_contents.specs.AllStatements.{AreListed, AreStatements, EndAtBalance, account_text, is_listed, postings_of}
+use Rattle.report_contents.specs.AllStatements.{AreListed, account_text, is_listed, postings_of}
 use Rattle.report_contents.specs.AllStatements.{statements_text, text_up_to, top_of}
 use Rattle.report_contents.specs.{Queries.is_selected, Written.AppendsPart}
 use Rattle.report_contents.specs.declared.query.Query.{Query}

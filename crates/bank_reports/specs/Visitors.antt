@@ -1,6 +1,6 @@
 -- What the visitors of postings have done: old and new are the known bytes of the writer before the first posting and
 -- now.
-use Rattle.std.specs.Prelude.{◌≡◌, ◌≢◌, ◌⊎◌, ℕ, List, ◌∷◌, ◌++◌, map, Option, Result, Ok, Err}
+use Rattle.std.specs.Prelude.{◌≡◌, ◌⊎◌, ℕ, List, ◌∷◌, ◌++◌, map, Option, Result, Ok, Err}
 use Rattle.std.specs.Io.KnownBytes.{Appends}
 use Rattle.walked_rows.specs.declared.stated.StatedPosting.{StatedPosting}
 use Rattle.walked_rows.specs.Pairs.{Pair}
@@ -9,7 +9,6 @@ use Rattle.report_contents.specs.Lines.{text_of}
 use Rattle.report_contents.specs.Ranges.{HasSummed}
 use Rattle.report_contents.specs.declared.range_sums.RangeSums.{RangeSums}
 use Rattle.bank_reports.specs.declared.fault.ReportFault.{ReportFault}
-use Rattle.bank_reports.specs.declared.fault.ReportFault.TheVariants.{Write}
 use Rattle.bank_reports.specs.declared.visitors.Lines.{Lines}
 use Rattle.bank_reports.specs.Postings.{WhyRead, WritesLine, form_lines, sum_of}
 

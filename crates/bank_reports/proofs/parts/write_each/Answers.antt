@@ -1,9 +1,7 @@
 -- One line after another.
-use Rattle.std.proofs.Common.{rules, ◌≡◌, ◌<◌, ◌+◌, ◌++◌, ℕ, List, [], ◌∷◌, Ok, Err, drop, get_or, length, take, sym, ap, subst, ◌∙◌}
-use Rattle.std.proofs.Common.{arith, suc}
+use Rattle.std.proofs.Common.{rules, ◌≡◌, ◌<◌, ◌+◌, ◌++◌, [], ◌∷◌, Ok, Err, drop, length, take, sym, ap, subst, ◌∙◌}
 use Rattle.std.specs.Prelude.{ℤ}
-use Rattle.std.proofs.Math.Seq.{drop-cons}
-use Rattle.std.proofs.lemmas.List.{take-append-drop, take_more}
+use Rattle.std.proofs.lemmas.List.{drop_more, take-append-drop, take_more}
 use Rattle.posting_core.proofs.Telling.{more_more}
 use Rattle.report_contents.specs.Lines.{text_of}
 use Rattle.report_contents.proofs.Written.{later_failed, same_all}
@@ -12,13 +10,6 @@ use Rattle.bank_reports.specs.Postings.{WritesLine, form_lines, sum_of}
 use Rattle.bank_reports.proofs.Further.{error_is}
 use Rattle.bank_reports.proofs.LinesWritten.{lines_end, one_more_line}
 use Rattle.bank_reports.proofs.parts.write_each.Goals as goal
-
--- those to come begin with the row
-next_left : {X : Type 0} (xs : List X) (i : ℕ) (x : X) → i < length xs → x ≡ get_or xs i x
-    → drop i xs ≡ x ∷ drop (i + 1) xs
-next_left xs i x low is =
-    let later : suc i ≡ i + 1 = omega arith in
-    drop-cons xs i x low ∙ ap (λ y. y ∷ drop (suc i) xs) (sym is) ∙ ap (λ m. x ∷ drop m xs) later
 
 pub returns-in_err-after : goal.returns-in_err-after
 returns-in_err-after g c =
@@ -33,7 +24,7 @@ returns-in_err-after g c =
     let form = c.args.form.now in
     let r = c.row-item.result in
     let low : i < length rows = search rules in
-    let split = sym (take-append-drop i rows) ∙ ap (λ l. take i rows ++ l) (next_left rows i r low c.row-item.is) in
+    let split = sym (take-append-drop i rows) ∙ ap (λ l. take i rows ++ l) (drop_more rows i r low ∙ ap (λ x. x ∷ drop (i + 1) rows) (sym c.row-item.is)) in
     let line = subst (λ (z : ℤ). WritesLine form r z mid new (Err fault)) so_far.balance says.written in
     record {
       written = rw same (lines_end form (take i rows) r (g.W.Sink.contents c.args.writer.now) mid new so_far.wrote

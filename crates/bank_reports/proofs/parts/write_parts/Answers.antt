@@ -1,5 +1,5 @@
 -- The postings of one account after those of another.
-use Rattle.std.proofs.Common.{rules, ◌≡◌, ◌<◌, ◌≤◌, ◌+◌, ◌-◌, ◌++◌, List, [], ◌∷◌, Option, None, Some, Ok, Err, drop, leb, length, refl, sym, ap, subst, ◌∙◌}
+use Rattle.std.proofs.Common.{rules, ◌≡◌, ◌<◌, List, [], ◌∷◌, Option, None, Some, Ok, Err, drop, leb, length, refl, sym, ap, subst, ◌∙◌}
 use Rattle.std.proofs.Common.{arith, false, slice_get, slice_index_or, take, true}
 use Rattle.std.specs.List.Sorted.{IsPartitionPoint}
 use Rattle.std.proofs.lemmas.List.{length-drop}

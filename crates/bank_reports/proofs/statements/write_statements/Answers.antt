@@ -1,5 +1,5 @@
 -- The statements of all accounts of a file, and of a bank that shows a log.
-use Rattle.std.proofs.Common.{rules, ◌≡◌, ◌∙◌, ℕ, List, [], Option, Ok, Err, refl, sym, ap, subst, inl, inr}
+use Rattle.std.proofs.Common.{rules, ◌≡◌, ◌∙◌, ℕ, List, [], Option, Err, refl, sym, subst, inl, inr}
 use Rattle.std.specs.Prelude.{All}
 use Rattle.sqlite.specs.{State.HasCleanDisk, Held.state}
 use Rattle.posting_rules.specs.{declared.fault.Fault.TheVariants.Down, believed.Commands.Command}
@@ -20,9 +20,8 @@ use Rattle.bank_reports.proofs.AllOnLogs.{all_part, all_sound, all_whole}
 use Rattle.bank_reports.proofs.FaultsTold.{down_is_sound, unstated_all}
 use Rattle.bank_reports.proofs.Gathers.{gathered_ends, gathered_then, silent_so_far, ungathered}
 use Rattle.bank_reports.proofs.OnLogs.{all_rows, has_stated, stated_rows}
-use Rattle.bank_reports.proofs.ReportEnds.{damaged_not_down, down_not_memory, down_not_store, not_missing, not_write}
-use Rattle.bank_reports.proofs.ReportEnds.{of_err, of_ok, same_fault, tested_up, written_of}
-use Rattle.bank_reports.proofs.statements.write_statements.Given.{Over}
+use Rattle.bank_reports.proofs.ReportEnds.{down_not_store, not_write}
+use Rattle.bank_reports.proofs.ReportEnds.{of_err, of_ok, tested_up, written_of}
 use Rattle.bank_reports.proofs.statements.write_statements.Goals as goal
 
 -- ---- a bank that was down
