@@ -38,8 +38,8 @@ use Rattle.load_driver.specs.declared.{drive.Driven.Driven, drive_fault.DriveFau
 use Rattle.command_line.specs.Translating.{ended_by_replies, ended_by_sheet}
 use Rattle.command_line.specs.Working.{DrivesOver, LoadsAnswer, LoadsOver, ServesOver, TellsDrive, TellsLoad}
 use Rattle.command_line.specs.Working.{TellsServing, done_after, ended_by_load}
-use Rattle.bank_commands.specs.Commands.{EndsPost, PrintsDrive, PrintsLoad, PrintsServe, StatesAsked, StatesOver, TellsLine}
-use Rattle.bank_commands.specs.Commands.{ended_by, stated_by}
+use Rattle.bank_commands.specs.Commands.{EndsAllStated, EndsPost, PrintsDrive, PrintsLoad, PrintsServe, StatesAllAsked}
+use Rattle.bank_commands.specs.Commands.{StatesAllOver, StatesAsked, StatesOver, TellsLine, ended_by, stated_by}
 use Rattle.bank_commands.specs.{Over.IsRefusedOver, Over.RunsOver}
 use Rattle.bank_commands.specs.Running.{LeavesClock, LeavesInput, PrintsNone, Tells}
 use Rattle.bank_commands.specs.Replaying.{PrintsDigest, PrintsReplay, ended_by_writing, ended_with}
@@ -200,6 +200,25 @@ pub states_done : {S : Type 0} (g : Ghosts S) (conn back : Held S) (account : �
 states_done g conn back account (Ok query) w w' told states = query_done g conn back account query w w' told states
 states_done g conn back account (Err fault) w w' told states = rw states.0 tt
 
+all_stated_done : (stated : Result (Unit {0}) ReportFault) (told : Result Status CommandFault)
+    → EndsAllStated stated told → IfOk told (λ status. status ≡ Done)
+all_stated_done (Ok done) told is = rw is refl
+all_stated_done (Err report.NoAccount) told is = absurd is
+all_stated_done (Err report.Write) told is = rw is tt
+all_stated_done (Err (report.Bank cause)) told is = rw is tt
+
+all_done : {S : Type 0} (g : Ghosts S) (conn back : Held S) (query : Query)
+    (w w' : Option (List ℕ)) (told : Result Status CommandFault)
+    → StatesAllOver g conn back query w w' None None told → IfOk told (λ status. status ≡ Done)
+all_done g conn back query w w' told (inl none, spares) = rw (err_from_is_err_and told none.0).1 tt
+all_done g conn back query w w' told (inr works, spares) = all_stated_done works.did.1.0 told works.did.1.1
+
+pub all_states_done : {S : Type 0} (g : Ghosts S) (conn back : Held S)
+    (query : Result Query QueryFault) (w w' : Option (List ℕ)) (told : Result Status CommandFault)
+    → StatesAllAsked g conn back query w w' None None told → IfOk told (λ status. status ≡ Done)
+all_states_done g conn back (Ok query) w w' told states = all_done g conn back query w w' told states
+all_states_done g conn back (Err fault) w w' told states = rw states.0 tt
+
 -- where a text was written
 pub written_done : {S : Type 0} {g : Ghosts S} (Why : Refused S → Type 0) (Did : Bank S g → Bank S g → Type 0)
     {back : Held S} {Idle : Type 0} (told : Result Status CommandFault) → RunsOver g Why back told Idle Did
@@ -231,6 +250,7 @@ tells_idle (commands.Post file) f r w has = (tt, λ _. (refl, refl))
 tells_idle (commands.Drive file seed count) f r w has = inl (Keeps-refl w)
 tells_idle (commands.Audit file) f r w has = inl ((f, refl), Keeps-refl w)
 tells_idle (commands.Statement file account query) f r w has = tt
+tells_idle (commands.Statements file query) f r w has = tt
 tells_idle (commands.Replay file) f r w has = inl ((f, refl), Keeps-refl w)
 tells_idle (commands.Digest file requests) f r w has = inl ((f, refl), Keeps-refl w)
 tells_idle (commands.Export file after) f r w has = tt
@@ -360,6 +380,7 @@ told_is_not_usage (commands.Audit file) r r' w w' status (inl none) = not_a_faul
 told_is_not_usage (commands.Audit file) r r' w w' status (inr told) =
     audited_is_not_usage told.0 w w' status told.1
 told_is_not_usage (commands.Statement file account query) r r' w w' status told = done_is_not_usage status told
+told_is_not_usage (commands.Statements file query) r r' w w' status told = done_is_not_usage status told
 told_is_not_usage (commands.Replay file) r r' w w' status (inl none) = not_a_fault status _ none.0.1
 told_is_not_usage (commands.Replay file) r r' w w' status (inr told) =
     replayed_is_not_usage told.0 w w' status told.1

@@ -24,6 +24,7 @@ use Rattle.bank_store.specs.Seen.{fault_of}
 use Rattle.bank_store.specs.declared.bank.Bank.{Bank}
 use Rattle.bank_store.specs.declared.migration.Migrated.{Migrated}
 use Rattle.bank_store.specs.declared.migration.Migrated.TheVariants.{Already, Moved}
+use Rattle.bank_reports.specs.AllStatements.{StatesAll, StatesAllOfFile}
 use Rattle.bank_reports.specs.Audits.{Audits, AuditsFile}
 use Rattle.bank_store.specs.Leaving.{CommitsAsFound, LeavesAsFound}
 use Rattle.bank_reports.specs.Statements.{RefusesBalance, StatesFileSelected, StatesSelected}
@@ -155,13 +156,49 @@ StatesOver g conn back account query w w' t t' told =
     (λ old new. (stated : Result (Unit {0}) ReportFault) × (told ≡ stated_by account stated)
     × StatesBank g account query w w' t t' stated old new)
 
+-- how the statements of all accounts end it; none misses an account
+abbrev pub EndsAllStated : Result (Unit {0}) ReportFault → Result Status CommandFault → Type 0
+EndsAllStated (Ok done) told = told ≡ Ok Done
+EndsAllStated (Err report.NoAccount) told = ⊥
+EndsAllStated (Err report.Write) told = told ≡ Err faults.Write
+EndsAllStated (Err (report.Bank cause)) told = told ≡ Err (fault_of_bank cause)
+
+-- what is asked for of all accounts of a bank was stated, and of its file, whatever rows that has
+pub record StatesAllOfBank {S : Type 0} (g : Ghosts S) (query : Query) (w w' : Option (List ℕ))
+    (t t' : Option (List WriteTold)) (stated : Result (Unit {0}) ReportFault) (old new : Bank S g)
+    : Type 0 where
+  pub bank : StatesAll (bank_seen g old) (bank_seen g new) query w w' stated
+  pub file : (bank_seen g new).honest → StatesAllOfFile g old new query w w' stated
+  pub flushed : OnOk stated (EndsWith IsFlush t t')
+  pub failed : stated ≡ Err report.Write → HasWriteFailed t t'
+  pub memory : stated ≡ Err (report.Bank Memory) → w' ≡ w
+  pub up : (bank_seen g new).is_down → (bank_seen g old).is_down
+  pub leaves : LeavesAsFound g old new
+
+abbrev pub StatesAllOver : {S : Type 0} (g : Ghosts S) → (conn back : Held S) → Query → (w w' : Option (List ℕ))
+    → (t t' : Option (List WriteTold)) → Result Status CommandFault → Type 0
+StatesAllOver g conn back query w w' t t' told =
+    FindsOver g conn back told (w' ≡ w)
+    (λ old new. (stated : Result (Unit {0}) ReportFault) × EndsAllStated stated told
+    × StatesAllOfBank g query w w' t t' stated old new)
+
 -- what was asked for was stated; or it is nothing that can be asked, and nothing was done
+abbrev pub DoesAsked : {S : Type 0} → (conn back : Held S) → (w w' : Option (List ℕ)) → (States : Query → Type 0)
+    → Result Query QueryFault → Result Status CommandFault → Type 0
+DoesAsked conn back w w' States (Ok query) told = States query
+DoesAsked conn back w w' States (Err fault) told = (told ≡ Err (faults.Query fault)) × (back ≡ conn) × (w' ≡ w)
+
 abbrev pub StatesAsked : {S : Type 0} (g : Ghosts S) → (conn back : Held S) → ℕ
     → Result Query QueryFault → (w w' : Option (List ℕ)) → (t t' : Option (List WriteTold))
     → Result Status CommandFault → Type 0
-StatesAsked g conn back account (Ok query) w w' t t' told = StatesOver g conn back account query w w' t t' told
-StatesAsked g conn back account (Err fault) w w' t t' told =
-    (told ≡ Err (faults.Query fault)) × (back ≡ conn) × (w' ≡ w)
+StatesAsked g conn back account query w w' t t' told =
+    DoesAsked conn back w w' (λ query. StatesOver g conn back account query w w' t t' told) query told
+
+-- the same of all accounts
+abbrev pub StatesAllAsked : {S : Type 0} (g : Ghosts S) → (conn back : Held S) → Result Query QueryFault
+    → (w w' : Option (List ℕ)) → (t t' : Option (List WriteTold)) → Result Status CommandFault → Type 0
+StatesAllAsked g conn back query w w' t t' told =
+    DoesAsked conn back w w' (λ query. StatesAllOver g conn back query w w' t t' told) query told
 
 -- ---- how a command ends and what it prints, whatever bank is there
 

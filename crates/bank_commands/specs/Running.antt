@@ -29,8 +29,8 @@ use Rattle.command_line.specs.declared.reading.Command.TheVariants as commands
 use Rattle.command_line.specs.declared.status.Status.{Status}
 use Rattle.command_line.specs.declared.status.Status.TheVariants.{Done, System}
 use Rattle.bank_commands.specs.Commands.{AuditsOver, DrivesBank, EndsPost, Inits, Loads, LooksOver, Migrates, Posts}
-use Rattle.bank_commands.specs.Commands.{PrintsDrive, PrintsLoad, PrintsServe, Serves, StatesAsked, TellsLine}
-use Rattle.bank_commands.specs.Commands.{migration_line}
+use Rattle.bank_commands.specs.Commands.{PrintsDrive, PrintsLoad, PrintsServe, Serves, StatesAllAsked}
+use Rattle.bank_commands.specs.Commands.{StatesAsked, TellsLine, migration_line}
 use Rattle.bank_commands.specs.Following.{Follows, LogsOver, PrintsFollow}
 use Rattle.bank_commands.specs.Replaying.{DigestsOver, ExportsOver, PlansOver, PrintsDigest, PrintsReplay}
 use Rattle.bank_commands.specs.Replaying.{ReplaysOver}
@@ -64,6 +64,8 @@ DoesOver g conn back IsNamed known r r' w w' k k' (commands.Drive file seed coun
 DoesOver g conn back IsNamed known r r' w w' k k' (commands.Audit file) told = AuditsOver g conn back w w' told
 DoesOver g conn back IsNamed known r r' w w' k k' (commands.Statement file account query) told =
     StatesAsked g conn back account query w w' None None told
+DoesOver g conn back IsNamed known r r' w w' k k' (commands.Statements file query) told =
+    StatesAllAsked g conn back query w w' None None told
 DoesOver g conn back IsNamed known r r' w w' k k' (commands.Serve file address connections) told =
     Serves g conn back w w' k k' (unwrap_or connections ALL_THAT_COME) told
 DoesOver g conn back IsNamed known r r' w w' k k' (commands.Replay file) told =
@@ -86,8 +88,8 @@ DoesOver g conn back IsNamed known r r' w w' k k' (commands.Decode money sheet) 
     (back ≡ conn)
     × DecodesIn money (option_map (λ s. s.now) sheet) IsNamed known r r' None None w w' None None told
 
--- ---- how it ends and what it prints, whatever bank is there; the text of `post`, `statement`, `export`, `log` and
--- `plan` is the bank's
+-- ---- how it ends and what it prints, whatever bank is there; the text of `post`, `statement`, `statements`, `export`,
+-- `log` and `plan` is the bank's
 
 -- it told a fault and printed nothing; or else Said holds
 abbrev pub PrintsNone : (w w' : Option (List ℕ)) → Result Status CommandFault → (Said : Type 0) → Type 0
@@ -107,6 +109,7 @@ Tells (commands.Drive file seed count) r r' w w' told = PrintsDrive w w' count t
 Tells (commands.Audit file) r r' w w' told =
     PrintsNone w w' told ((found : Result Audit Fault) × Prints found w w' told)
 Tells (commands.Statement file account query) r r' w w' told = IfOk told (λ status. status ≡ Done)
+Tells (commands.Statements file query) r r' w w' told = IfOk told (λ status. status ≡ Done)
 Tells (commands.Replay file) r r' w w' told =
     PrintsNone w w' told ((found : Result Replay Fault) × PrintsReplay found w w' None None told)
 Tells (commands.Digest file requests) r r' w w' told =

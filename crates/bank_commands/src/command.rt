@@ -7,7 +7,8 @@ ghost use Rattle.bank_commands.specs.Running.{DoesOver, LeavesClock, LeavesInput
 use crate::ended::Ended;
 use crate::{
     audit_over, digest_over, drive_over, export_over, follow_over, init_over, load_over, log_over,
-    migrate_over, plan_over, post_over, replay_over, serve_over, statement_over, why_over,
+    migrate_over, plan_over, post_over, replay_over, serve_over, statement_over, statements_over,
+    why_over,
 };
 use bank_replays::Watch;
 use branch_loader::FollowWatch;
@@ -64,6 +65,7 @@ pub fn command_over<
         Command::Statement { account, query, .. } => {
             statement_over(alloc, conn, account, query, output)
         }
+        Command::Statements { query, .. } => statements_over(alloc, conn, query, output),
         Command::Replay { .. } => replay_over(alloc, conn, output, watch),
         Command::Digest { requests, .. } => digest_over(alloc, conn, requests, output),
         Command::Export { after, .. } => export_over(alloc, conn, after, output),

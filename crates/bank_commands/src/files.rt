@@ -92,16 +92,17 @@ pub(crate) fn command_in<S: Start, R: Read, W: Write, K: Clock>(
         Command::Load { file, .. }
         | Command::Post { file }
         | Command::Drive { file, .. }
-        | Command::Audit { file }
+        | Command::Follow { file, .. }
+        | Command::Serve { file, .. }
+        | Command::Migrate { file } => (file, true),
+        Command::Audit { file }
         | Command::Statement { file, .. }
+        | Command::Statements { file, .. }
         | Command::Replay { file }
         | Command::Digest { file, .. }
         | Command::Export { file, .. }
         | Command::Log { file, .. }
-        | Command::Plan { file }
-        | Command::Follow { file, .. }
-        | Command::Serve { file, .. }
-        | Command::Migrate { file } => (file, true),
+        | Command::Plan { file } => (file, true),
     };
     if finds_bank {
         look_for(rt, file)?;

@@ -1,7 +1,8 @@
 //! The commands of the program, each a function from a connection to a connection, over any store: [`init_over`]
 //! makes a bank, [`load_over`] opens its branches, [`post_over`] posts to it, [`drive_over`] posts what the driver
 //! draws, [`serve_over`] posts what comes over HTTP, [`audit_over`] says whether the books agree (TPC-B clause 2),
-//! [`statement_over`] writes the postings of an account, [`replay_over`] says whether the tables are what the rules give,
+//! [`statement_over`] writes the postings of an account, [`statements_over`] those of all, [`replay_over`] says whether the
+//! tables are what the rules give,
 //! [`digest_over`] prints the digest of the first requests, [`export_over`] writes the requests as records, [`log_over`]
 //! as entries of a log and [`plan_over`] the branches as a plan, [`follow_over`] takes a bank along the log of another
 //! one, [`migrate_over`] carries over a bank of an older version, and [`why_over`] says that a bank can be used.
@@ -78,6 +79,6 @@ pub use following::{follow_over, log_over};
 pub use migration::migrate_over;
 pub use reasons::tell_reason;
 pub use replaying::{digest_over, export_over, plan_over, replay_over};
-pub use reports::{audit_over, statement_over, why_over};
+pub use reports::{audit_over, statement_over, statements_over, why_over};
 pub use running::{run, words_of};
 pub use serving::serve_over;

@@ -107,6 +107,7 @@ fn file_of<'a>(command: &Command<'a>) -> Option<&'a str> {
         | Command::Migrate { file } => Some(file),
         Command::Audit { file }
         | Command::Statement { file, .. }
+        | Command::Statements { file, .. }
         | Command::Replay { file }
         | Command::Digest { file, .. }
         | Command::Export { file, .. }

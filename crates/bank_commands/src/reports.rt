@@ -1,11 +1,12 @@
-//! The commands that audit a bank, that write the statement of an account, and that say that a bank can be used.
-ghost use Rattle.std.specs.Prelude.{◌≡◌, IsErrOf, false};
+//! The commands that audit a bank, that write the statement of an account or of all, and that say that a bank can be used.
+ghost use Rattle.std.specs.Prelude.{◌≡◌, ◌≢◌, Err, IsErrOf, false};
 ghost use Rattle.posting_core.specs.Told.{HasWriteFailed};
-ghost use Rattle.bank_commands.specs.Commands.{AuditsOver, LooksOver, StatesAsked, StatesOver, stated_by};
+ghost use Rattle.bank_commands.specs.Commands.{AuditsOver, EndsAllStated, LooksOver, StatesAllAsked, StatesAllOver};
+ghost use Rattle.bank_commands.specs.Commands.{StatesAsked, StatesOver, stated_by};
 
 use crate::commands::done;
 use crate::ended::{Ended, find};
-use bank_reports::{Query, ReportFault, audit, write_selected};
+use bank_reports::{Query, ReportFault, audit, write_selected, write_statements};
 use command_line::{CommandFault, QueryFault, Status, print_audit, print_usable};
 use message_records::Account;
 use posting_core::Sink;
@@ -84,6 +85,51 @@ fn query_over<S: Alter + Drop, W: Sink>(
     }
 }
 
+/// Writes the statements of all accounts of the bank that is found that have a posting which is asked for. Where that is
+/// nothing that can be asked, it looks for no bank.
+pub fn statements_over<S: Alter + Drop, W: Sink>(
+    alloc: Global,
+    conn: Connection<S>,
+    query: Result<Query, QueryFault>,
+    output: &mut W,
+) -> Ended<S>
+    requires { conn.in_transaction ≡ false }
+    ensures states { StatesAllAsked S.Store conn result.conn query (W.contents output.old)
+        (W.contents output.new) (W.told output.old) (W.told output.new) result.told }
+    ensures idle { result.conn.in_transaction ≡ false }
+{
+    match query {
+        Ok(query) => all_over(alloc, conn, query, output),
+        Err(fault) => Ended {
+            told: Err(CommandFault::Query(fault)),
+            conn,
+        },
+    }
+}
+
+// The same of what can be asked.
+fn all_over<S: Alter + Drop, W: Sink>(
+    alloc: Global,
+    conn: Connection<S>,
+    query: Query,
+    output: &mut W,
+) -> Ended<S>
+    requires { conn.in_transaction ≡ false }
+    ensures states { StatesAllOver S.Store conn result.conn query (W.contents output.old)
+        (W.contents output.new) (W.told output.old) (W.told output.new) result.told }
+    ensures idle { result.conn.in_transaction ≡ false }
+{
+    let mut bank = match find(alloc, conn) {
+        Ok(bank) => bank,
+        Err(ended) => return ended,
+    };
+    let told = all_stated(write_statements(&mut bank, query, output));
+    Ended {
+        told,
+        conn: bank.release(),
+    }
+}
+
 /// Prints that the bank can be used, where one is found.
 pub fn why_over<S: Alter + Drop, W: Sink>(
     alloc: Global,
@@ -108,7 +154,20 @@ pub fn why_over<S: Alter + Drop, W: Sink>(
     }
 }
 
-// How the program ends after a statement.
+// How the program ends after the statements of all accounts.
+fn all_stated(told: Result<(), ReportFault>) -> Result<Status, CommandFault>
+    requires { told ≢ Err ReportFault.NoAccount }
+    ensures { EndsAllStated told result }
+{
+    match told {
+        Ok(()) => Ok(Status::Done),
+        Err(ReportFault::NoAccount) => unreachable!(),
+        Err(ReportFault::Write) => Err(CommandFault::Write),
+        Err(ReportFault::Bank(fault)) => Err(CommandFault::from(fault)),
+    }
+}
+
+// How it ends after a statement.
 fn stated(account: Account, told: Result<(), ReportFault>) -> Result<Status, CommandFault>
     ensures { result ≡ stated_by account told }
 {

@@ -1,6 +1,6 @@
 -- What each command did is what was asked for.
 use Rattle.std.proofs.Common.{refl, sym}
-use Rattle.bank_commands.proofs.{FollowTold.logs_done, Told.prints_none, Told.states_done, Told.written_done}
+use Rattle.bank_commands.proofs.{FollowTold.logs_done, Told.all_states_done, Told.prints_none, Told.states_done, Told.written_done}
 use Rattle.bank_commands.proofs.Unnamed.{tells_decode}
 use Rattle.bank_commands.proofs.command.command_over.Goals as goal
 
@@ -47,6 +47,17 @@ returns-in-Statement g c =
     rw c.in-Statement.is record {
       does = it.states;
       tells = states_done _ _ _ _ _ _ _ c.statement_over.result.told it.states;
+      input = refl;
+      clock = refl;
+      idle = it.idle;
+    }
+
+pub returns-in-Statements : goal.returns-in-Statements
+returns-in-Statements g c =
+    let it = c.statements_over.ensures in
+    rw c.in-Statements.is record {
+      does = it.states;
+      tells = all_states_done _ _ _ _ _ _ c.statements_over.result.told it.states;
       input = refl;
       clock = refl;
       idle = it.idle;
