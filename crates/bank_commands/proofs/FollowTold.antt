@@ -7,6 +7,7 @@ use Rattle.sqlite.specs.{Effect.Database, Held.Held, State.HasCleanDisk}
 use Rattle.sqlite.proofs.StateLemmas.{survives_then}
 use Rattle.sqlite_trees.specs.declared.store.Store.{Ghosts}
 use Rattle.posting_rules.specs.{believed.Counter.Seen, declared.fault.Fault.Fault}
+use Rattle.posting_rules.specs.declared.fault.Fault.TheVariants as bank
 use Rattle.posting_core.specs.believed.Told.{ReadTold}
 use Rattle.store_rows.specs.believed.Sparing.{SparesOthers}
 use Rattle.branch_loader.specs.declared.fault.PlanFault.{PlanFault}
@@ -19,6 +20,8 @@ use Rattle.bank_replays.specs.declared.fault.ReplayFault.{ReplayFault, TheVarian
 use Rattle.command_line.specs.Following.{FollowsAnswer, TellsFollowed}
 use Rattle.command_line.specs.{Lines.after_line, Lines.followed_line, Working.done_after}
 use Rattle.command_line.specs.declared.fault.CommandFault.{CommandFault}
+use Rattle.command_line.specs.declared.fault.CommandFault.TheVariants as command
+use Rattle.command_line.specs.CommandFaults.{fault_of_bank}
 use Rattle.command_line.specs.declared.status.Status.{Status, TheVariants.Done}
 use Rattle.bank_commands.specs.Following.{FollowsCounted, FollowsFound, LogsOver, PrintsFollow, ended_by_log}
 
@@ -41,6 +44,13 @@ pub logs_done : {S : Type 0} (g : Ghosts S) (conn back : Held S) (after : ℕ) (
 logs_done g conn back after w w' told (inl none, spares) = rw (err_from_is_err_and told none.0).1 tt
 logs_done g conn back after w w' told (inr works, spares) =
     rw works.did.1.1 (log_done after works.did.1.0)
+
+-- no call of a bank fails since the output did
+pub bank_not_write : {Q : Type 0} (cause : Fault) → fault_of_bank cause ≡ command.Write → Q
+bank_not_write bank.Memory is = cc is
+bank_not_write bank.Store is = cc is
+bank_not_write bank.Down is = cc is
+bank_not_write (bank.Damaged rule) is = cc is
 
 -- ---- a log that was followed: both lines, where it was to the end
 

@@ -1,13 +1,15 @@
 -- What the commands that write a log, and that follow one, do over the connection conn, which they hand back as back,
 -- and how they end: told is the status or the fault. r and r' are the known bytes of the input before and after, and w
 -- and w' those of the output; what the calls of these are known to have returned is q and q', and t and t'.
-use Rattle.std.specs.Prelude.{◌≡◌, ◌++◌, ℕ, List, length, Option, Result, Ok, Err, IfOk, OnOk, if◌then◌else◌, nat_lt}
+use Rattle.std.specs.Prelude.{◌≡◌, ◌≢◌, ◌++◌, ℕ, List, length, Option, Result, Ok, Err, IfOk, OnOk, if◌then◌else◌, nat_lt}
 use Rattle.std.specs.Io.KnownBytes.{Appends, Keeps}
 use Rattle.sqlite.specs.Held.{Held}
 use Rattle.sqlite_trees.specs.declared.store.Store.{Ghosts}
 use Rattle.posting_rules.specs.believed.Commands.{Command}
 use Rattle.posting_rules.specs.believed.Counter.{ShowsLog}
 use Rattle.posting_rules.specs.declared.fault.Fault.{Fault}
+use Rattle.posting_rules.specs.declared.fault.Fault.TheVariants.{Damaged}
+use Rattle.posting_rules.specs.declared.fault.Rule.{Rule}
 use Rattle.posting_core.specs.believed.LogEntries.{log_entries}
 use Rattle.posting_core.specs.Told.{WriteTold}
 use Rattle.posting_core.specs.believed.Told.{ReadTold}
@@ -18,6 +20,7 @@ use Rattle.bank_store.specs.believed.Seen.{bank_seen, database_of}
 use Rattle.bank_store.specs.believed.BankSparing.{SparesOtherTables}
 use Rattle.bank_store.specs.Seen.{fault_of}
 use Rattle.bank_store.specs.declared.bank.Bank.{Bank}
+use Rattle.bank_replays.specs.Damaged.{TellsWhy, fault_in}
 use Rattle.bank_replays.specs.Logs.{LogsEntries, LogsRows, without_count}
 use Rattle.bank_replays.specs.Replays.{HasAnswered}
 use Rattle.bank_replays.specs.Writing.{LeavesWriter}
@@ -49,6 +52,7 @@ pub record LogsBank {S : Type 0} (g : Ghosts S) (after : ℕ) (w w' : Option (Li
   pub log : (bank_seen g new).honest → (log : List Command) → ShowsLog (bank_seen g old) log
       → LogsEntries after (log_entries log) w w' ends
   pub writer : LeavesWriter t t' (without_count ends)
+  pub why : TellsWhy g fault_in old new ends
   pub bank : TakesNone (bank_seen g old) (bank_seen g new) (HasAnswered ends)
   pub up : fault_of new ≡ fault_of old
   pub leaves : LeavesAsFound g old new
@@ -66,6 +70,8 @@ LogsOver g conn back after w w' t t' told =
 pub record CountsBank {S : Type 0} (g : Ghosts S) (counted : Result ℕ Fault) (old new : Bank S g) : Type 0 where
   pub log : (bank_seen g new).honest → (log : List Command) → ShowsLog (bank_seen g old) log
       → IfOk counted (λ count. count ≡ length (log_entries log))
+  pub sound : (bank_seen g new).honest → (log : List Command) → ShowsLog (bank_seen g old) log → (rule : Rule)
+      → counted ≢ Err (Damaged rule)
   pub bank : TakesNone (bank_seen g old) (bank_seen g new) (HasAnswered counted)
   pub same : (bank_seen g new).honest → OnOk counted (database_of g new ≡ database_of g old)
   pub up : fault_of new ≡ fault_of old

@@ -1,5 +1,6 @@
 //! The commands that write the log of a bank, and that take a bank along the log of another one.
-ghost use Rattle.std.specs.Prelude.{◌≡◌, false};
+ghost use Rattle.std.specs.Prelude.{◌≡◌, IsErrOf, false};
+ghost use Rattle.posting_core.specs.Told.{HasWriteFailed};
 ghost use Rattle.bank_store.specs.OpenBankSparing.{SparesWhileOpen};
 ghost use Rattle.bank_store.specs.believed.Seen.{connection_of};
 ghost use Rattle.command_line.specs.Working.{known_source};
@@ -55,6 +56,8 @@ pub fn follow_over<S: Alter + Drop, P: Plans, R: Source, W: Sink, V: Watch + Fol
         (known_source P.Plan.remaining P.Plan.told) (R.remaining input.old) (R.remaining input.new)
         (R.told input.old) (R.told input.new) (W.contents output.old) (W.contents output.new) result.told }
     ensures prints { PrintsFollow (W.contents output.old) (W.contents output.new) result.told }
+    ensures unprinted { IsErrOf result.told CommandFault.Write
+        → HasWriteFailed (W.told output.old) (W.told output.new) }
     ensures idle { result.conn.in_transaction ≡ false }
 {
     let mut bank = match find(alloc, conn) {
@@ -83,6 +86,8 @@ fn follow_found<S: Alter + Drop, P: Plans, R: Source, W: Sink, V: FollowWatch>(
         (known_source P.Plan.remaining P.Plan.told) (R.remaining input.old) (R.remaining input.new)
         (R.told input.old) (R.told input.new) (W.contents output.old) (W.contents output.new)
         bank.old bank.new result }
+    ensures unprinted { IsErrOf result CommandFault.Write
+        → HasWriteFailed (W.told output.old) (W.told output.new) }
     ensures spares { SparesWhileOpen S.Store (connection_of bank.old) (connection_of bank.new) }
 {
     let requests = count_requests(bank)?;

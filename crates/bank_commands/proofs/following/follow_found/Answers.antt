@@ -3,7 +3,7 @@ use Rattle.std.proofs.Common.{rules, ◌≡◌, Err, Ok, refl}
 use Rattle.std.proofs.KnownBytes.{Keeps-refl}
 use Rattle.bank_store.proofs.{AsFound.as_found_spares, Spared.call_spares}
 use Rattle.command_line.specs.CommandFaults.{fault_of_bank}
-use Rattle.bank_commands.proofs.FollowTold.{counted_spares}
+use Rattle.bank_commands.proofs.FollowTold.{bank_not_write, counted_spares}
 use Rattle.bank_commands.proofs.following.follow_found.Goals as goal
 
 pub returns-in_err-requests : goal.returns-in_err-requests
@@ -15,9 +15,17 @@ returns-in_err-requests g c =
       follows = record {
         counted = Err cause;
         stood = c.count_requests.new.bank;
-        counts = record { log = λ clean log shows. tt; bank = it.bank; same = λ clean. tt; up = it.up; leaves = it.leaves };
+        counts = record {
+          log = λ clean log shows. tt;
+          sound = it.sound;
+          bank = it.bank;
+          same = λ clean. tt;
+          up = it.up;
+          leaves = it.leaves;
+        };
         follows = (same, Keeps-refl (g.W.Sink.contents c.args.output.now), refl, refl);
       };
+      unprinted = λ is. bank_not_write cause (cc (same, is));
       spares = as_found_spares g.S.Store c.args.bank.now c.count_requests.new.bank it.leaves;
     }
 
@@ -28,9 +36,10 @@ returns g c =
       follows = record {
         counted = Ok c.in_ok-requests.requests;
         stood = c.count_requests.new.bank;
-        counts = record { log = it.log; bank = it.bank; same = it.same; up = it.up; leaves = it.leaves };
+        counts = record { log = it.log; sound = it.sound; bank = it.bank; same = it.same; up = it.up; leaves = it.leaves };
         follows = c.follow_into.ensures.follows;
       };
+      unprinted = c.follow_into.ensures.unprinted;
       spares = counted_spares g.S.Store c.args.bank.now c.count_requests.new.bank c.follow_into.new.bank it.same
           (as_found_spares g.S.Store c.args.bank.now c.count_requests.new.bank it.leaves)
           (call_spares g.S.Store c.count_requests.new.bank c.follow_into.new.bank c.follow_into.ensures.spares);

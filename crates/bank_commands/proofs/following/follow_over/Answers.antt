@@ -2,6 +2,7 @@
 use Rattle.std.proofs.{Common.refl, lemmas.Result.err_from_is_err_and}
 use Rattle.command_line.specs.Working.{known_source}
 use Rattle.bank_commands.proofs.{FollowTold.prints_follow, Spared.done_over, Spared.none_over}
+use Rattle.bank_commands.proofs.Told.{done_not_written, refused_not_write}
 use Rattle.bank_commands.proofs.following.follow_over.Goals as goal
 
 pub returns-in-Err : goal.returns-in-Err
@@ -10,6 +11,7 @@ returns-in-Err g c =
     record {
       follows = none_over g.S.Store c.args.conn c.in-Err.ended.conn c.in-Err.ended.told it.missed (refl, refl);
       prints = rw (err_from_is_err_and c.in-Err.ended.told it.missed).1 tt;
+      unprinted = refused_not_write _ _ c.in-Err.ended.told it.missed;
       idle = it.idle;
     }
 
@@ -25,5 +27,6 @@ returns g c =
           (g.P.Plans.is_named c.args.plans.now c.args.plan.now)
           (known_source g.P.Plan.Source.remaining g.P.Plan.Source.told) c.in-Ok.bank c.follow_found.new.bank
           c.follow_found.result c.done-told.result c.done-told.ensures it.follows;
+      unprinted = rw c.done-told.ensures (done_not_written c.follow_found.result it.unprinted);
       idle = c.release.ensures.idle;
     }

@@ -23,6 +23,7 @@ returns g c =
           rows = it.rows;
           log = it.log;
           writer = it.writer;
+          why = it.why;
           bank = it.bank;
           up = it.up;
           leaves = it.leaves;
