@@ -94,6 +94,15 @@ impl Batch {
         }
     }
 
+    /// Takes all records out.
+    pub fn clear(&mut self)
+        ensures records { self.new.records.items ≡ [] }
+        ensures senders { self.new.senders.items ≡ [] }
+    {
+        self.records.clear();
+        self.senders.clear();
+    }
+
     /// Whose records are the first of the next batch: those of the clients from a place on.
     pub fn next(&self) -> usize
         ensures { IsNextPlace self.now result }

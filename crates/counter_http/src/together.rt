@@ -183,12 +183,13 @@ fn gather<R: Source + Drop, W: Sink + Drop, C: Followed>(
 }
 
 // Answers messages of each client: their records together, those of the clients from a place on first. Clients have been
-// served for so many seconds.
+// served for so many seconds. The batch is made once for all rounds, since to make one takes as long as to write 8 KB.
 fn answer<R: Source + Drop, W: Sink + Drop, K: Clock, C: Followed>(
     alloc: Global,
     routes: &Routes,
     here: &mut Vec<Client<R, W>>,
     first: usize,
+    batch: &mut Batch,
     tally: &mut Tally,
     seconds: u64,
     clock: &mut K,
@@ -200,7 +201,7 @@ fn answer<R: Source + Drop, W: Sink + Drop, K: Clock, C: Followed>(
         tally.new seconds result }
     ensures spares { C.spares bank.old bank.new }
 {
-    let mut batch = Batch::new();
+    batch.clear();
     let count = here.len();
     let figures = Figures {
         tally: *tally,
@@ -208,10 +209,8 @@ fn answer<R: Source + Drop, W: Sink + Drop, K: Clock, C: Followed>(
         seconds,
     };
     let first = first.min(count);
-    gather(
-        alloc, routes, &figures, here, first, count, &mut batch, bank,
-    )?;
-    gather(alloc, routes, &figures, here, 0, first, &mut batch, bank)?;
+    gather(alloc, routes, &figures, here, first, count, batch, bank)?;
+    gather(alloc, routes, &figures, here, 0, first, batch, bank)?;
     batch.submit(here, tally, clock, bank)?;
     Ok(Answered {
         next: batch.next(),
@@ -273,6 +272,7 @@ fn serve_rounds<D: Clients, K: Clock, C: Followed>(
     ensures spares { C.spares bank.old bank.new }
 {
     let mut readiness = Vec::new(alloc);
+    let mut batch = Batch::new();
     let mut tally = Tally::new();
     let mut came = 0;
     let mut first = 0;
@@ -285,7 +285,9 @@ fn serve_rounds<D: Clients, K: Clock, C: Followed>(
         give_up(door, here, &readiness);
         take_in(alloc, door, &mut came, connections, here)?;
         let seconds = door.seconds();
-        let answered = answer(alloc, routes, here, first, &mut tally, seconds, clock, bank);
+        let answered = answer(
+            alloc, routes, here, first, &mut batch, &mut tally, seconds, clock, bank,
+        );
         write(here);
         part(door, here);
         match answered {

@@ -41,6 +41,6 @@ returns-clause-answers g c =
     c.gather.new.here.items c.gather-2.new.here.items c.gather.new.batch c.gather-2.new.batch _
     c.in_ok-gather.ensures.gathers c.in_ok-gather-2.ensures.gathers)) c.in_ok-submit.ensures.submits
     (all_move c.args.here.now.items c.gather.new.here.items c.gather-2.new.here.items c.submit.new.here.items
-    c.min-first.result c.len-count.result c.new-batch.result c.gather.new.batch c.gather-2.new.batch
+    c.min-first.result c.len-count.result c.clear.new.self c.gather.new.batch c.gather-2.new.batch
     c.in_ok-submit.ensures.submits.did.posts (omega (arith, c.len-count.ensures)) c.in_ok-gather.ensures.looks
     c.in_ok-gather-2.ensures.looks c.in_ok-submit.ensures.none c.in_ok-submit.ensures.submits.did.moves))
