@@ -38,6 +38,11 @@ use Rattle.bank_transactions.specs.Tries.{IsAsBefore, batch_of, replies_of}
 pub blank : {S : Type 0} (g : Ghosts S) (conn : Held S) (memory : Memory) → IsBlank memory → ∥ Remembers g conn memory ∥₁
 blank g conn memory none = ∣ (λ clean file. none (state g conn).now) ∣₁
 
+-- it lies there still where no more is remembered of rows
+pub still_fits : {S : Type 0} (g : Ghosts S) (conn : Held S) (before after : Memory)
+    → ((db : Database) → Fits db before → Fits db after) → ∥ Remembers g conn before ∥₁ → ∥ Remembers g conn after ∥₁
+still_fits g conn before after fits it = ∥∥₁_map it (λ lies clean file. fits (state g conn).now (lies clean file))
+
 -- it lies there still where nothing has changed
 pub keeps : {S : Type 0} (g : Ghosts S) (old new : Held S) (memory : Memory)
     → (HasCleanDisk (state g new) → HasCleanDisk (state g old))

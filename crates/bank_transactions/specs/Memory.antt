@@ -1,5 +1,6 @@
 -- What is remembered of the rows of a bank's file.
-use Rattle.std.specs.Prelude.{◌≡◌, ℤ, Option, IfSome, IsTrue, OnOk, Result, Ok, Err}
+use Rattle.std.specs.Prelude.{◌≡◌, ℕ, ℤ, Bool, false, List, [], ◌∷◌, nat_lt, Option, Some, None, IfSome, IsTrue, OnOk}
+use Rattle.std.specs.Prelude.{Result, Ok, Err}
 use Rattle.sqlite.specs.Effect.{Database}
 use Rattle.sqlite.specs.Held.{Held, state}
 use Rattle.sqlite.specs.State.{State, HasCleanDisk}
@@ -16,7 +17,9 @@ use Rattle.store_rows.specs.believed.Stored.{FindsStored}
 use Rattle.store_rows.specs.declared.fault.TableFault.{TableFault}
 use Rattle.store_rows.specs.Lying.{AfterWrite, BalanceLies, BranchLies, CountLies, FloorLies, IsBankFile}
 use Rattle.store_rows.specs.declared.holders.Member.{Member, TheVariants.Account, TheVariants.Teller}
+use Rattle.known_rows.specs.Known.{known_under}
 use Rattle.known_rows.specs.declared.table.Known.{Known}
+use Rattle.posting_batch.specs.declared.slots.RequestSlot.{RequestSlot}
 use Rattle.bank_transactions.specs.KnownRows.{AllKnown}
 use Rattle.bank_transactions.specs.Doing.{Stays}
 use Rattle.bank_transactions.specs.declared.memory.Memory.{Memory}
@@ -34,6 +37,16 @@ pub record Fits (db : Database) (memory : Memory) : Type 0 where
 abbrev pub balances_of : Memory → Member → Known (Option ℤ)
 balances_of memory (Account account) = memory.accounts
 balances_of memory (Teller teller) = memory.tellers
+
+-- a number is above the one that is known, if one is
+abbrev pub is_above : Option ℕ → ℕ → Bool
+is_above None number = false
+is_above (Some highest) number = nat_lt highest number
+
+-- a single request, whose number is above the highest that its teller is known to have sent
+abbrev pub is_single_above : Known ℕ → List RequestSlot → Bool
+is_single_above numbers (slot ∷ []) = is_above (known_under numbers slot.teller) slot.number
+is_single_above numbers _ = false
 
 -- nothing is remembered that a database would have to hold
 abbrev pub IsBlank : Memory → Type 0

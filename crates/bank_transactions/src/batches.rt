@@ -141,11 +141,11 @@ pub fn post_looked_up<S: Alter>(
 }
 
 // Whether a batch is tried before its requests are looked up: only where the tables are defined as they are made,
-// so that an INSERT tells of a request that is kept. A single request is looked up.
-fn is_tried<S: Alter>(conn: &Connection<S>, batch: &Batch) -> bool
+// so that an INSERT tells of a request that is kept. A single request is looked up, unless it is likely new.
+fn is_tried<S: Alter>(conn: &Connection<S>, batch: &Batch, is_new: bool) -> bool
     ensures { IsTrue result → IsOtherTable (state S.Store conn.now).now.schema None }
 {
-    if batch.overlay.kept.len() <= 1 {
+    if batch.overlay.kept.len() <= 1 && !is_new {
         return false;
     }
     match other_table(conn) {
@@ -183,10 +183,11 @@ pub fn post_all<S: Alter>(
     // After an error all has to be forgotten.
     ensures remembers { OnOk result (∥ Remembers S.Store conn.new memory.new ∥₁) }
 {
-    if !is_tried(conn, &batch) {
+    let is_new = memory.note_requests(&batch.overlay.kept);
+    if !is_tried(conn, &batch, is_new) {
         return post_looked_up(conn, memory, moment, batch);
     }
-    match try_new(conn, memory, moment, batch)? {
+    match try_new(conn, memory, moment, batch, is_new)? {
         Tried::Answered(replies) => Ok(replies),
         Tried::Again(batch) => post_looked_up(conn, memory, moment, batch),
     }

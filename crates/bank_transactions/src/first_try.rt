@@ -67,10 +67,18 @@ fn is_kept<S: Alter>(tx: &mut Transaction<'_, S>, slot: RequestSlot) -> Result<b
     Ok(kept.is_some())
 }
 
-// Whether the first request of a batch is kept, by rising tellers and numbers.
-fn keeps_first<S: Alter>(tx: &mut Transaction<'_, S>, overlay: &Overlay) -> Result<bool, TableFault>
-    ensures { Reads S.Store tx.old tx.new (λ tables. first_kept tables (view overlay.now).kept) result }
+// Whether the first request of a batch is kept, by rising tellers and numbers. One that is likely new isn't looked up.
+fn keeps_first<S: Alter>(
+    tx: &mut Transaction<'_, S>,
+    overlay: &Overlay,
+    is_new: bool,
+) -> Result<bool, TableFault>
+    ensures { Reads S.Store tx.old tx.new
+        (λ tables. not is_new && first_kept tables (view overlay.now).kept) result }
 {
+    if is_new {
+        return Ok(false);
+    }
     match overlay.kept.first() {
         Some(slot) => is_kept(tx, *slot),
         None => Ok(false),
@@ -128,6 +136,7 @@ fn answer_new<S: Alter>(
     memory: &mut Memory,
     moment: Moment,
     batch: Batch,
+    is_new: bool,
 ) -> Result<Tried, TableFault>
     requires { ∥ Remembers S.Store tx.old.conn.now memory.old ∥₁ }
     ensures says { IfSome (answer_of result) (λ answer. (records : List (List ℕ)) → IsMadeOf batch records
@@ -150,19 +159,20 @@ fn answer_new<S: Alter>(
     ensures remembers { IfSome (replies_of result) (λ _. ∥ Keeps S.Store tx.old tx.new memory.new ∥₁) }
     ensures recalls { IfSome (batch_of result) (λ _. ∥ FitsBefore S.Store tx.old tx.new memory.new ∥₁) }
 {
-    if keeps_first(tx, &batch.overlay)? {
+    if keeps_first(tx, &batch.overlay, is_new)? {
         return Ok(Tried::Again(batch));
     }
     answer_unkept(tx, memory, moment, batch)
 }
 
-/// Tries a batch as if none of its requests were kept. Where one may be, nothing was done. That an INSERT tells of
-/// it rests on the tables as they are made.
+/// Tries a batch as if none of its requests were kept. Its first one is looked up, unless it is likely new. Where one may
+/// be kept, nothing was done. That an INSERT tells of it rests on the tables as they are made.
 pub(crate) fn try_new<S: Alter>(
     conn: &mut Connection<S>,
     memory: &mut Memory,
     moment: Moment,
     batch: Batch,
+    is_new: bool,
 ) -> Result<Tried, TableFault>
     requires mode { conn.old.in_transaction ≡ false }
     requires remembers { ∥ Remembers S.Store conn.old memory.old ∥₁ }
@@ -186,7 +196,7 @@ pub(crate) fn try_new<S: Alter>(
     ensures remembers { OnOk result (∥ Remembers S.Store conn.new memory.new ∥₁) }
 {
     let mut tx = begin(conn);
-    let tried = answer_new(&mut tx, memory, moment, batch);
+    let tried = answer_new(&mut tx, memory, moment, batch, is_new);
     if let Ok(Tried::Again(batch)) = tried {
         tx.rollback();
         // The store is asked whether it is open still.

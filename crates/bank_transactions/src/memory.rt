@@ -6,6 +6,7 @@ ghost use Rattle.bank_transactions.specs.KnownRows.{AreLow};
 
 use known_rows::Known;
 use message_records::{Branch, Cents};
+use posting_batch::RequestSlot;
 use posting_rules::{BranchRow, FloorRow};
 use std::alloc::Global;
 use std::mem;
@@ -44,6 +45,8 @@ pub struct Memory {
     pub(crate) tellers: Known<Option<Cents>>,
     // The balance of an account's row, or that it has none.
     pub(crate) accounts: Known<Option<Cents>>,
+    // The highest number that a teller is known to have sent.
+    pub(crate) numbers: Known<u64>,
     ghost few: { ∥ IfSome decided (λ n. n ≤ MAX_DECIDED) ∥₁ },
     ghost low: { ∥ AreLow floors ∥₁ },
 }
@@ -58,7 +61,7 @@ impl Memory {
     ghost use Rattle.store_rows.specs.Lying.{SetsBalance, holder_key};
     ghost use Rattle.store_rows.specs.declared.holders.Holder.TheVariants as holder;
     ghost use Rattle.store_rows.specs.believed.Inserts.{meta_key};
-    ghost use Rattle.bank_transactions.specs.Memory.{Fits, IsBlank, balances_of};
+    ghost use Rattle.bank_transactions.specs.Memory.{Fits, IsBlank, balances_of, is_above, is_single_above};
 
     /// Nothing is remembered yet, and there is room for what will be: some 800 KiB. Where no memory is to be had, no rows
     /// are ever remembered.
@@ -72,6 +75,7 @@ impl Memory {
             floors: table(alloc, BRANCH_BITS),
             tellers: table(alloc, TELLER_BITS),
             accounts: table(alloc, ACCOUNT_BITS),
+            numbers: table(alloc, TELLER_BITS),
         }
     }
 
@@ -86,6 +90,7 @@ impl Memory {
             floors: Known::none(),
             tellers: Known::none(),
             accounts: Known::none(),
+            numbers: Known::none(),
         }
     }
 
@@ -98,6 +103,7 @@ impl Memory {
         self.floors.forget();
         self.tellers.forget();
         self.accounts.forget();
+        self.numbers.forget();
     }
 
     /// What is remembered, which is forgotten here.
@@ -178,6 +184,43 @@ impl Memory {
             Member::Account(account) => self.accounts.put(account.get(), *balance),
             Member::Teller(teller) => self.tellers.put(teller.get(), *balance),
         }
+    }
+
+    // Whether a request has a higher number than any that its teller is known to have sent, if one is known.
+    fn is_above(&self, slot: &RequestSlot) -> bool
+        ensures { result ≡ is_above (known_under self.now.numbers slot.now.teller) slot.now.number }
+    {
+        match self.numbers.get(slot.teller.get()) {
+            Some(highest) => highest < slot.number.get(),
+            None => false,
+        }
+    }
+
+    // Notes the number of a request, if it is the highest that its teller is known to have sent.
+    fn note_number(&mut self, slot: &RequestSlot)
+        ensures { (db : Database) → Fits db self.old → Fits db self.new }
+    {
+        let number = slot.number.get();
+        match self.numbers.get(slot.teller.get()) {
+            Some(highest) if number <= highest => {}
+            _ => self.numbers.put(slot.teller.get(), number),
+        }
+    }
+
+    /// Notes the numbers of requests, and answers whether there is a single one, which is likely new: its number is
+    /// higher than any that its teller is known to have sent.
+    pub(crate) fn note_requests(&mut self, slots: &[RequestSlot]) -> bool
+        ensures single { result ≡ is_single_above self.old.numbers slots.now }
+        ensures fits { (db : Database) → Fits db self.old → Fits db self.new }
+    {
+        let is_new = match slots {
+            [slot] => self.is_above(slot),
+            _ => false,
+        };
+        for slot in slots {
+            self.note_number(slot);
+        }
+        is_new
     }
 
     // Changes the balance in the row of a branch, where that is known.

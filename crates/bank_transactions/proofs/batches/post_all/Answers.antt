@@ -5,7 +5,18 @@ use Rattle.sqlite.specs.Held.{state}
 use Rattle.posting_batch.specs.View.{IsMadeOf}
 use Rattle.bank_transactions.specs.believed.Answered.{AnswersAll}
 use Rattle.bank_transactions.proofs.Tries.{faults_undone, idle_again, stored_again, transacts_again}
+use Rattle.bank_transactions.proofs.Remembered.{still_fits}
 use Rattle.bank_transactions.proofs.batches.post_all.Goals as goal
+
+pub post_looked_up-requires-clause-remembers : goal.post_looked_up-requires-clause-remembers
+post_looked_up-requires-clause-remembers g c =
+    still_fits g.S.Store c.args.conn.now c.args.memory.now c.note_requests-is_new.new.self
+    c.note_requests-is_new.ensures.fits c.requires.remembers
+
+pub try_new-requires-clause-remembers : goal.try_new-requires-clause-remembers
+try_new-requires-clause-remembers g c =
+    still_fits g.S.Store c.args.conn.now c.args.memory.now c.note_requests-is_new.new.self
+    c.note_requests-is_new.ensures.fits c.requires.remembers
 
 pub returns-then-not-is_tried-clause-stored : goal.returns-then-not-is_tried-clause-stored
 returns-then-not-is_tried-clause-stored g c = c.post_looked_up.ensures.wrote

@@ -48,7 +48,7 @@ post_looked_up-requires-clause-remembers g c =
     c.args.self.now.remembers
 
 -- what its refusal says
-refused : (g : Over) (c : goal.Joined-memory-4 g)
+refused : (g : Over) (c : goal.Joined-memory-5 g)
     → Refusal g.S.Store c.args.self.now c.go_down.new.self (posts c.args.moment (c.args.bytes.now ∷ []))
     (IsBrokenOrMet g.S.Store (AddsForRecords (database_of g.S.Store c.args.self.now) (c.args.bytes.now ∷ [])))
     c.go_down.result
