@@ -15,4 +15,5 @@ pub mod InTurn
 pub mod Batches
 pub mod KnownRows
 pub mod Memory
+pub mod Noted
 pub mod Tries

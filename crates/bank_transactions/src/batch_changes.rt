@@ -21,6 +21,7 @@ ghost use Rattle.bank_transactions.specs.Additions.{adds_each, changes_each};
 ghost use Rattle.bank_transactions.specs.Doing.{Does};
 ghost use Rattle.bank_transactions.specs.Running.{RunsIfOk, Writes};
 ghost use Rattle.bank_transactions.specs.Memory.{Follows};
+ghost use Rattle.bank_transactions.specs.Noted.{KnowsWritten};
 ghost use Rattle.bank_transactions.specs.declared.memory.Memory.{Memory};
 ghost use Rattle.bank_transactions.specs.InTurn.{InParts, InTurn, accounts_in_turn, branches_in_turn};
 ghost use Rattle.bank_transactions.specs.InTurn.{postings_in_parts, postings_in_turn, references_in_turn};
@@ -90,6 +91,7 @@ fn write_change<S: Alter>(
         (λ tables. IfSome changed (λ _. HasRow holder.now tables))
         (λ tables. by_change changed (λ balance. with_balance holder.now balance tables) tables) result }
     ensures follows { Follows S.Store tx.old tx.new memory.old memory.new result }
+    ensures noted { OnOk result (IfSome changed (KnowsWritten memory.old memory.new holder.now)) }
 {
     let Some(balance) = changed else {
         return Ok(());

@@ -62,6 +62,7 @@ impl Memory {
     ghost use Rattle.store_rows.specs.declared.holders.Holder.TheVariants as holder;
     ghost use Rattle.store_rows.specs.believed.Inserts.{meta_key};
     ghost use Rattle.bank_transactions.specs.Memory.{Fits, IsBlank, balances_of, is_above, is_single_above};
+    ghost use Rattle.bank_transactions.specs.Noted.{KnowsWritten};
 
     /// Nothing is remembered yet, and there is room for what will be: some 800 KiB. Where no memory is to be had, no rows
     /// are ever remembered.
@@ -225,7 +226,8 @@ impl Memory {
 
     // Changes the balance in the row of a branch, where that is known.
     fn change_branch(&mut self, branch: Branch, balance: Cents)
-        ensures { (was now : Database) → LeavesOthers branch_table branch was now
+        ensures noted { KnowsWritten self.old self.new (holder.Branch branch) balance }
+        ensures fits { (was now : Database) → LeavesOthers branch_table branch was now
             → SetsBalance (holder.Branch branch) balance was now → Fits was self.old → Fits now self.new }
     {
         let key = branch.get();
@@ -239,7 +241,8 @@ impl Memory {
 
     /// Changes a balance, as it was written.
     pub(crate) fn change_balance(&mut self, holder: &Holder, balance: Cents)
-        ensures { (was now : Database) → LeavesOthers (holder_table holder.now) (holder_key holder.now) was now
+        ensures noted { KnowsWritten self.old self.new holder.now balance }
+        ensures fits { (was now : Database) → LeavesOthers (holder_table holder.now) (holder_key holder.now) was now
             → SetsBalance holder.now balance was now → Fits was self.old → Fits now self.new }
     {
         match holder {

@@ -23,4 +23,10 @@ returns-clause-follows g c =
     let h = c.args.holder.now in
     followed_change g.S.Store c.args.tx.now c.write_balance.new.tx (holder_table h) (holder_key h)
     (SetsBalance h c.in-Some.balance) c.args.memory.now c.change_balance.new.self c.in_ok-write_balance.ensures.lies
-    c.change_balance.ensures
+    c.change_balance.ensures.fits
+
+pub returns-in_default-clause-noted : goal.returns-in_default-clause-noted
+returns-in_default-clause-noted g c = rw c.in_default.is tt
+
+pub returns-clause-noted : goal.returns-clause-noted
+returns-clause-noted g c = rw c.in-Some.is c.change_balance.ensures.noted
