@@ -1,6 +1,6 @@
 -- A stream of entries, step by step, and what it leaves.
 use Rattle.std.proofs.Common.{◌≡◌, ◌⊎◌, inl, inr, ℕ, ◌+◌, ◌-◌, ◌*◌, ◌/◌, ◌^◌, ◌<◌, ◌≤◌, List, [], ◌∷◌, ◌++◌, length, take}
-use Rattle.std.proofs.Common.{Option, Err, refl, sym, ap, subst, drop, ◌∙◌, append_assoc, append-nil, arith}
+use Rattle.std.proofs.Common.{Bool, Option, Err, refl, sym, ap, subst, drop, ◌∙◌, append_assoc, append-nil, arith}
 use Rattle.std.specs.{Prelude.◌%◌, List.AllByRecursion, Simd.first_chunks}
 use Rattle.std.specs.Io.KnownBytes.{Consumes, Keeps}
 use Rattle.std.proofs.KnownBytes.{Consumes-trans}
@@ -24,7 +24,6 @@ use Rattle.branch_loader.specs.declared.follow_fault.FollowFault.TheVariants.{Ba
 use Rattle.branch_loader.specs.declared.follow_fault.FollowFault.TheVariants.{Truncated}
 use Rattle.branch_loader.specs.declared.entry_stream.TheConstants.{BUFFER}
 use Rattle.branch_loader.specs.declared.followers.Waiting.{Waiting}
-use Rattle.branch_loader.proofs.Following.{posts-append}
 
 -- ---- what was read
 
@@ -172,7 +171,7 @@ next_whole n (x ∷ xs) text more all = next_whole n xs text more all.1
 
 module _ {C : Type 0} (seen : C → Seen) (spares : C → C → Type 0) (reason : Fault → C → C → Type 0) (rows : Rows)
     (r r' : Option (List ℕ)) (q q' : Option (List ReadTold)) (old new : C) (given : List AnsweredRequest)
-    (texts : List (List ℕ)) (bytes left : List ℕ) (before : ℕ) (w : Waiting)
+    (texts : List (List ℕ)) (bytes left : List ℕ) (before : ℕ) (w : Waiting) (looked : List Bool)
     (read : Consumes r r' (joined (entries_of given) ++ bytes)) (cut : bytes ≡ joined texts ++ left)
     (whole : AllByRecursion (λ t. length t ≡ 308) texts) (are : AllByRecursion IsEntry given)
     (many : before ≡ length given) (few : before + length texts < 2 ^ 128) where
@@ -205,7 +204,7 @@ module _ {C : Type 0} (seen : C → Seen) (spares : C → C → Type 0) (reason 
     grows = tt;
   }
 
-  pub broke_off : (fault : FollowFault) → TakesAll seen spares reason rows old new given texts before w (Err fault)
+  pub broke_off : (fault : FollowFault) → TakesAll seen spares reason rows old new given texts before w looked (Err fault)
       → FollowsLog seen spares reason rows r r' q q' old new (Err fault)
   broke_off (Bank fault) it = stopped (Bank fault) it.0 it.1 it.2 it.3 it.4 tt
   broke_off (Differs other) it = stopped (Differs other) it.0 it.1 it.2 it.3 it.4 tt

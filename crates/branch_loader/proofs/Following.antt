@@ -1,23 +1,26 @@
 -- How a bank stands after some entries, one call more, and how it stops.
 use Rattle.std.proofs.Common.{◌≡◌, ◌<◌, ◌+◌, ◌++◌, ◌∙◌, ℕ, List, [], ◌∷◌, length, map, Result, Ok, Err, refl, sym}
-use Rattle.std.proofs.Common.{ap, subst, append-nil, append_assoc, arith}
-use Rattle.std.specs.Prelude.{MatchResult, Option}
+use Rattle.std.proofs.Common.{ap, subst, append-nil, append_assoc, arith, inl, inr, replicate, set, zero, suc, ◌≤◌}
+use Rattle.std.specs.List.{slice_get}
+use Rattle.std.specs.Prelude.{◌⊎◌, Bool, true, false, if◌then◌else◌, Contains, IsSome, MatchResult, None, Option, Some}
 use Rattle.std.specs.List.{AllByRecursion}
 use Rattle.std.proofs.lemmas.List.{length-append, length-map, map-append}
+use Rattle.std.proofs.lemmas.List.Elements.{Contains-append_left, Contains-push}
 use Rattle.posting_rules.specs.believed.{Commands.Command, Commands.Open, Commands.Post, Commands.Terms}
 use Rattle.posting_rules.specs.believed.Counter.{IsCounterCall, Seen, ShowsLog}
 use Rattle.posting_rules.specs.believed.{Runs.followed_by, Runs.posts, Runs.replies_to}
 use Rattle.posting_rules.specs.declared.fault.Fault.{Fault}
 use Rattle.posting_rules.specs.declared.fault.Fault.TheVariants.{Down}
-use Rattle.posting_rules.specs.declared.limits.TheConstants.{RECORDS_PER_BATCH}
+use Rattle.posting_rules.specs.declared.limits.TheConstants.{LAST_BRANCH, RECORDS_PER_BATCH}
 use Rattle.posting_rules.proofs.{CounterCalls.Takes-append, CounterCalls.takes_none, Sequence.replies_to-append}
 use Rattle.posting_core.specs.Entries.{ArePostsOf, IsEntry, IsMomentOf, IsNoEntry, record_text, reply_text}
 use Rattle.posting_core.specs.believed.LogEntries.{AnsweredRequest, entries_of, entry_of}
-use Rattle.branch_loader.specs.believed.Plans.{Rows}
+use Rattle.branch_loader.specs.believed.Plans.{Row, Rows}
 use Rattle.branch_loader.specs.declared.followers.Waiting.{Waiting}
-use Rattle.branch_loader.specs.Following.{AreCounted, AreTexts, GaveReplies, HasDiffered, HasFollowed, HasPosted}
-use Rattle.branch_loader.specs.Following.{HasTaken, IsFirstOther, IsFollowing, IsRefusedFollowing, IsWaiting, Stops}
-use Rattle.branch_loader.specs.Following.{TakesAll, TakesSome, planned}
+use Rattle.branch_loader.specs.Following.{AreOpen, AreTexts, GaveReplies, HasDiffered, HasFollowed, HasOpened}
+use Rattle.branch_loader.specs.Following.{HasPosted, HasTaken, IsFirstOther, IsFollowing, IsLooked, IsRefusedFollowing}
+use Rattle.branch_loader.specs.Following.{IsWaiting, LooksAt, LooksOpen, NoneLooked, OpensFirst, Stops, TakesAll, TakesSome, needed_by}
+use Rattle.branch_loader.specs.Following.{opened_by, planned, row_of}
 use Rattle.branch_loader.specs.declared.follow_fault.FollowFault.{FollowFault}
 use Rattle.branch_loader.specs.declared.follow_fault.FollowFault.TheVariants.{Bank, Differs, Memory, NoEntry, Read}
 use Rattle.branch_loader.specs.declared.follow_fault.FollowFault.TheVariants.{Truncated}
@@ -41,6 +44,149 @@ none_waits : (records : List (List ℕ)) (left : List AnsweredRequest) → recor
     → left ≡ []
 none_waits records [] are none = refl
 none_waits records (a ∷ more) are none = absurd cc
+
+-- ---- which branches were opened
+
+pub opened-append : (cs ds : List Command) → opened_by (cs ++ ds) ≡ opened_by cs ++ opened_by ds
+opened-append [] ds = refl
+opened-append (Open b t ∷ cs) ds = ap (λ (l : List ℕ). b ∷ l) (opened-append cs ds)
+opened-append (Post m r ∷ cs) ds = opened-append cs ds
+
+pub posts_open_none : (m : ℕ) (records : List (List ℕ)) → opened_by (posts m records) ≡ []
+posts_open_none m [] = refl
+posts_open_none m (r ∷ rs) = posts_open_none m rs
+
+opens-append : (rows : Rows) (opened : List ℕ) (xs ys : List AnsweredRequest) (cs ds : List Command)
+    → ArePostsOf (planned rows) xs cs → OpensFirst rows opened xs cs → OpensFirst rows (opened ++ opened_by cs) ys ds
+    → OpensFirst rows opened (xs ++ ys) (cs ++ ds)
+opens-append rows opened xs ys [] ds are one two =
+    subst (λ (l : List AnsweredRequest). OpensFirst rows opened (l ++ ys) ds) (sym are)
+    (subst (λ (o : List ℕ). OpensFirst rows o ys ds) (append-nil opened) two)
+opens-append rows opened xs ys (Open b t ∷ cs) ds are one two =
+    opens-append rows (opened ++ b ∷ []) xs ys cs ds are.1 one
+    (subst (λ (o : List ℕ). OpensFirst rows o ys ds) (sym (append_assoc opened (b ∷ []) (opened_by cs))) two)
+opens-append rows opened [] ys (Post m r ∷ cs) ds are one two = absurd are
+opens-append rows opened (a ∷ xs) ys (Post m r ∷ cs) ds are one two =
+    (one.0, opens-append rows opened xs ys cs ds are.2 one.1 two)
+
+posts_open_first : (rows : Rows) (opened : List ℕ) (m : ℕ) (entries : List AnsweredRequest)
+    → AllByRecursion (AreOpen rows opened) entries → OpensFirst rows opened entries (posts m (map record_text entries))
+posts_open_first rows opened m [] ready = tt
+posts_open_first rows opened m (a ∷ more) ready = (ready.0, posts_open_first rows opened m more ready.1)
+
+-- what waits is posted where what it needs is opened
+pub texts_open_first : (rows : Rows) (opened : List ℕ) (m : ℕ) (records replies : List (List ℕ))
+    (entries : List AnsweredRequest) → AreTexts m records replies entries → AllByRecursion (AreOpen rows opened) entries
+    → OpensFirst rows opened entries (posts m records)
+texts_open_first rows opened m records replies entries it ready =
+    subst (λ (l : List (List ℕ)). OpensFirst rows opened entries (posts m l)) (sym it.records_are)
+    (posts_open_first rows opened m entries ready)
+
+-- nothing was opened, and the plan was looked at no further
+pub looks_still : (rows : Rows) (looked : List Bool) (opened more : List ℕ) → more ≡ [] → LooksOpen rows looked opened
+    → LooksOpen rows looked (opened ++ more)
+looks_still rows looked opened more none looks =
+    subst (λ (o : List ℕ). LooksOpen rows looked o)
+    (sym (ap (λ (l : List ℕ). opened ++ l) none ∙ append-nil opened)) looks
+
+-- this branch was opened
+pub looks_at : (rows : Rows) (looked looked' : List Bool) (branch : ℕ) (opened : List ℕ) → LooksAt looked looked' branch
+    → LooksOpen rows looked opened → LooksOpen rows looked' (opened ++ branch ∷ [])
+looks_at rows looked looked' branch opened at looks b marked some = elim (at.others b marked) [
+  | inl same ↦ subst (λ (n : ℕ). Contains (opened ++ branch ∷ []) n) (sym same) (Contains-push opened branch)
+  | inr before ↦ Contains-append_left opened (branch ∷ []) b (looks b before some)
+]
+
+pub none_is_not : {Q : Type 0} (r : Option Row) → r ≡ None → IsSome r → Q
+none_is_not None is some = cc some
+none_is_not (Some p) is some = cc is
+
+-- or the plan hasn't it
+pub looks_past : (rows : Rows) (looked looked' : List Bool) (branch : ℕ) (opened : List ℕ) → LooksAt looked looked' branch
+    → row_of rows branch ≡ None → LooksOpen rows looked opened → LooksOpen rows looked' opened
+looks_past rows looked looked' branch opened at none looks b marked some = elim (at.others b marked) [
+  | inl same ↦ none_is_not (row_of rows b) (ap (row_of rows) same ∙ none) some
+  | inr before ↦ looks b before some
+]
+
+is_open : (rows : Rows) (looked : List Bool) (opened : List ℕ) (b : ℕ) → LooksOpen rows looked opened → IsLooked rows looked b
+    → IsSome (row_of rows b) → Contains opened b
+is_open rows looked opened b looks (inl marked) some = looks b marked some
+is_open rows looked opened b looks (inr none) some = none_is_not (row_of rows b) none some
+
+-- those of an entry were looked for
+pub are_open : (rows : Rows) (looked : List Bool) (opened bs : List ℕ) → LooksOpen rows looked opened
+    → AllByRecursion (IsLooked rows looked) bs
+    → AllByRecursion (λ (b : ℕ). IsSome (row_of rows b) → Contains opened b) bs
+are_open rows looked opened [] looks all = tt
+are_open rows looked opened (b ∷ bs) looks all =
+    (is_open rows looked opened b looks all.0, are_open rows looked opened bs looks all.1)
+
+-- it was looked for still
+pub looked_still : (rows : Rows) (looked looked' : List Bool) (branch b : ℕ) → LooksAt looked looked' branch
+    → IsLooked rows looked b → IsLooked rows looked' b
+looked_still rows looked looked' branch b at (inl marked) = inl (at.keeps b marked)
+looked_still rows looked looked' branch b at (inr none) = inr none
+
+pub looks_same : (looked : List Bool) (branch : ℕ) → LooksAt looked looked branch
+looks_same looked branch = record { keeps = λ b marked. marked; others = λ b marked. inr marked }
+
+-- where one is noted
+set_keeps : (l : List Bool) (i b : ℕ) → slice_get l b ≡ Some true → slice_get (set l i true) b ≡ Some true
+set_keeps [] i b marked = marked
+set_keeps (x ∷ xs) zero zero marked = refl
+set_keeps (x ∷ xs) zero (suc b) marked = marked
+set_keeps (x ∷ xs) (suc i) zero marked = marked
+set_keeps (x ∷ xs) (suc i) (suc b) marked = set_keeps xs i b marked
+
+set_others : (l : List Bool) (i b : ℕ) → slice_get (set l i true) b ≡ Some true → (b ≡ i) ⊎ (slice_get l b ≡ Some true)
+set_others [] i b marked = inr marked
+set_others (x ∷ xs) zero zero marked = inl refl
+set_others (x ∷ xs) zero (suc b) marked = inr marked
+set_others (x ∷ xs) (suc i) zero marked = inr marked
+set_others (x ∷ xs) (suc i) (suc b) marked = elim (set_others xs i b marked) [
+  | inl same ↦ inl (ap suc same)
+  | inr before ↦ inr before
+]
+
+pub set_marked : (l : List Bool) (i : ℕ) → i < length l → slice_get (set l i true) i ≡ Some true
+set_marked [] i within = absurd (omega (arith, within))
+set_marked (x ∷ xs) zero within = refl
+set_marked (x ∷ xs) (suc i) within = set_marked xs i (omega (arith, within))
+
+pub looks_set : (l : List Bool) (i : ℕ) → LooksAt l (set l i true) i
+looks_set l i = record { keeps = set_keeps l i; others = set_others l i }
+
+-- at first it was looked at for none
+none_looked : (n b : ℕ) → slice_get (replicate n false) b ≡ Some true → ⊥
+none_looked zero b marked = cc marked
+none_looked (suc n) zero marked = cc marked
+none_looked (suc n) (suc b) marked = none_looked n b marked
+
+pub none_looked_in : (looked : List Bool) (n : ℕ) → looked ≡ replicate n false → NoneLooked looked
+none_looked_in looked n is b marked = none_looked n b (sym (ap (λ (l : List Bool). slice_get l b) is) ∙ marked)
+
+-- a branch that the plan has can be noted
+pub unplanned_or_within : (rows : Rows) (looked : List Bool) (b : ℕ) → (IsSome (row_of rows b) → b ≤ LAST_BRANCH)
+    → (b ≤ LAST_BRANCH → slice_get looked b ≡ Some true) → IsLooked rows looked b
+unplanned_or_within rows looked b within marked = by_row (row_of rows b) refl
+  where
+    by_row : (r : Option Row) → row_of rows b ≡ r → IsLooked rows looked b
+    by_row None is = inr is
+    by_row (Some p) is = inl (marked (within (subst (λ (r : Option Row). IsSome r) (sym is) refl)))
+
+-- the branches of an entry were looked for
+pub needed_looked : (rows : Rows) (looked : List Bool) (teller account : ℕ) (b : Bool) → IsLooked rows looked teller
+    → (b ≡ true → IsLooked rows looked account)
+    → AllByRecursion (IsLooked rows looked) (teller ∷ (if b then account ∷ [] else []))
+needed_looked rows looked teller account true one two = (one, (two refl, tt))
+needed_looked rows looked teller account false one two = (one, tt)
+
+pub ready-snoc : (rows : Rows) (opened : List ℕ) (entries : List AnsweredRequest) (a : AnsweredRequest)
+    → AllByRecursion (AreOpen rows opened) entries → AreOpen rows opened a
+    → AllByRecursion (AreOpen rows opened) (entries ++ a ∷ [])
+ready-snoc rows opened [] a all one = (one, tt)
+ready-snoc rows opened (e ∷ es) a all one = (all.0, ready-snoc rows opened es a all.1 one)
 
 -- ---- the first that is another
 
@@ -67,6 +213,7 @@ module _ {C : Type 0} (seen : C → Seen) (spares : C → C → Type 0) (rows : 
     commands = [];
     taken = record {
       are = refl;
+      opens = tt;
       takes = takes_none (seen c);
       honest = λ h. h;
       up = λ down. down;
@@ -78,7 +225,7 @@ module _ {C : Type 0} (seen : C → Seen) (spares : C → C → Type 0) (rows : 
 
   module _ (old mid new : C) (spares_then : spares old mid → spares mid new → spares old new)
       (done entries : List AnsweredRequest) (it : HasFollowed seen spares rows old mid done) (cs : List Command)
-      (are : ArePostsOf (planned rows) entries cs) where
+      (are : ArePostsOf (planned rows) entries cs) (first : OpensFirst rows (opened_by it.commands) entries cs) where
     module _ {K X : Type 0} (contents : C → K) (reason : Fault → C → C → Type 0) (x : X)
         (call : IsCounterCall seen contents reason mid new cs (Ok x)) (others : spares mid new) where
       was_up : (seen mid).is_down → ⊥
@@ -87,6 +234,7 @@ module _ {C : Type 0} (seen : C → Seen) (spares : C → C → Type 0) (rows : 
       taken_more : HasTaken seen spares rows old new (done ++ entries) (it.commands ++ cs)
       taken_more = record {
         are = posts-append (planned rows) done entries it.commands cs it.taken.are are;
+        opens = opens-append rows [] done entries it.commands cs it.taken.are it.taken.opens first;
         takes = Takes-append (seen old) (seen mid) (seen new) it.commands cs it.taken.takes call.done call.honest;
         honest = λ h. it.taken.honest (call.honest h);
         up = λ down. absurd (call.up down);
@@ -107,16 +255,19 @@ module _ {C : Type 0} (seen : C → Seen) (spares : C → C → Type 0) (rows : 
           (it.replies (call.honest h) log shows)
 
       -- it gave the replies of the entries
-      pub followed_more : GaveReplies (seen mid) (seen new) entries cs
-          → HasFollowed seen spares rows old new (done ++ entries)
-      followed_more gave = record {
-        commands = it.commands ++ cs;
-        taken = taken_more;
-        replies = λ h log shows.
-            replies_then h log shows
-            ∙ ap (λ (l : List (List ℕ)). map reply_text done ++ l)
-            (gave h (followed_by log it.commands) (shown_then h log shows))
-            ∙ sym (map-append reply_text done entries);
+      pub followed_more : (looked : List Bool) → LooksOpen rows looked (opened_by it.commands ++ opened_by cs)
+          → GaveReplies (seen mid) (seen new) entries cs → HasOpened seen spares rows old new (done ++ entries) looked
+      followed_more looked looks gave = record {
+        followed = record {
+          commands = it.commands ++ cs;
+          taken = taken_more;
+          replies = λ h log shows.
+              replies_then h log shows
+              ∙ ap (λ (l : List (List ℕ)). map reply_text done ++ l)
+              (gave h (followed_by log it.commands) (shown_then h log shows))
+              ∙ sym (map-append reply_text done entries);
+        };
+        looks = subst (λ (o : List ℕ). LooksOpen rows looked o) (sym (opened-append it.commands cs)) looks;
       }
 
       -- it gave others
@@ -152,6 +303,7 @@ module _ {C : Type 0} (seen : C → Seen) (spares : C → C → Type 0) (rows : 
       followed = it;
       refused = cs;
       are = are;
+      opens = first;
       refuses = call.fault;
       why = call.why;
       honest = call.honest;
@@ -162,17 +314,6 @@ module _ {C : Type 0} (seen : C → Seen) (spares : C → C → Type 0) (rows : 
       where
         one_fault : (let r : Result X Fault = Err fault in r) ≡ Err Down → fault ≡ Down
         one_fault is = cc
-
-  -- an opening adds no entry
-  pub same_entries : (old new : C) (done : List AnsweredRequest)
-      → HasFollowed seen spares rows old new (done ++ []) → HasFollowed seen spares rows old new done
-  same_entries old new done = subst (HasFollowed seen spares rows old new) (append-nil done)
-
-  pub same_refused : (reason : Fault → C → C → Type 0) (old new : C) (fault : Fault) (done given : List AnsweredRequest)
-      → done ≡ given → IsRefusedFollowing seen spares reason rows old new done fault
-      → IsRefusedFollowing seen spares reason rows old new given fault
-  same_refused reason old new fault done given is =
-      subst (λ (l : List AnsweredRequest). IsRefusedFollowing seen spares reason rows old new l fault) is
 
 -- ---- what waits
 
@@ -229,24 +370,16 @@ no_entry_waits m records replies entries it none = none_waits records entries it
 module _ {C : Type 0} (seen : C → Seen) (spares : C → C → Type 0) (reason : Fault → C → C → Type 0) (rows : Rows)
     (old new : C) (given : List AnsweredRequest) where
   -- all of them were followed, and nothing waits
-  pub following_none : (w : Waiting) → HasPosted seen spares rows old new given w → IsWaiting w []
-      → IsFollowing seen spares rows old new given w
-  following_none w posted waits =
-      record { done = given; left = []; all = append-nil given; posted = posted; waits = waits }
-
-  pub opened_then : (w : Waiting) (result : Result (Unit {0}) FollowFault)
-      → MatchResult result (λ done. HasFollowed seen spares rows old new given)
-      (Stops seen spares reason rows old new given)
-      → AreCounted w.posted given → IsWaiting w []
-      → MatchResult result (λ done. IsFollowing seen spares rows old new given w)
-      (Stops seen spares reason rows old new given)
-  opened_then w (Ok done) it counted waits = following_none w (record { followed = it; counted = counted }) waits
-  opened_then w (Err fault) it counted waits = it
+  pub following_none : (w : Waiting) (looked : List Bool) → HasPosted seen spares rows old new given w looked
+      → IsWaiting w [] → IsFollowing seen spares rows old new given w looked
+  following_none w looked posted waits =
+      record { done = given; left = []; all = append-nil given; posted = posted; waits = waits; ready = tt }
 
   -- the same, where what was done is done ++ left
-  pub followed_same : (done left : List AnsweredRequest) → done ++ left ≡ given
-      → HasFollowed seen spares rows old new (done ++ left) → HasFollowed seen spares rows old new given
-  followed_same done left same = subst (HasFollowed seen spares rows old new) same
+  pub followed_same : (looked : List Bool) (done left : List AnsweredRequest) → done ++ left ≡ given
+      → HasOpened seen spares rows old new (done ++ left) looked → HasOpened seen spares rows old new given looked
+  followed_same looked done left same =
+      subst (λ (l : List AnsweredRequest). HasOpened seen spares rows old new l looked) same
 
   pub stops_same : (other : List AnsweredRequest) (fault : FollowFault) → other ≡ given
       → Stops seen spares reason rows old new other fault → Stops seen spares reason rows old new given fault
@@ -254,18 +387,22 @@ module _ {C : Type 0} (seen : C → Seen) (spares : C → C → Type 0) (reason 
       subst (λ (l : List AnsweredRequest). Stops seen spares reason rows old new l fault) same
 
   -- one more waits
-  pub following_more : (w w' : Waiting) (a : AnsweredRequest) → IsFollowing seen spares rows old new given w
+  pub following_more : (w w' : Waiting) (looked : List Bool) (a : AnsweredRequest)
+      → IsFollowing seen spares rows old new given w looked
       → ((entries : List AnsweredRequest) → IsWaiting w entries → IsWaiting w' (entries ++ a ∷ []))
-      → w'.posted ≡ w.posted → IsFollowing seen spares rows old new (given ++ a ∷ []) w'
-  following_more w w' a it more same = record {
+      → w'.posted ≡ w.posted → AllByRecursion (IsLooked rows looked) (needed_by a)
+      → IsFollowing seen spares rows old new (given ++ a ∷ []) w' looked
+  following_more w w' looked a it more same marked = record {
     done = it.done;
     left = it.left ++ a ∷ [];
     all = sym (append_assoc it.done it.left (a ∷ [])) ∙ ap (λ (l : List AnsweredRequest). l ++ a ∷ []) it.all;
     posted = record {
-      followed = it.posted.followed;
+      opened = it.posted.opened;
       counted = λ few. same ∙ it.posted.counted few;
     };
     waits = more it.left it.waits;
+    ready = ready-snoc rows (opened_by it.posted.opened.followed.commands) it.left a it.ready
+        (are_open rows looked (opened_by it.posted.opened.followed.commands) (needed_by a) it.posted.opened.looks marked);
   }
 
 -- ---- some entries
@@ -276,14 +413,14 @@ entries-snoc [] a one two = (two, tt)
 entries-snoc (x ∷ xs) a one two = (one.0, entries-snoc xs a one.1 two)
 
 module _ {C : Type 0} (seen : C → Seen) (spares : C → C → Type 0) (reason : Fault → C → C → Type 0)
-    (old mid new : C) (plan : Rows) (none : Waiting) (texts : List (List ℕ)) (w w' : Waiting)
-    (some : TakesSome seen spares old mid plan none texts w) where
+    (old mid new : C) (plan : Rows) (none : Waiting) (looked_none : List Bool) (texts : List (List ℕ)) (w w' : Waiting)
+    (looked looked' : List Bool) (some : TakesSome seen spares old mid plan none looked_none texts w looked) where
   -- one more
   pub some_more : (text : List ℕ) (a : AnsweredRequest) → IsEntry a → entry_of a ≡ text
       → ((first : C) (rows : Rows) (given : List AnsweredRequest) → plan ≡ rows
-      → IsFollowing seen spares rows first mid given w
-      → IsFollowing seen spares rows first new (given ++ a ∷ []) w')
-      → TakesSome seen spares old new plan none (texts ++ text ∷ []) w'
+      → IsFollowing seen spares rows first mid given w looked
+      → IsFollowing seen spares rows first new (given ++ a ∷ []) w' looked')
+      → TakesSome seen spares old new plan none looked_none (texts ++ text ∷ []) w' looked'
   some_more text a is same more first rows given planned posted =
       let it = some first rows given planned posted in (
         it.0 ++ a ∷ [],
@@ -291,34 +428,34 @@ module _ {C : Type 0} (seen : C → Seen) (spares : C → C → Type 0) (reason 
         map-append entry_of it.0 (a ∷ [])
             ∙ ap (λ (l : List (List ℕ)). l ++ entry_of a ∷ []) it.2
             ∙ ap (λ (t : List ℕ). texts ++ t ∷ []) same,
-        subst (λ (l : List AnsweredRequest). IsFollowing seen spares rows first new l w')
+        subst (λ (l : List AnsweredRequest). IsFollowing seen spares rows first new l w' looked')
             (append_assoc given it.0 (a ∷ []))
             (more first rows (given ++ it.0) planned it.3),
       )
 
   module _ (all : List (List ℕ)) (before : ℕ) (first : C) (rows : Rows) (given : List AnsweredRequest)
-      (planned : plan ≡ rows) (before_all : HasPosted seen spares rows first old given none) where
+      (planned : plan ≡ rows) (before_all : HasPosted seen spares rows first old given none looked_none) where
     -- all of them
     pub took_all : texts ≡ all
-        → ((given : List AnsweredRequest) → IsFollowing seen spares rows first mid given w
-        → HasPosted seen spares rows first new given w')
-        → TakesAll seen spares reason rows first new given all before w' (Ok tt)
+        → ((given : List AnsweredRequest) → IsFollowing seen spares rows first mid given w looked
+        → HasPosted seen spares rows first new given w' looked')
+        → TakesAll seen spares reason rows first new given all before w' looked' (Ok tt)
     took_all same posted =
         let it = some first rows given planned before_all in
         (it.0, it.1, it.2 ∙ same, posted (given ++ it.0) it.3)
 
     -- it stopped at one of them
     pub took_some : (rest : List (List ℕ)) (fault : FollowFault) → texts ++ rest ≡ all
-        → ((given : List AnsweredRequest) → IsFollowing seen spares rows first mid given w
+        → ((given : List AnsweredRequest) → IsFollowing seen spares rows first mid given w looked
         → Stops seen spares reason rows first new given fault)
-        → TakesAll seen spares reason rows first new given all before w' (Err fault)
+        → TakesAll seen spares reason rows first new given all before w' looked' (Err fault)
     took_some rest fault same stops =
         let it = some first rows given planned before_all in
         stopped fault it.0 it.1 (ap (λ (l : List (List ℕ)). l ++ rest) it.2 ∙ same) (stops (given ++ it.0) it.3)
       where
         stopped : (fault : FollowFault) (entries : List AnsweredRequest) → AllByRecursion IsEntry entries
             → entries_of entries ++ rest ≡ all → Stops seen spares reason rows first new (given ++ entries) fault
-            → TakesAll seen spares reason rows first new given all before w' (Err fault)
+            → TakesAll seen spares reason rows first new given all before w' looked' (Err fault)
         stopped (Bank fault) entries are same stops = (entries, rest, are, same, stops)
         stopped (Differs other) entries are same stops = (entries, rest, are, same, stops)
         stopped (Truncated n) entries are same stops = absurd stops
@@ -329,9 +466,9 @@ module _ {C : Type 0} (seen : C → Seen) (spares : C → C → Type 0) (reason 
     -- the next is none
     pub took_up_to : (text : List ℕ) (rest : List (List ℕ)) (count : ℕ) → texts ++ text ∷ rest ≡ all
         → count ≡ before + length texts → IsNoEntry text
-        → ((given : List AnsweredRequest) → IsFollowing seen spares rows first mid given w
-        → HasPosted seen spares rows first new given w')
-        → TakesAll seen spares reason rows first new given all before w' (Err (NoEntry count))
+        → ((given : List AnsweredRequest) → IsFollowing seen spares rows first mid given w looked
+        → HasPosted seen spares rows first new given w' looked')
+        → TakesAll seen spares reason rows first new given all before w' looked' (Err (NoEntry count))
     took_up_to text rest count same many no_entry posted =
         let it = some first rows given planned before_all in (
           it.0,
@@ -339,7 +476,7 @@ module _ {C : Type 0} (seen : C → Seen) (spares : C → C → Type 0) (reason 
           rest,
           it.1,
           ap (λ (l : List (List ℕ)). l ++ text ∷ rest) it.2 ∙ same,
-          (posted (given ++ it.0) it.3).followed,
+          (posted (given ++ it.0) it.3).opened.followed,
           many ∙ ap (λ (n : ℕ). before + n)
               (ap (λ (l : List (List ℕ)). length l) (sym it.2) ∙ length-map it.0 entry_of),
           no_entry,
@@ -347,9 +484,9 @@ module _ {C : Type 0} (seen : C → Seen) (spares : C → C → Type 0) (reason 
 
     -- the rest was posted, or it stopped there
     pub took_last : (result : Result (Unit {0}) FollowFault) → texts ≡ all
-        → ((given : List AnsweredRequest) → IsFollowing seen spares rows first mid given w
-        → MatchResult result (λ done. HasPosted seen spares rows first new given w')
+        → ((given : List AnsweredRequest) → IsFollowing seen spares rows first mid given w looked
+        → MatchResult result (λ done. HasPosted seen spares rows first new given w' looked')
         (Stops seen spares reason rows first new given))
-        → TakesAll seen spares reason rows first new given all before w' result
+        → TakesAll seen spares reason rows first new given all before w' looked' result
     took_last (Ok done) same posted = took_all same posted
     took_last (Err fault) same stops = took_some [] fault (append-nil texts ∙ same) stops

@@ -1,8 +1,12 @@
 -- What following a log does: what the bank took of its entries, and how it stops.
-use Rattle.std.specs.Prelude.{◌≡◌, ◌≢◌, ◌<◌, ◌+◌, ◌^◌, ◌==◌, ◌++◌, ℕ, List, ◌∷◌, map, length, Option, option_map}
-use Rattle.std.specs.Prelude.{Result, Ok, Err}
-use Rattle.std.specs.List.{AllByRecursion, find}
-use Rattle.posting_rules.specs.believed.Commands.{Command, Terms}
+use Rattle.std.specs.Prelude.{◌≡◌, ◌≢◌, ◌⊎◌, ◌<◌, ◌+◌, ◌^◌, ◌==◌, ◌++◌, ℕ, List, [], ◌∷◌, map, length, Option}
+use Rattle.std.specs.Prelude.{None, Some, option_map, Result, Ok, Err, ⊤, Bool, true, false, if◌then◌else◌, Contains}
+use Rattle.std.specs.Prelude.{IsSome}
+use Rattle.std.specs.List.{AllByRecursion, find, slice_get}
+use Rattle.message_records.specs.declared.records.Outcome.{Outcome}
+use Rattle.message_records.specs.declared.records.Outcome.TheVariants.{NoAccount, WrongBranch}
+use Rattle.posting_rules.specs.believed.Commands.{Command, Open, Post, Terms}
+use Rattle.posting_rules.specs.believed.Numbering.{branch_of_account, branch_of_teller}
 use Rattle.posting_rules.specs.believed.Counter.{Refuses, Seen, ShowsLog, Takes}
 use Rattle.posting_rules.specs.believed.Runs.{replies_to}
 use Rattle.posting_rules.specs.declared.fault.Fault.{Fault}
@@ -26,6 +30,52 @@ row_of rows branch = find (λ p. p.0 == branch) rows
 -- what the plan opens it with
 abbrev pub planned : Rows → ℕ → Option Terms
 planned rows branch = option_map terms_of (row_of rows branch)
+
+-- ---- which branches an entry needs
+
+-- a request with this outcome was judged by its account, which was open then
+abbrev pub had_account : Outcome → Bool
+had_account WrongBranch = false
+had_account NoAccount = false
+had_account _ = true
+
+-- its teller's, and its account's where it was judged by that
+abbrev pub needed_by : AnsweredRequest → List ℕ
+needed_by a = branch_of_teller a.request.teller
+    ∷ (if had_account a.reply.outcome then branch_of_account a.request.account ∷ [] else [])
+
+-- the branches that commands open
+abbrev pub opened_by : List Command → List ℕ
+opened_by [] = []
+opened_by (Open branch terms ∷ cs) = branch ∷ opened_by cs
+opened_by (Post moment bytes ∷ cs) = opened_by cs
+
+-- those that the plan has are among these
+abbrev pub AreOpen : Rows → (opened : List ℕ) → AnsweredRequest → Type 0
+AreOpen rows opened a = AllByRecursion (λ b. IsSome (row_of rows b) → Contains opened b) (needed_by a)
+
+-- they are opened before an entry is posted, where these were opened before
+abbrev pub OpensFirst : Rows → (opened : List ℕ) → List AnsweredRequest → List Command → Type 0
+OpensFirst rows opened entries [] = ⊤
+OpensFirst rows opened entries (Open branch terms ∷ cs) = OpensFirst rows (opened ++ branch ∷ []) entries cs
+OpensFirst rows opened [] (Post moment bytes ∷ cs) = ⊥
+OpensFirst rows opened (a ∷ more) (Post moment bytes ∷ cs) = AreOpen rows opened a × OpensFirst rows opened more cs
+
+-- the plan was looked at for these branches, by their numbers: those that it has are open
+abbrev pub LooksOpen : Rows → (looked : List Bool) → (opened : List ℕ) → Type 0
+LooksOpen rows looked opened = (b : ℕ) → slice_get looked b ≡ Some true → IsSome (row_of rows b) → Contains opened b
+
+abbrev pub NoneLooked : List Bool → Type 0
+NoneLooked looked = (b : ℕ) → slice_get looked b ≡ Some true → ⊥
+
+-- it was looked at for this branch, or hasn't it
+abbrev pub IsLooked : Rows → List Bool → ℕ → Type 0
+IsLooked rows looked b = (slice_get looked b ≡ Some true) ⊎ (row_of rows b ≡ None)
+
+-- it was looked at for as many, and for no other than this one
+pub record LooksAt (looked looked' : List Bool) (branch : ℕ) : Type 0 where
+  pub keeps : (b : ℕ) → slice_get looked b ≡ Some true → slice_get looked' b ≡ Some true
+  pub others : (b : ℕ) → slice_get looked' b ≡ Some true → (b ≡ branch) ⊎ (slice_get looked b ≡ Some true)
 
 -- ---- what a bank took
 
@@ -51,6 +101,7 @@ AreCounted count entries = length entries < 2 ^ 128 → count ≡ length entries
 pub record HasTaken {C : Type 0} (seen : C → Seen) (spares : C → C → Type 0) (rows : Rows) (old new : C)
     (entries : List AnsweredRequest) (commands : List Command) : Type 0 where
   pub are : ArePostsOf (planned rows) entries commands
+  pub opens : OpensFirst rows [] entries commands
   pub takes : Takes (seen old) (seen new) commands
   pub honest : (seen new).honest → (seen old).honest
   pub up : (seen new).is_down → (seen old).is_down
@@ -69,20 +120,32 @@ pub record HasFollowed {C : Type 0} (seen : C → Seen) (spares : C → C → Ty
   pub taken : HasTaken seen spares rows old new entries commands
   pub replies : GaveReplies (seen old) (seen new) entries commands
 
+-- and the branches are open for which the plan was looked at
+pub record HasOpened {C : Type 0} (seen : C → Seen) (spares : C → C → Type 0) (rows : Rows) (old new : C)
+    (entries : List AnsweredRequest) (looked : List Bool) : Type 0 where
+  pub followed : HasFollowed seen spares rows old new entries
+  pub looks : LooksOpen rows looked (opened_by followed.commands)
+
+-- what these need is open by then
+abbrev pub AreReady : {C : Type 0} {seen : C → Seen} {spares : C → C → Type 0} {rows : Rows} {old new : C}
+    {entries : List AnsweredRequest} → HasFollowed seen spares rows old new entries → List AnsweredRequest → Type 0
+AreReady {rows = rows} it more = AllByRecursion (AreOpen rows (opened_by it.commands)) more
+
 -- it took all of these, as its count of them says
 pub record HasPosted {C : Type 0} (seen : C → Seen) (spares : C → C → Type 0) (rows : Rows) (old new : C)
-    (entries : List AnsweredRequest) (w : Waiting) : Type 0 where
-  pub followed : HasFollowed seen spares rows old new entries
+    (entries : List AnsweredRequest) (w : Waiting) (looked : List Bool) : Type 0 where
+  pub opened : HasOpened seen spares rows old new entries looked
   pub counted : AreCounted w.posted entries
 
 -- it took all of these but the last, which wait
 pub record IsFollowing {C : Type 0} (seen : C → Seen) (spares : C → C → Type 0) (rows : Rows) (old new : C)
-    (given : List AnsweredRequest) (w : Waiting) : Type 0 where
+    (given : List AnsweredRequest) (w : Waiting) (looked : List Bool) : Type 0 where
   pub done : List AnsweredRequest
   pub left : List AnsweredRequest
   pub all : done ++ left ≡ given
-  pub posted : HasPosted seen spares rows old new done w
+  pub posted : HasPosted seen spares rows old new done w looked
   pub waits : IsWaiting w left
+  pub ready : AreReady posted.opened.followed left
 
 -- ---- how it stops
 
@@ -97,6 +160,7 @@ pub record IsRefusedFollowing {C : Type 0} (seen : C → Seen) (spares : C → C
   pub followed : HasFollowed seen spares rows old stood done
   pub refused : List Command
   pub are : ArePostsOf (planned rows) tried refused
+  pub opens : OpensFirst rows (opened_by followed.commands) tried refused
   pub refuses : Refuses fault (seen stood) (seen new) refused
   pub why : reason fault stood new
   pub honest : (seen new).honest → (seen stood).honest
@@ -138,24 +202,25 @@ Stops seen spares reason rows old new entries fault = ⊥
 
 -- These texts are entries, and after those that were given they were followed, but for the last, which wait. So many
 -- were posted before.
-abbrev pub TakesSome : {C : Type 0} → (C → Seen) → (C → C → Type 0) → (old new : C) → Rows → Waiting → List (List ℕ)
-    → Waiting → Type 0
-TakesSome {C} seen spares old new plan none texts w = (first : C) (rows : Rows) (given : List AnsweredRequest)
-    → plan ≡ rows → HasPosted seen spares rows first old given none
+abbrev pub TakesSome : {C : Type 0} → (C → Seen) → (C → C → Type 0) → (old new : C) → Rows → Waiting → List Bool
+    → List (List ℕ) → Waiting → List Bool → Type 0
+TakesSome {C} seen spares old new plan none before texts w looked =
+    (first : C) (rows : Rows) (given : List AnsweredRequest)
+    → plan ≡ rows → HasPosted seen spares rows first old given none before
     → (entries : List AnsweredRequest) × AllByRecursion IsEntry entries × (entries_of entries ≡ texts)
-    × IsFollowing seen spares rows first new (given ++ entries) w
+    × IsFollowing seen spares rows first new (given ++ entries) w looked
 
 -- all of the texts are entries, and were followed after those that were given; or the first of them, and the next is
 -- none, or it stopped at the last of them. So many were followed before, and w is what waits then.
 abbrev pub TakesAll : {C : Type 0} → (C → Seen) → (C → C → Type 0) → (Fault → C → C → Type 0) → Rows → (old new : C)
-    → List AnsweredRequest → List (List ℕ) → ℕ → Waiting → Result (Unit {0}) FollowFault → Type 0
-TakesAll seen spares reason rows old new given texts before w (Ok done) =
+    → List AnsweredRequest → List (List ℕ) → ℕ → Waiting → List Bool → Result (Unit {0}) FollowFault → Type 0
+TakesAll seen spares reason rows old new given texts before w looked (Ok done) =
     (entries : List AnsweredRequest) × AllByRecursion IsEntry entries × (entries_of entries ≡ texts)
-    × HasPosted seen spares rows old new (given ++ entries) w
-TakesAll seen spares reason rows old new given texts before w (Err (NoEntry count)) =
+    × HasPosted seen spares rows old new (given ++ entries) w looked
+TakesAll seen spares reason rows old new given texts before w looked (Err (NoEntry count)) =
     (entries : List AnsweredRequest) × (text : List ℕ) × (rest : List (List ℕ)) × AllByRecursion IsEntry entries
     × (entries_of entries ++ text ∷ rest ≡ texts) × HasFollowed seen spares rows old new (given ++ entries)
     × (count ≡ before + length entries) × IsNoEntry text
-TakesAll seen spares reason rows old new given texts before w (Err fault) =
+TakesAll seen spares reason rows old new given texts before w looked (Err fault) =
     (entries : List AnsweredRequest) × (rest : List (List ℕ)) × AllByRecursion IsEntry entries
     × (entries_of entries ++ rest ≡ texts) × Stops seen spares reason rows old new (given ++ entries) fault

@@ -1,11 +1,14 @@
 //! Entries of a log are posted at their moments, and branches of a plan are opened where the first entry needs them.
 ghost use Rattle.std.specs.Prelude.{◌≡◌, ◌≤◌, ◌<◌, ◌+◌, ◌^◌, ◌++◌, ◌∷◌, [], List, IfNone, IfOk, IfSome};
-ghost use Rattle.std.specs.Prelude.{MatchResult, OnOk, length};
+ghost use Rattle.std.specs.Prelude.{Bool, IsSome, MatchResult, OnOk, Some, length, true, vec_len};
+ghost use Rattle.std.specs.List.{slice_get};
 ghost use Rattle.message_records.specs.believed.Outcomes.{has_balance};
+ghost use Rattle.posting_rules.specs.declared.limits.TheConstants.{LAST_BRANCH};
 ghost use Rattle.posting_core.specs.Entries.{IsMomentOf, answered};
 ghost use Rattle.posting_core.specs.believed.LogEntries.{AnsweredRequest};
-ghost use Rattle.branch_loader.specs.Following.{AreCounted, AreTexts, HasFollowed, HasPosted, HasRoom, IsFirstOther};
-ghost use Rattle.branch_loader.specs.Following.{IsFollowing, IsWaiting, Stops, TakesAll, row_of};
+ghost use Rattle.branch_loader.specs.Following.{AreCounted, AreReady, AreTexts, HasOpened, HasPosted, HasRoom};
+ghost use Rattle.branch_loader.specs.Following.{IsFirstOther, IsFollowing, IsLooked, IsWaiting, LooksAt, NoneLooked, Stops};
+ghost use Rattle.branch_loader.specs.Following.{TakesAll, had_account, row_of};
 ghost use Rattle.branch_loader.specs.believed.Plans.{Rows};
 ghost use Rattle.branch_loader.specs.Plans.{IsRow};
 
@@ -60,10 +63,10 @@ fn post_together<C: Counter>(
     counter: &mut C,
 ) -> Result<(), FollowFault>
     requires { length records.now ≤ RECORDS_PER_BATCH }
-    ensures { (first : C) (rows : Rows) (done entries : List AnsweredRequest)
-        → HasFollowed C.seen C.spares rows first counter.old done → AreCounted before done
-        → AreTexts moment records.now due.now entries
-        → MatchResult result (λ _. HasFollowed C.seen C.spares rows first counter.new (done ++ entries))
+    ensures { (first : C) (rows : Rows) (looked : List Bool) (done entries : List AnsweredRequest)
+        → (it : HasOpened C.seen C.spares rows first counter.old done looked) → AreCounted before done
+        → AreTexts moment records.now due.now entries → AreReady it.followed entries
+        → MatchResult result (λ _. HasOpened C.seen C.spares rows first counter.new (done ++ entries) looked)
         (Stops C.seen C.spares C.reason rows first counter.new (done ++ entries)) }
 {
     if records.is_empty() {
@@ -78,9 +81,9 @@ fn post_together<C: Counter>(
 
 // Posts what waits.
 fn post_waiting<C: Counter>(waiting: &mut Waiting, counter: &mut C) -> Result<(), FollowFault>
-    ensures follows { (first : C) (rows : Rows) (given : List AnsweredRequest)
-        → IsFollowing C.seen C.spares rows first counter.old given waiting.old
-        → MatchResult result (λ _. HasPosted C.seen C.spares rows first counter.new given waiting.new)
+    ensures follows { (first : C) (rows : Rows) (looked : List Bool) (given : List AnsweredRequest)
+        → IsFollowing C.seen C.spares rows first counter.old given waiting.old looked
+        → MatchResult result (λ _. HasPosted C.seen C.spares rows first counter.new given waiting.new looked)
         (Stops C.seen C.spares C.reason rows first counter.new given) }
     ensures empty { OnOk result (IsWaiting waiting.new []) }
     ensures moment { waiting.new.moment ≡ waiting.old.moment }
@@ -121,10 +124,11 @@ fn row_of(plan: &Plan, branch: u64) -> Option<PlanRow>
 
 // Opens a branch as the plan has it, if it has the branch.
 fn open_planned<C: Counter>(plan: &Plan, branch: u64, counter: &mut C) -> Result<(), FollowFault>
-    ensures { (first : C) (rows : Rows) (done : List AnsweredRequest) → plan.now ≡ rows
-        → HasFollowed C.seen C.spares rows first counter.old done
-        → MatchResult result (λ _. HasFollowed C.seen C.spares rows first counter.new done)
+    ensures opens { (first : C) (rows : Rows) (looked looked' : List Bool) (done : List AnsweredRequest) → plan.now ≡ rows
+        → LooksAt looked looked' branch → HasOpened C.seen C.spares rows first counter.old done looked
+        → MatchResult result (λ _. HasOpened C.seen C.spares rows first counter.new done looked')
         (Stops C.seen C.spares C.reason rows first counter.new done) }
+    ensures within { IsSome (row_of plan.now branch) → branch ≤ LAST_BRANCH }
 {
     let Some(row) = row_of(plan, branch) else {
         return Ok(());
@@ -168,6 +172,7 @@ pub(crate) struct Follower<'p> {
     // By the branch's number, whether the plan was looked at for it.
     looked: Vec<bool>,
     pub(crate) waiting: Waiting,
+    ghost sized: { vec_len looked ≡ LAST_BRANCH + 1 },
 }
 
 // Whether a request with this outcome is posted.
@@ -181,15 +186,20 @@ fn is_posted(outcome: Outcome) -> bool
 }
 
 // Whether a request with this outcome was judged by its account, which is open then.
-fn had_account(outcome: Outcome) -> bool {
-    outcome != Outcome::WrongBranch && outcome != Outcome::NoAccount
+fn had_account(outcome: Outcome) -> bool
+    ensures { result ≡ had_account outcome }
+{
+    match outcome {
+        Outcome::WrongBranch | Outcome::NoAccount => false,
+        _ => true,
+    }
 }
 
 impl<'p> Follower<'p> {
     // No entry was followed yet.
     pub(crate) fn over(alloc: Global, plan: &'p Plan) -> Result<Follower<'p>, AllocError>
         ensures { IfOk result (λ follower. (follower.plan.now ≡ plan.now) × IsWaiting follower.waiting []
-            × (follower.waiting.posted ≡ 0)) }
+            × (follower.waiting.posted ≡ 0) × NoneLooked follower.looked.items) }
     {
         let looked = vec![in alloc; false; LAST_BRANCH as usize + 1]?;
         Ok(Follower {
@@ -201,12 +211,13 @@ impl<'p> Follower<'p> {
 
     // Posts what waits.
     pub(crate) fn post<C: Counter>(&mut self, counter: &mut C) -> Result<(), FollowFault>
-        ensures follows { (first : C) (rows : Rows) (given : List AnsweredRequest)
-            → self.old.plan.now ≡ rows → IsFollowing C.seen C.spares rows first counter.old given self.old.waiting
-            → MatchResult result (λ _. HasPosted C.seen C.spares rows first counter.new given self.new.waiting)
+        ensures follows { (first : C) (rows : Rows) (looked : List Bool) (given : List AnsweredRequest)
+            → IsFollowing C.seen C.spares rows first counter.old given self.old.waiting looked
+            → MatchResult result (λ _. HasPosted C.seen C.spares rows first counter.new given self.new.waiting looked)
             (Stops C.seen C.spares C.reason rows first counter.new given) }
         ensures empty { OnOk result (IsWaiting self.new.waiting []) }
         ensures plan { self.new.plan.now ≡ self.old.plan.now }
+        ensures looked { self.new.looked ≡ self.old.looked }
     {
         post_waiting(&mut self.waiting, counter)
     }
@@ -214,33 +225,58 @@ impl<'p> Follower<'p> {
     // Opens a branch, if the plan has it and it wasn't asked for yet, after all that came before.
     fn open<C: Counter>(&mut self, branch: u64, counter: &mut C) -> Result<(), FollowFault>
         ensures follows { (first : C) (rows : Rows) (given : List AnsweredRequest)
-            → self.old.plan.now ≡ rows → IsFollowing C.seen C.spares rows first counter.old given self.old.waiting
+            → self.old.plan.now ≡ rows
+            → IsFollowing C.seen C.spares rows first counter.old given self.old.waiting self.old.looked.items
             → MatchResult result
-            (λ _. IsFollowing C.seen C.spares rows first counter.new given self.new.waiting)
+            (λ _. IsFollowing C.seen C.spares rows first counter.new given self.new.waiting self.new.looked.items)
             (Stops C.seen C.spares C.reason rows first counter.new given) }
+        ensures looked { OnOk result (IsLooked self.old.plan.now self.new.looked.items branch) }
+        ensures keeps { OnOk result (LooksAt self.old.looked.items self.new.looked.items branch) }
         ensures plan { self.new.plan.now ≡ self.old.plan.now }
     {
-        let Some(looked) = self.looked.get_mut(branch as usize) else {
-            return Ok(());
-        };
-        if *looked {
+        if self.has_looked(branch) {
             return Ok(());
         }
-        *looked = true;
         self.post(counter)?;
-        open_planned(self.plan, branch, counter)
+        open_planned(self.plan, branch, counter)?;
+        self.note(branch);
+        Ok(())
+    }
+
+    // Whether the plan was looked at for a branch.
+    fn has_looked(&self, branch: u64) -> bool
+        ensures { result ≡ true → slice_get self.now.looked.items branch ≡ Some true }
+    {
+        match self.looked.get(branch as usize) {
+            Some(looked) => *looked,
+            None => false,
+        }
+    }
+
+    // The plan was looked at for a branch.
+    fn note(&mut self, branch: u64)
+        ensures looked { LooksAt self.old.looked.items self.new.looked.items branch }
+        ensures has { branch ≤ LAST_BRANCH → slice_get self.new.looked.items branch ≡ Some true }
+        ensures waiting { self.new.waiting ≡ self.old.waiting }
+        ensures plan { self.new.plan.now ≡ self.old.plan.now }
+    {
+        if let Some(looked) = self.looked.get_mut(branch as usize) {
+            *looked = true;
+        }
     }
 
     // Posts what waits at another moment, or is as much as is posted together.
     fn make_room<C: Counter>(&mut self, moment: Moment, counter: &mut C) -> Result<(), FollowFault>
         ensures follows { (first : C) (rows : Rows) (given : List AnsweredRequest)
-            → self.old.plan.now ≡ rows → IsFollowing C.seen C.spares rows first counter.old given self.old.waiting
+            → self.old.plan.now ≡ rows
+            → IsFollowing C.seen C.spares rows first counter.old given self.old.waiting self.old.looked.items
             → MatchResult result
-            (λ _. IsFollowing C.seen C.spares rows first counter.new given self.new.waiting)
+            (λ _. IsFollowing C.seen C.spares rows first counter.new given self.new.waiting self.new.looked.items)
             (Stops C.seen C.spares C.reason rows first counter.new given) }
         ensures moment { OnOk result (self.new.waiting.moment ≡ moment) }
         ensures room { OnOk result (HasRoom self.new.waiting) }
         ensures plan { self.new.plan.now ≡ self.old.plan.now }
+        ensures looked { self.new.looked ≡ self.old.looked }
     {
         if moment == self.waiting.moment
             && !self.waiting.records.is_full()
@@ -271,10 +307,11 @@ impl<'p> Follower<'p> {
         counter: &mut C,
     ) -> Result<(), FollowFault>
         ensures follows { (first : C) (rows : Rows) (given : List AnsweredRequest)
-            → self.old.plan.now ≡ rows → IsFollowing C.seen C.spares rows first counter.old given self.old.waiting
+            → self.old.plan.now ≡ rows
+            → IsFollowing C.seen C.spares rows first counter.old given self.old.waiting self.old.looked.items
             → MatchResult result
             (λ _. IsFollowing C.seen C.spares rows first counter.new (given ++ answered entry.now ∷ [])
-            self.new.waiting)
+            self.new.waiting self.new.looked.items)
             (Stops C.seen C.spares C.reason rows first counter.new given) }
         ensures plan { self.new.plan.now ≡ self.old.plan.now }
     {
@@ -298,9 +335,10 @@ impl<'p> Follower<'p> {
         requires waits { IsWaiting self.old.waiting [] }
         requires few { before + length entries.now < 2 ^ 128 }
         ensures follows { (first : C) (rows : Rows) (given : List AnsweredRequest)
-            → self.old.plan.now ≡ rows → HasPosted C.seen C.spares rows first counter.old given self.old.waiting
+            → self.old.plan.now ≡ rows
+            → HasPosted C.seen C.spares rows first counter.old given self.old.waiting self.old.looked.items
             → TakesAll C.seen C.spares C.reason rows first counter.new given entries.now before self.new.waiting
-            result }
+            self.new.looked.items result }
         ensures empty { OnOk result (IsWaiting self.new.waiting []) }
         ensures plan { self.new.plan.now ≡ self.old.plan.now }
     {

@@ -44,8 +44,11 @@ reads-init g c = record {
   plan = c.in-Ok.ensures.0;
   waits = c.in-Ok.ensures.1;
   posted = record {
-    followed = followed_none g.C.Counter.seen g.C.Counter.spares c.args.plan.now c.args.bank.now
-        (g.met.C.Counter.spares_itself c.args.bank.now);
+    opened = record {
+      followed = followed_none g.C.Counter.seen g.C.Counter.spares c.args.plan.now c.args.bank.now
+          (g.met.C.Counter.spares_itself c.args.bank.now);
+      looks = λ b marked some. absurd (c.in-Ok.ensures.3 b marked);
+    };
     counted = λ few. c.in-Ok.ensures.2;
   };
 }
@@ -63,9 +66,9 @@ returns g c =
         inr (made_many it.made (omega arith)),
         few_left c.reads.filled c.reads.buffer it.few it.room,
       );
-      did = it.posted.followed;
+      did = it.posted.opened.followed;
       survives = followed_leaves g.C.Counter.seen g.C.Counter.spares g.C.Counter.reason c.args.plan.now c.args.bank.now
-          c.reads.bank it.entries it.posted.followed;
+          c.reads.bank it.entries it.posted.opened.followed;
       grows = tt;
     }
 
@@ -86,9 +89,9 @@ returns-in-Err-2 g c =
             (other_kind c.kind.result c.in-Err.e c.if-eq.ensures c.kind.ensures),
         few_left c.reads.filled c.fill_buffer.new.buffer it.few long,
       );
-      did = it.posted.followed;
+      did = it.posted.opened.followed;
       survives = followed_leaves g.C.Counter.seen g.C.Counter.spares g.C.Counter.reason c.args.plan.now c.args.bank.now
-          c.reads.bank it.entries it.posted.followed;
+          c.reads.bank it.entries it.posted.opened.followed;
       grows = tt;
     }
 
@@ -112,11 +115,11 @@ returns-in-Ok-eq0 g c =
         rw empty refl,
         it.count_is,
       );
-      did = it.posted.followed;
+      did = it.posted.opened.followed;
       survives = followed_leaves g.C.Counter.seen g.C.Counter.spares g.C.Counter.reason c.args.plan.now c.args.bank.now
-          c.reads.bank it.entries it.posted.followed;
+          c.reads.bank it.entries it.posted.opened.followed;
       grows = followed_grows g.C.Counter.seen g.C.Counter.spares g.C.Counter.reason c.args.plan.now c.args.bank.now
-          c.reads.bank it.entries it.are it.posted.followed;
+          c.reads.bank it.entries it.are it.posted.opened.followed;
     }
 
 pub returns-in-Ok-eq0-2 : goal.returns-in-Ok-eq0-2
@@ -140,9 +143,9 @@ returns-in-Ok-eq0-2 g c =
         it.few,
         length-take-le c.reads.filled c.fill_buffer.new.buffer within,
       );
-      did = it.posted.followed;
+      did = it.posted.opened.followed;
       survives = followed_leaves g.C.Counter.seen g.C.Counter.spares g.C.Counter.reason c.args.plan.now c.args.bank.now
-          c.reads.bank it.entries it.posted.followed;
+          c.reads.bank it.entries it.posted.opened.followed;
       grows = tt;
     }
 
@@ -164,7 +167,7 @@ returns-in_err-take_all g c =
     rw (told.1, told.2)
     (broke_off g.C.Counter.seen g.C.Counter.spares g.C.Counter.reason c.args.plan.now _ _ _ _ c.args.bank.now
     c.take_all.new.counter it.entries c.as_chunks.result.0.now bytes c.as_chunks.result.1.now c.reads.count
-    c.take_all.new.self.waiting on.0
+    c.take_all.new.self.waiting c.take_all.new.self.looked.items on.0
     (cut_up bytes c.as_chunks.result.0.now c.as_chunks.result.1.now c.as_chunks.ensures.front c.as_chunks.ensures.back)
     (rw c.as_chunks.ensures.front (chunks_whole 308 _ bytes (omega arith))) it.are it.count_is
     (omega (arith, c.as_chunks.ensures.front_len, it.bound, long)) fault

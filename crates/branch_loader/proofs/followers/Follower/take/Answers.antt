@@ -1,8 +1,11 @@
 -- The branches are opened, there is room, and the entry waits.
-use Rattle.std.proofs.Common.{rules, ◌≡◌, ◌∙◌, ℕ, Err, sym, subst}
+use Rattle.std.proofs.Common.{rules, ◌≡◌, ◌∙◌, ℕ, List, Bool, Err, ap, refl, sym, subst, true}
 use Rattle.posting_core.specs.Entries.{IsMomentOf, answered}
-use Rattle.branch_loader.specs.Following.{IsFollowing}
-use Rattle.branch_loader.proofs.Following.{following_more}
+use Rattle.std.specs.List.{AllByRecursion}
+use Rattle.branch_loader.specs.Following.{IsFollowing, IsLooked, had_account, needed_by}
+use Rattle.branch_loader.specs.believed.Plans.{Rows}
+use Rattle.posting_rules.specs.believed.Numbering.{branch_of_account, branch_of_teller}
+use Rattle.branch_loader.proofs.Following.{following_more, looked_still, needed_looked}
 use Rattle.branch_loader.proofs.followers.Follower.take.Goals as goal
 use Rattle.branch_loader.proofs.followers.Follower.take.Goals.{else-had_account, then-had_account+in_ok-open-2}
 
@@ -39,7 +42,7 @@ returns-in_err-make_room g c =
     record {
       follows = λ first rows given is it.
           let both : IsFollowing g.C.Counter.seen g.C.Counter.spares rows first c.if-had_account.counter given
-          c.if-had_account.self.waiting =
+          c.if-had_account.self.waiting c.if-had_account.self.looked.items =
           elim c.if-had_account.branch [
             | then-had_account+in_ok-open-2 w ↦
                 rw (w.self-is, w.counter-is)
@@ -62,18 +65,46 @@ returns g c =
     record {
       follows = λ first rows given is it.
           let both : IsFollowing g.C.Counter.seen g.C.Counter.spares rows first c.if-had_account.counter given
-          c.if-had_account.self.waiting =
+          c.if-had_account.self.waiting c.if-had_account.self.looked.items =
           elim c.if-had_account.branch [
             | then-had_account+in_ok-open-2 w ↦
                 rw (w.self-is, w.counter-is)
                 (w.in_ok-open-2.ensures.follows first rows given (one.plan ∙ is) (one.follows first rows given is it))
             | else-had_account w ↦ rw (w.self-is, w.counter-is) (one.follows first rows given is it)
           ] in
+          let looked = c.if-had_account.self.looked.items in
+          let firstly : IsLooked rows c.open.new.self.looked.items c.branch_of_teller.result =
+          subst (λ (r : Rows). IsLooked r c.open.new.self.looked.items c.branch_of_teller.result) is one.looked in
+          let tellers : IsLooked rows looked c.branch_of_teller.result =
+          elim c.if-had_account.branch [
+            | then-had_account+in_ok-open-2 w ↦
+                rw (w.self-is) (looked_still rows c.open.new.self.looked.items w.open-then-had_account.new.self.looked.items
+                w.branch_of_account.result c.branch_of_teller.result w.in_ok-open-2.ensures.keeps firstly)
+            | else-had_account w ↦ rw (w.self-is) firstly
+          ] in
+          let accounts : had_account c.args.entry.now.reply.outcome ≡ true
+          → IsLooked rows looked (branch_of_account c.args.entry.now.request.account) = λ had.
+          elim c.if-had_account.branch [
+            | then-had_account+in_ok-open-2 w ↦
+                rw (w.self-is) (subst (λ (r : Rows). IsLooked r w.open-then-had_account.new.self.looked.items
+                (branch_of_account c.args.entry.now.request.account)) (one.plan ∙ is)
+                (subst (λ (b : ℕ). IsLooked c.open.new.self.plan.now w.open-then-had_account.new.self.looked.items b)
+                (w.branch_of_account.ensures ∙ ap branch_of_account w.account.ensures) w.in_ok-open-2.ensures.looked))
+            | else-had_account w ↦ absurd (cc (had, w.if-had_account.ensures, c.outcome.ensures))
+          ] in
+          let same : c.make_room.new.self.looked.items ≡ looked = rw (made.looked) refl in
+          let marked : AllByRecursion (IsLooked rows c.make_room.new.self.looked.items)
+          (needed_by (answered c.args.entry.now)) =
+          subst (λ (l : List Bool). AllByRecursion (IsLooked rows l) (needed_by (answered c.args.entry.now))) (sym same)
+          (needed_looked rows looked (branch_of_teller c.args.entry.now.request.teller)
+          (branch_of_account c.args.entry.now.request.account) (had_account c.args.entry.now.reply.outcome)
+          (subst (λ (b : ℕ). IsLooked rows looked b) (c.branch_of_teller.ensures ∙ ap branch_of_teller c.teller.ensures)
+          tellers) accounts) in
           following_more g.C.Counter.seen g.C.Counter.spares g.C.Counter.reason rows first c.make_room.new.counter given
-          c.make_room.new.self.waiting c.push.new.self (answered c.args.entry.now)
+          c.make_room.new.self.waiting c.push.new.self c.make_room.new.self.looked.items (answered c.args.entry.now)
           (made.follows first rows given (planned ∙ is) both)
           (λ entries waits. c.push.ensures.waits entries waits
           (subst (λ (m : ℕ). IsMomentOf (answered c.args.entry.now) m) (sym made.moment) c.moment_for-moment.ensures))
-          c.push.ensures.posted;
+          c.push.ensures.posted marked;
       plan = made.plan ∙ planned;
     }
