@@ -33,8 +33,8 @@ Package: bank
 Version: $version
 Architecture: amd64
 Maintainer: Dimqured
-Depends: libc6 (>= 2.34), nftables
-Recommends: nginx-light | nginx, curl, sqlite3
+Depends: libc6 (>= 2.34), curl, nftables
+Recommends: nginx-light | nginx, sqlite3
 Section: database
 Priority: optional
 Description: a bank teller's ledger in one file
