@@ -243,11 +243,11 @@ def unreadable(bench):
 def posts(bench):
     """Kills `post`, and resends from the first record that has no whole reply."""
     file, given = bench.new_bank("killed"), many(bench)
-    replies, kills = b"", 0
+    replies, kills, latest = b"", 0, latest_kill(file)
     for _ in range(LIVES):
         process = subprocess.Popen([BANK, "post", file], stdin=subprocess.PIPE, stdout=subprocess.PIPE,
                                    stderr=subprocess.DEVNULL)
-        timer = threading.Timer(random.uniform(0.0, 0.08), process.kill)
+        timer = threading.Timer(random.uniform(0.0, latest), process.kill)
         timer.start()
         part = process.communicate(given[len(replies) // 2:])[0]
         timer.join()
@@ -258,6 +258,14 @@ def posts(bench):
     bench.cause = f"{kills} kills of post in {LIVES} lives, {before} of {RECORDS} records answered in them"
     ensure(replies == bench.many and run("post", file, data=given)[0] == bench.many, "the replies differ")
     bench.note(0, b"the replies are those of one run")
+
+
+def latest_kill(file):
+    """Until when a life is killed: it opens the file, which takes as long as the machine is slow, and then answers for a
+    while."""
+    begun = time.monotonic()
+    run("post", file)
+    return 2 * (time.monotonic() - begun) + 0.08
 
 
 def many(bench):
@@ -272,10 +280,10 @@ def serves(bench):
     balance is known; the tables but for moments and ordinals are those of one run."""
     file, given = bench.new_bank("served"), many(bench)
     sorts = [[post(body) for i, body in enumerate(records(RECORDS)) if i % 20 % TELLERS == it] for it in range(TELLERS)]
-    replies, kills = [[] for _ in sorts], 0
+    replies, kills, latest = [[] for _ in sorts], 0, latest_kill(file)
     for life in range(LIVES + 1):
         server = Server(file, 1000)
-        timer = threading.Timer(random.uniform(0.0, 0.08), server.process.kill)
+        timer = threading.Timer(random.uniform(0.0, latest), server.process.kill)
         if life < LIVES:
             timer.start()
         senders = [Sender(server.connect, sort[len(had):], AHEAD, lambda: server.process.poll() is not None)
