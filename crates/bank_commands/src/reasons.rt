@@ -16,6 +16,9 @@ use std::os::fd::AsRawFd;
 use std::os::unix::fs::MetadataExt;
 use std::{env, fmt};
 
+// The length of a log that holds no page.
+const LOG_HEAD: u64 = 41;
+
 /// What is wrong with a file.
 #[derive(Debug, Drop)]
 pub(crate) enum Reason {
@@ -136,7 +139,7 @@ pub(crate) fn look_into(
 {
     look_at(rt, path)?;
     let log = format!(in rt.alloc(); "{path}-wal")?;
-    if length_of(rt, log.as_str())? == 0 {
+    if length_of(rt, log.as_str())? <= LOG_HEAD {
         look_at_header(fs::read(rt, path)?.as_slice())?;
     }
     look_for_others(rt, path, log.as_str())?;
@@ -171,7 +174,7 @@ fn length_of(rt: &HostRuntime, path: &str) -> io::Result<u64> {
     }
 }
 
-// What a file with no log begins with.
+// What a file whose log holds no page begins with.
 fn look_at_header(bytes: &[u8]) -> Result<(), Reason> {
     if bytes.len() < 100 || !bytes.starts_with(b"SQLite format 3\0") {
         Err(Reason::NoDatabase)
