@@ -16,7 +16,7 @@ use Rattle.posting_core.specs.believed.Batches.{Batch, IsRecord, joined, records
 use Rattle.posting_core.specs.believed.Stream.{acknowledged, IfBank, IsRefusedAfterBatches, Streamed, UnlessDown}
 use Rattle.posting_core.specs.Stream.{replies_text, IfTaken, IsReplied, StreamFaultIsOfItsEnd, Streams, StreamsAsRead}
 use Rattle.posting_core.specs.Stream.{WritesReplies, reply_at}
-use Rattle.posting_core.specs.{believed.Told.ReadTold, Told.Beside, Told.WriteTold}
+use Rattle.posting_core.specs.{believed.EndCalls.ReadCall, EndCalls.Beside, EndCalls.WriteCall}
 use Rattle.posting_core.proofs.{Again.reply_begins, Again.reply_stands, Stops.at_least, Timeless.timeless}
 use Rattle.posting_rules.proofs.Sequence.{replies_to-append, one_reply_each}
 use Rattle.posting_rules.proofs.{Resends.shows_log_left_out, Remaining.leaves_weaker}
@@ -201,8 +201,8 @@ replied (Err (Bank fault)) s log p one first again h hp shows =
 -- ---- all that a call did
 
 pub streams_of : {C : Type 0} (seen : C → Seen) (reason : Fault → C → C → Type 0) (old new : C)
-    {r r' w w' k k' : Option (List ℕ)} {q q' : Option (List ReadTold)} {b b' : Option (List Beside)}
-    {t t' : Option (List WriteTold)} (result : Result ℕ StreamFault)
+    {r r' w w' k k' : Option (List ℕ)} {q q' : Option (List ReadCall)} {b b' : Option (List Beside)}
+    {t t' : Option (List WriteCall)} (result : Result ℕ StreamFault)
     → StreamsAsRead r r' q q' b b' w w' t k k' (seen old) (seen new) result
     → IfErr result (λ fault. IfBank fault (IsRefusedAfterBatches seen reason old new r r'))
     → UnlessDown result ((seen new).is_down → (seen old).is_down) → ((seen old).is_down → new ≡ old)

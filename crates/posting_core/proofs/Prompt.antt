@@ -5,12 +5,12 @@ use Rattle.std.specs.Io.KnownBytes.{Appends}
 use Rattle.std.proofs.lemmas.Bool.Decides.{leb_tells}
 use Rattle.std.proofs.lemmas.List.{get_or_append_left, get_or_push, length-append, take_all, take-append-le}
 use Rattle.posting_core.specs.Stream.{RepliesBeforeReads, given, read_by}
-use Rattle.posting_core.specs.believed.Told.{GrowsBy, ReadTold}
-use Rattle.posting_core.specs.Told.{Beside, HoldsFlushed, IsThrough, WriteTold, unknown}
+use Rattle.posting_core.specs.believed.EndCalls.{GrowsBy, ReadCall}
+use Rattle.posting_core.specs.EndCalls.{Beside, HoldsFlushed, IsThrough, WriteCall, unknown}
 use Rattle.posting_core.proofs.Telling.{adds-more, adds-none}
 
 -- at first no read was made
-pub prompt_first : (b : Option (List Beside)) (w : Option (List ℕ)) (t : Option (List WriteTold))
+pub prompt_first : (b : Option (List Beside)) (w : Option (List ℕ)) (t : Option (List WriteCall))
     (written : List ℕ) → RepliesBeforeReads b b w t [] written
 prompt_first b w t written = record {
   sinks = [];
@@ -20,7 +20,7 @@ prompt_first b w t written = record {
 }
 
 -- what was held is held, where more was written since
-holds_more : {w : Option (List ℕ)} {t : Option (List WriteTold)} (written more : List ℕ) (k k' : ℕ)
+holds_more : {w : Option (List ℕ)} {t : Option (List WriteCall)} (written more : List ℕ) (k k' : ℕ)
     (sink sink' : Beside) → HoldsFlushed w t written k sink → k' ≡ k → sink' ≡ sink
     → HoldsFlushed w t (written ++ more) k' sink'
 holds_more {w = w} {t = t} written more k k' sink sink' h e f =
@@ -34,8 +34,8 @@ holds_more {w = w} {t = t} written more k k' sink sink' h e f =
     (subst (λ (s : Beside). HoldsFlushed w t (written ++ more) k s) (sym f) held)
 
 -- more was written
-pub prompt_written : {b b' : Option (List Beside)} {w : Option (List ℕ)} {t : Option (List WriteTold)}
-    {reads : List ReadTold} (written more : List ℕ) → RepliesBeforeReads b b' w t reads written
+pub prompt_written : {b b' : Option (List Beside)} {w : Option (List ℕ)} {t : Option (List WriteCall)}
+    {reads : List ReadCall} (written more : List ℕ) → RepliesBeforeReads b b' w t reads written
     → RepliesBeforeReads b b' w t reads (written ++ more)
 prompt_written written more p = record {
   sinks = p.sinks;
@@ -45,7 +45,7 @@ prompt_written written more p = record {
 }
 
 -- all of it is held
-holds_all : (w : Option (List ℕ)) (t : Option (List WriteTold)) (written : List ℕ) (k : ℕ) (sink : Beside)
+holds_all : (w : Option (List ℕ)) (t : Option (List WriteCall)) (written : List ℕ) (k : ℕ) (sink : Beside)
     → length written ≡ k → Appends w sink.contents written → IsThrough t sink.told
     → HoldsFlushed w t written k sink
 holds_all w t written k sink is wrote through = record {
@@ -56,8 +56,8 @@ holds_all w t written k sink is wrote through = record {
 }
 
 -- one read more was made, beside a sink that held all replies
-pub prompt_read : {b b' b'' : Option (List Beside)} {w : Option (List ℕ)} {t : Option (List WriteTold)}
-    (reads : List ReadTold) (written : List ℕ) (x : ReadTold) (sink : Beside) (count : ℕ)
+pub prompt_read : {b b' b'' : Option (List Beside)} {w : Option (List ℕ)} {t : Option (List WriteCall)}
+    (reads : List ReadCall) (written : List ℕ) (x : ReadCall) (sink : Beside) (count : ℕ)
     → RepliesBeforeReads b b' w t reads written → GrowsBy b' b'' (sink ∷ [])
     → read_by (length reads) reads ≡ count → length written ≡ 200 * count
     → Appends w sink.contents written → IsThrough t sink.told
@@ -71,7 +71,7 @@ prompt_read {b = b} {b' = b'} {b'' = b''} {w = w} {t = t} reads written x sink c
     }
   where
     so_far : (n : ℕ) → n ≤ length reads → read_by n (reads ++ x ∷ []) ≡ read_by n reads
-    so_far n le = ap (λ (r : List ReadTold). given r / 100) (take-append-le n reads (x ∷ []) le)
+    so_far n le = ap (λ (r : List ReadCall). given r / 100) (take-append-le n reads (x ∷ []) le)
 
     at : (n : ℕ) → ((leb (length reads) n ≡ true) × (length reads ≤ n))
         ⊎ ((leb (length reads) n ≡ false) × (n < length reads)) → n ≤ length reads

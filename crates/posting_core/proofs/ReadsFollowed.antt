@@ -6,22 +6,22 @@ use Rattle.std.proofs.lemmas.List.{Concat.flat_map-append, length-append, take_a
 use Rattle.std.specs.{declared.io.Error.Error, Io.KnownBytes.Appends}
 use Rattle.posting_core.specs.believed.Batches.{Batch, records_in, records_of}
 use Rattle.posting_core.specs.Stream.{FollowReads, RepliesBeforeReads, given, read_by, submitted_by}
-use Rattle.posting_core.specs.believed.Told.{ReadTold, Gave, Failed, GrowsBy}
-use Rattle.posting_core.specs.Told.{Beside, IsThrough, WriteTold, read_told}
+use Rattle.posting_core.specs.believed.EndCalls.{ReadCall, Gave, Failed, GrowsBy}
+use Rattle.posting_core.specs.EndCalls.{Beside, IsThrough, WriteCall, read_call}
 use Rattle.posting_rules.specs.believed.Counter.{Seen}
 use Rattle.posting_core.proofs.{Streaming.Going, Telling.adds-more, Telling.adds-none}
 use Rattle.posting_core.proofs.Prompt.{prompt_first, prompt_read, prompt_written}
 
 -- the batches follow the reads, which gave their records and so many bytes after them; no reply waits for the
 -- next read
-pub record Following (q q' : Option (List ReadTold)) (b b' : Option (List Beside)) (w : Option (List ℕ))
-    (t : Option (List WriteTold)) (batches : List Batch) (rest : ℕ) (written : List ℕ) : Type 0 where
+pub record Following (q q' : Option (List ReadCall)) (b b' : Option (List Beside)) (w : Option (List ℕ))
+    (t : Option (List WriteCall)) (batches : List Batch) (rest : ℕ) (written : List ℕ) : Type 0 where
   pub follow : FollowReads q q' batches
   pub total : given follow.reads ≡ 100 * length (records_of batches) + rest
   pub prompt : RepliesBeforeReads b b' w t follow.reads written
 
 -- what is known of the sink as a read is made: it holds the replies to these batches, flushed
-pub record IsUpTo (w : Option (List ℕ)) (t : Option (List WriteTold)) (batches : List Batch) (rest : ℕ)
+pub record IsUpTo (w : Option (List ℕ)) (t : Option (List WriteCall)) (batches : List Batch) (rest : ℕ)
     (written : List ℕ) (sink : Beside) : Type 0 where
   pub few : rest < 100
   pub long : length written ≡ 200 * length (records_of batches)
@@ -29,22 +29,22 @@ pub record IsUpTo (w : Option (List ℕ)) (t : Option (List WriteTold)) (batches
   pub through : IsThrough t sink.told
 
 pub up_to : {r r' w w' k k' : Option (List ℕ)} {c c' : Seen} {bs : List Batch} {left : List ℕ} {count : ℕ}
-    {written : List ℕ} {t t' : Option (List WriteTold)} (rest : ℕ)
+    {written : List ℕ} {t t' : Option (List WriteCall)} (rest : ℕ)
     → Going r r' w w' k k' c c' bs left count written → rest < 100 → IsThrough t t'
     → IsUpTo w t bs rest written (record { contents = w'; told = t' })
 up_to rest g few through = record { few = few; long = g.long; wrote = g.wrote; through = through }
 
 -- ---- how many bytes
 
-pub given-append : (xs ys : List ReadTold) → given (xs ++ ys) ≡ given xs + given ys
+pub given-append : (xs ys : List ReadCall) → given (xs ++ ys) ≡ given xs + given ys
 given-append [] ys = omega arith
 given-append (Gave n ∷ xs) ys = let e = given-append xs ys in omega arith
 given-append (Failed kind ∷ xs) ys = given-append xs ys
 
-pub gave_some : (r : Result ℕ Error) (n : ℕ) → r ≡ Ok n → given (read_told r ∷ []) ≡ n
+pub gave_some : (r : Result ℕ Error) (n : ℕ) → r ≡ Ok n → given (read_call r ∷ []) ≡ n
 gave_some r n is = rw is (omega arith)
 
-pub gave_none : (r : Result ℕ Error) (e : Error) → r ≡ Err e → given (read_told r ∷ []) ≡ 0
+pub gave_none : (r : Result ℕ Error) (e : Error) → r ≡ Err e → given (read_call r ∷ []) ≡ 0
 gave_none r e is = rw is refl
 
 -- ---- a prefix of what there was, where there is more now
@@ -57,7 +57,7 @@ records-more : (bs more : List Batch)
 records-more bs more = ap length (flat_map-append records_in bs more)
     ∙ length-append (records_of bs) (records_of more)
 
-total_more : (bs more : List Batch) (reads : List ReadTold) (x : ReadTold) (rest rest' : ℕ)
+total_more : (bs more : List Batch) (reads : List ReadCall) (x : ReadCall) (rest rest' : ℕ)
     → given reads ≡ 100 * length (records_of bs) + rest
     → rest + given (x ∷ []) ≡ 100 * length (records_of more) + rest'
     → given (reads ++ x ∷ []) ≡ 100 * length (records_of (bs ++ more)) + rest'
@@ -65,25 +65,25 @@ total_more bs more reads x rest rest' total got =
     omega (arith, given-append reads (x ∷ []), records-more bs more, total, got)
 
 -- all batches have all whole records
-all_of : (bs : List Batch) (reads : List ReadTold) (m n rest : ℕ) → take m bs ≡ bs → take n reads ≡ reads
+all_of : (bs : List Batch) (reads : List ReadCall) (m n rest : ℕ) → take m bs ≡ bs → take n reads ≡ reads
     → given reads ≡ 100 * length (records_of bs) + rest → rest < 100
     → submitted_by m bs ≡ read_by n reads
 all_of bs reads m n rest all_batches all_reads total few =
     let count : given reads / 100 ≡ length (records_of bs) = omega arith in
     ap (λ (b : List Batch). length (records_of b)) all_batches ∙ sym count
-    ∙ ap (λ (r : List ReadTold). given r / 100) (sym all_reads)
+    ∙ ap (λ (r : List ReadCall). given r / 100) (sym all_reads)
 
 -- all whole records are those of all reads
-read_so_far : (reads : List ReadTold) (count rest : ℕ) → given reads ≡ 100 * count + rest → rest < 100
+read_so_far : (reads : List ReadCall) (count rest : ℕ) → given reads ≡ 100 * count + rest → rest < 100
     → read_by (length reads) reads ≡ count
 read_so_far reads count rest total few =
     let divided : given reads / 100 ≡ count = omega arith in
-    ap (λ (r : List ReadTold). given r / 100) (take_all (length reads) reads (omega arith)) ∙ divided
+    ap (λ (r : List ReadCall). given r / 100) (take_all (length reads) reads (omega arith)) ∙ divided
 
 -- ---- steps
 
-pub following_first : (q : Option (List ReadTold)) (b : Option (List Beside)) (w : Option (List ℕ))
-    (t : Option (List WriteTold)) (rest : ℕ) → rest ≡ 0 → Following q q b b w t [] rest []
+pub following_first : (q : Option (List ReadCall)) (b : Option (List Beside)) (w : Option (List ℕ))
+    (t : Option (List WriteCall)) (rest : ℕ) → rest ≡ 0 → Following q q b b w t [] rest []
 following_first q b w t rest none = record {
   follow = record {
     reads = [];
@@ -100,12 +100,12 @@ following_first q b w t rest none = record {
         ap (λ (b : List Batch). length (records_of b)) (take_all m none (omega arith))
 
     nothing_read : (n : ℕ) → read_by n [] ≡ submitted_by 0 []
-    nothing_read n = let none : List ReadTold = [] in
-        ap (λ (r : List ReadTold). given r / 100) (take_all n none (omega arith))
+    nothing_read n = let none : List ReadCall = [] in
+        ap (λ (r : List ReadCall). given r / 100) (take_all n none (omega arith))
 
 -- one read more, and the batch that it completed, if it completed one
-following_more : {q q' q'' : Option (List ReadTold)} {b b' b'' : Option (List Beside)} {w : Option (List ℕ)}
-    {t : Option (List WriteTold)} {written : List ℕ} (bs more : List Batch) (x : ReadTold) (sink : Beside)
+following_more : {q q' q'' : Option (List ReadCall)} {b b' b'' : Option (List Beside)} {w : Option (List ℕ)}
+    {t : Option (List WriteCall)} {written : List ℕ} (bs more : List Batch) (x : ReadCall) (sink : Beside)
     (rest rest' : ℕ)
     → length more ≤ 1 → Following q q' b b' w t bs rest written → IsUpTo w t bs rest written sink
     → GrowsBy q' q'' (x ∷ []) → GrowsBy b' b'' (sink ∷ [])
@@ -146,7 +146,7 @@ following_more {q = q} {q' = q'} {q'' = q''} {written = written} bs more x sink 
         let t = f.follow.together m in (
           min t.0 (length f.follow.reads),
           ap (λ (b : List Batch). length (records_of b)) (take-append-le m bs more within.1) ∙ t.1
-              ∙ ap (λ (r : List ReadTold). given r / 100) (sym (first_of t.0 f.follow.reads (x ∷ []))),
+              ∙ ap (λ (r : List ReadCall). given r / 100) (sym (first_of t.0 f.follow.reads (x ∷ []))),
         )
     together_by m (inr past) whole wider = (
       length f.follow.reads + 1,
@@ -165,19 +165,19 @@ following_more {q = q} {q' = q'} {q'' = q''} {written = written} bs more x sink 
         let t = f.follow.at_once n in (
           min t.0 (length bs),
           ap (λ (b : List Batch). length (records_of b)) (first_of t.0 bs more) ∙ t.1
-              ∙ ap (λ (r : List ReadTold). given r / 100)
+              ∙ ap (λ (r : List ReadCall). given r / 100)
               (sym (take-append-le n f.follow.reads (x ∷ []) within.1)),
         )
     at_once_by n (inr past) whole longer = (
       length bs + 1,
-      whole ∙ ap (λ (r : List ReadTold). given r / 100)
+      whole ∙ ap (λ (r : List ReadCall). given r / 100)
           (take_all (length f.follow.reads + 1) (f.follow.reads ++ x ∷ []) (omega (arith, longer))
           ∙ sym (take_all n (f.follow.reads ++ x ∷ []) (omega (arith, past.1, longer)))),
     )
 
 -- a read that completed no record
-pub following_read : {q q' q'' : Option (List ReadTold)} {b b' b'' : Option (List Beside)} {w : Option (List ℕ)}
-    {t : Option (List WriteTold)} {written : List ℕ} (bs : List Batch) (x : ReadTold) (sink : Beside)
+pub following_read : {q q' q'' : Option (List ReadCall)} {b b' b'' : Option (List Beside)} {w : Option (List ℕ)}
+    {t : Option (List WriteCall)} {written : List ℕ} (bs : List Batch) (x : ReadCall) (sink : Beside)
     (rest rest' : ℕ) → Following q q' b b' w t bs rest written → IsUpTo w t bs rest written sink
     → GrowsBy q' q'' (x ∷ []) → GrowsBy b' b'' (sink ∷ []) → rest + given (x ∷ []) ≡ rest' → rest' < 100
     → Following q q'' b b'' w t bs rest' written
@@ -187,8 +187,8 @@ following_read {q = q} {q'' = q''} {b = b} {b'' = b''} {w = w} {t = t} {written 
     (following_more bs [] x sink rest rest' (omega arith) f up made beside (omega arith) few)
 
 -- a read that completed a batch
-pub following_batch : {q q' q'' : Option (List ReadTold)} {b b' b'' : Option (List Beside)} {w : Option (List ℕ)}
-    {t : Option (List WriteTold)} {written : List ℕ} (bs : List Batch) (one : Batch) (x : ReadTold)
+pub following_batch : {q q' q'' : Option (List ReadCall)} {b b' b'' : Option (List Beside)} {w : Option (List ℕ)}
+    {t : Option (List WriteCall)} {written : List ℕ} (bs : List Batch) (one : Batch) (x : ReadCall)
     (sink : Beside) (rest rest' : ℕ) → Following q q' b b' w t bs rest written
     → IsUpTo w t bs rest written sink
     → GrowsBy q' q'' (x ∷ []) → GrowsBy b' b'' (sink ∷ [])
@@ -199,8 +199,8 @@ following_batch bs one x sink rest rest' f up made beside got few =
     (got ∙ ap (λ (k : ℕ). 100 * k + rest') (sym (ap length (append-nil one.records)))) few
 
 -- the replies to it
-pub following_wrote : {q q' : Option (List ReadTold)} {b b' : Option (List Beside)} {w : Option (List ℕ)}
-    {t : Option (List WriteTold)} {bs : List Batch} {rest : ℕ} (written more : List ℕ)
+pub following_wrote : {q q' : Option (List ReadCall)} {b b' : Option (List Beside)} {w : Option (List ℕ)}
+    {t : Option (List WriteCall)} {bs : List Batch} {rest : ℕ} (written more : List ℕ)
     → Following q q' b b' w t bs rest written → Following q q' b b' w t bs rest (written ++ more)
 following_wrote written more f =
     record { follow = f.follow; total = f.total; prompt = prompt_written written more f.prompt }

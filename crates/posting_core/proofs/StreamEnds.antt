@@ -7,7 +7,7 @@ use Rattle.posting_rules.specs.{declared.fault.Fault.Fault, believed.Commands.Co
 use Rattle.posting_rules.specs.declared.limits.TheConstants.{RECORDS_PER_BATCH}
 use Rattle.posting_rules.specs.declared.fault.Fault.TheVariants.{Memory}
 use Rattle.posting_core.specs.{declared.stream.StreamFault.StreamFault, believed.Clock.AreReadings, Clock.IsReading}
-use Rattle.posting_core.specs.{Batches.BreaksOff, believed.Told.ReadTold, Told.Beside, Told.WriteTold}
+use Rattle.posting_core.specs.{Batches.BreaksOff, believed.EndCalls.ReadCall, EndCalls.Beside, EndCalls.WriteCall}
 use Rattle.posting_core.specs.declared.stream.StreamFault.TheVariants.{Truncated, Read, Write, Bank}
 use Rattle.posting_rules.specs.believed.Counter.{Seen, ShowsLog, StandsAt, Refuses, IsSeenUnchanged}
 use Rattle.posting_rules.specs.believed.Runs.{followed_by, posts, replies_to}
@@ -28,7 +28,7 @@ pub record FitsAll (result : Result ℕ StreamFault) : Type 1 where
   pub up : (P : Type 0) → P → UnlessDown result P
 
 -- batches and none more follow the same reads
-abbrev follow_all : {q q' : Option (List ReadTold)} {done : List Batch} → FollowReads q q' done
+abbrev follow_all : {q q' : Option (List ReadCall)} {done : List Batch} → FollowReads q q' done
     → FollowReads q q' (done ++ [])
 follow_all {done = done} f = record {
   reads = f.reads;
@@ -39,8 +39,8 @@ follow_all {done = done} f = record {
       (sym (append-nil done)) (f.at_once n);
 }
 
-end_of : {r r' w w' k k' : Option (List ℕ)} {q q' : Option (List ReadTold)} {b b' : Option (List Beside)}
-    {t : Option (List WriteTold)} {c c' : Seen} {done : List Batch} {rest : List ℕ} {count left : ℕ}
+end_of : {r r' w w' k k' : Option (List ℕ)} {q q' : Option (List ReadCall)} {b b' : Option (List Beside)}
+    {t : Option (List WriteCall)} {c c' : Seen} {done : List Batch} {rest : List ℕ} {count left : ℕ}
     {written : List ℕ}
     (result : Result ℕ StreamFault) (g : Going r r' w w' k k' c c' done rest count written)
     → FitsAll result → length rest < 100 → EndsStream result r' done [] rest
@@ -75,8 +75,8 @@ end_of {r = r} {r' = r'} {k = k} {k' = k'} {c' = c'} {done = done} {rest = rest}
     }
 
 -- the input ended with a record
-pub end_whole : {r r' w w' k k' : Option (List ℕ)} {q q' : Option (List ReadTold)}
-    {b b' : Option (List Beside)} {t : Option (List WriteTold)} {c c' : Seen}
+pub end_whole : {r r' w w' k k' : Option (List ℕ)} {q q' : Option (List ReadCall)}
+    {b b' : Option (List Beside)} {t : Option (List WriteCall)} {c c' : Seen}
     {done : List Batch} {count left : ℕ} {written : List ℕ} (rest : List ℕ)
     → Going r r' w w' k k' c c' done rest count written → IsAtEnd r' → rest ≡ []
     → Following q q' b b' w t done left written → StreamsAsRead r r' q q' b b' w w' t k k' c c' (Ok count)
@@ -86,8 +86,8 @@ end_whole {count = count} rest g ended none follow =
     (record { ended = ended; no_rest = none; all_taken = refl; count_is = g.count_is }) follow
 
 -- it ended within one
-pub end_in_record : {r r' w w' k k' : Option (List ℕ)} {q q' : Option (List ReadTold)}
-    {b b' : Option (List Beside)} {t : Option (List WriteTold)} {c c' : Seen}
+pub end_in_record : {r r' w w' k k' : Option (List ℕ)} {q q' : Option (List ReadCall)}
+    {b b' : Option (List Beside)} {t : Option (List WriteCall)} {c c' : Seen}
     {done : List Batch} {count left : ℕ} {written : List ℕ} (rest : List ℕ) (n : ℕ)
     → Going r r' w w' k k' c c' done rest count written → IsAtEnd r'
     → length rest ≡ n → 1 ≤ n → n < 100 → Following q q' b b' w t done left written
@@ -97,8 +97,8 @@ end_in_record rest n g ended is some few follow =
     (record { ended = ended; some = some; rest_is = is; all_taken = refl }) follow
 
 -- the reader failed
-pub end_unread : {r r' w w' k k' : Option (List ℕ)} {q q' : Option (List ReadTold)}
-    {b b' : Option (List Beside)} {t : Option (List WriteTold)} {c c' : Seen}
+pub end_unread : {r r' w w' k k' : Option (List ℕ)} {q q' : Option (List ReadCall)}
+    {b b' : Option (List Beside)} {t : Option (List WriteCall)} {c c' : Seen}
     {done : List Batch} {count left : ℕ} {written : List ℕ} (rest : List ℕ)
     → Going r r' w w' k k' c c' done rest count written → length rest < 100
     → Following q q' b b' w t done left written → StreamsAsRead r r' q q' b b' w w' t k k' c c' (Err Read)
@@ -132,7 +132,7 @@ refused_stands other c c' log cs u s = tt
 
 -- a batch broke off
 pub end_broken : (fault : StreamFault) {r r' w w' w'' k k' k'' : Option (List ℕ)}
-    {q q' : Option (List ReadTold)} {v v' : Option (List Beside)} {t : Option (List WriteTold)}
+    {q q' : Option (List ReadCall)} {v v' : Option (List Beside)} {t : Option (List WriteCall)}
     {c c' c'' : Seen} {done : List Batch} {count left : ℕ} {written : List ℕ} (m : ℕ) (all rest : List ℕ)
     (rs : List (List ℕ))
     → Going r r' w w' k k' c c' done all count written → (all ≡ joined rs ++ rest) × AllByRecursion IsRecord rs

@@ -6,9 +6,9 @@ use Rattle.std.proofs.lemmas.List.{length-append}
 use Rattle.std.specs.{IoError.error_kind, contracts.io.ErrorKind.the_type, List.AllByRecursion}
 use Rattle.std.specs.declared.io.{Error.Error, ErrorKind.ErrorKind, ErrorKind.TheVariants.Interrupted}
 use denote.Enum.Bare.{sameb, same_true}
-use Rattle.posting_core.specs.believed.Told.{GrowsBy, EndsWith, IsEndOfInput, ReadTold}
-use Rattle.posting_core.specs.Told.{EndsWithMany, HasMore, HasReadFailed, HasWriteFailed, IsInterrupted, IsReadFailure}
-use Rattle.posting_core.specs.Told.{IsWornOut, IsWriteFailure, WriteTold, read_told, write_told, flush_told, IsFlush}
+use Rattle.posting_core.specs.believed.EndCalls.{GrowsBy, EndsWith, IsEndOfInput, ReadCall}
+use Rattle.posting_core.specs.EndCalls.{EndsWithMany, HasMore, HasReadFailed, HasWriteFailed, IsInterrupted, IsReadFailure}
+use Rattle.posting_core.specs.EndCalls.{IsWornOut, IsWriteFailure, WriteCall, read_call, write_call, flush_call, IsFlush}
 use Rattle.posting_batch.proofs.NextOrdinals.{all_more}
 
 pub adds-more : {A : Type 0} (a b c : Option (List A)) (xs ys : List A) → GrowsBy a b xs → GrowsBy b c ys
@@ -139,50 +139,50 @@ pub other_kind : (k : ErrorKind) (e : Error) → false ≡ sameb the_type k Inte
 other_kind k e differs is same = cc
     (subst (λ (x : ErrorKind). false ≡ sameb the_type x Interrupted) (is ∙ same) differs)
 
-pub read_ended : {a b c : Option (List ReadTold)} {count : ℕ} (r : Result ℕ Error) (n : ℕ) → HasMade a b count
-    → GrowsBy b c (read_told r ∷ []) → r ≡ Ok n → n ≡ 0
+pub read_ended : {a b c : Option (List ReadCall)} {count : ℕ} (r : Result ℕ Error) (n : ℕ) → HasMade a b count
+    → GrowsBy b c (read_call r ∷ []) → r ≡ Ok n → n ≡ 0
     → EndsWith IsEndOfInput a c
-read_ended r n h tells is none = made_last IsEndOfInput (read_told r) h tells (rw is none)
+read_ended r n h tells is none = made_last IsEndOfInput (read_call r) h tells (rw is none)
 
-pub read_failed : {a b c : Option (List ReadTold)} {count : ℕ} (r : Result ℕ Error) (e : Error)
-    → HasMade a b count → GrowsBy b c (read_told r ∷ []) → r ≡ Err e
+pub read_failed : {a b c : Option (List ReadCall)} {count : ℕ} (r : Result ℕ Error) (e : Error)
+    → HasMade a b count → GrowsBy b c (read_call r ∷ []) → r ≡ Err e
     → error_kind e ≢ Interrupted → HasReadFailed a c
-read_failed r e h tells is kind = inl (made_last IsReadFailure (read_told r) h tells (rw is kind))
+read_failed r e h tells is kind = inl (made_last IsReadFailure (read_call r) h tells (rw is kind))
 
-pub write_empty : {a b c : Option (List WriteTold)} {count : ℕ} (bytes : List ℕ) (r : Result ℕ Error) (n : ℕ)
+pub write_empty : {a b c : Option (List WriteCall)} {count : ℕ} (bytes : List ℕ) (r : Result ℕ Error) (n : ℕ)
     → HasMade a b count
-    → GrowsBy b c (write_told bytes r ∷ []) → r ≡ Ok n → n ≡ 0 → 1 ≤ length bytes → HasWriteFailed a c
+    → GrowsBy b c (write_call bytes r ∷ []) → r ≡ Ok n → n ≡ 0 → 1 ≤ length bytes → HasWriteFailed a c
 write_empty bytes r n h tells is none some = inl
-    (made_last IsWriteFailure (write_told bytes r) h tells (rw is (some, none)))
+    (made_last IsWriteFailure (write_call bytes r) h tells (rw is (some, none)))
 
-pub write_failed : {a b c : Option (List WriteTold)} {count : ℕ} (bytes : List ℕ) (r : Result ℕ Error)
+pub write_failed : {a b c : Option (List WriteCall)} {count : ℕ} (bytes : List ℕ) (r : Result ℕ Error)
     (e : Error) → HasMade a b count
-    → GrowsBy b c (write_told bytes r ∷ []) → r ≡ Err e → error_kind e ≢ Interrupted → HasWriteFailed a c
+    → GrowsBy b c (write_call bytes r ∷ []) → r ≡ Err e → error_kind e ≢ Interrupted → HasWriteFailed a c
 write_failed bytes r e h tells is kind = inl
-    (made_last IsWriteFailure (write_told bytes r) h tells (rw is kind))
+    (made_last IsWriteFailure (write_call bytes r) h tells (rw is kind))
 
 -- a write that asks to be made again
-pub write_again : {a b c : Option (List WriteTold)} {count : ℕ} (bytes : List ℕ) (r : Result ℕ Error)
-    (e : Error) → HasMadeOnly IsInterrupted a b count → GrowsBy b c (write_told bytes r ∷ []) → r ≡ Err e
+pub write_again : {a b c : Option (List WriteCall)} {count : ℕ} (bytes : List ℕ) (r : Result ℕ Error)
+    (e : Error) → HasMadeOnly IsInterrupted a b count → GrowsBy b c (write_call bytes r ∷ []) → r ≡ Err e
     → error_kind e ≡ Interrupted → HasMadeOnly IsInterrupted a c (count + 1)
-write_again bytes r e h tells is kind = only_one IsInterrupted (write_told bytes r) _ h tells (rw is kind) refl
+write_again bytes r e h tells is kind = only_one IsInterrupted (write_call bytes r) _ h tells (rw is kind) refl
 
 -- a write that took some
-pub write_done : {a b c : Option (List WriteTold)} {count : ℕ} (bytes : List ℕ) (r : Result ℕ Error)
-    → HasMade a b count → GrowsBy b c (write_told bytes r ∷ []) → HasMore a c
+pub write_done : {a b c : Option (List WriteCall)} {count : ℕ} (bytes : List ℕ) (r : Result ℕ Error)
+    → HasMade a b count → GrowsBy b c (write_call bytes r ∷ []) → HasMore a c
 write_done {a = a} {b = b} {c = c} bytes r h tells = record {
-  calls = h.calls ++ write_told bytes r ∷ [];
-  made = adds-more a b c h.calls (write_told bytes r ∷ []) h.made tells;
+  calls = h.calls ++ write_call bytes r ∷ [];
+  made = adds-more a b c h.calls (write_call bytes r ∷ []) h.made tells;
 }
 
-pub flush_failed : {A : Type 0} {a b c : Option (List WriteTold)} (r : Result A Error) (e : Error)
-    → HasMore a b → GrowsBy b c (flush_told r ∷ []) → r ≡ Err e
+pub flush_failed : {A : Type 0} {a b c : Option (List WriteCall)} (r : Result A Error) (e : Error)
+    → HasMore a b → GrowsBy b c (flush_call r ∷ []) → r ≡ Err e
     → HasWriteFailed a c
 flush_failed r e h tells is = inl
-    (more_last IsWriteFailure h (record { earlier = []; last = flush_told r; made = tells; is = rw is tt }))
+    (more_last IsWriteFailure h (record { earlier = []; last = flush_call r; made = tells; is = rw is tt }))
 
-pub flush_done : {A : Type 0} {a b c : Option (List WriteTold)} (r : Result A Error) (x : A)
-    → HasMore a b → GrowsBy b c (flush_told r ∷ []) → r ≡ Ok x
+pub flush_done : {A : Type 0} {a b c : Option (List WriteCall)} (r : Result A Error) (x : A)
+    → HasMore a b → GrowsBy b c (flush_call r ∷ []) → r ≡ Ok x
     → EndsWith IsFlush a c
 flush_done r x h tells is = more_last IsFlush h
-    (record { earlier = []; last = flush_told r; made = tells; is = rw is tt })
+    (record { earlier = []; last = flush_call r; made = tells; is = rw is tt })

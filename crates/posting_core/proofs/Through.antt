@@ -4,29 +4,29 @@ use Rattle.posting_core.specs.declared.stream.StreamFault.{StreamFault}
 use Rattle.posting_core.specs.declared.stream.StreamFault.TheVariants.{Truncated, Read, Write, Bank}
 use Rattle.posting_rules.specs.{believed.Commands.Command, believed.Counter.Seen}
 use Rattle.posting_core.specs.{Batches.BreaksOff, Stream.StreamFaultIsOfItsEnd, Stream.TellsBreak}
-use Rattle.posting_core.specs.believed.Told.{ReadTold, EndsWith}
-use Rattle.posting_core.specs.Told.{WriteTold, HasMore, IsFlush, IsThrough, IsWriteFailure}
+use Rattle.posting_core.specs.believed.EndCalls.{ReadCall, EndsWith}
+use Rattle.posting_core.specs.EndCalls.{WriteCall, HasMore, IsFlush, IsThrough, IsWriteFailure}
 use Rattle.posting_core.proofs.Telling.{adds-none, last_some, more_failed, more_last}
 
-pub through_first : (w : Option (List WriteTold)) → IsThrough w w
+pub through_first : (w : Option (List WriteCall)) → IsThrough w w
 through_first w = inl (adds-none w)
 
-pub through_more : {w w' : Option (List WriteTold)} → IsThrough w w' → HasMore w w'
+pub through_more : {w w' : Option (List WriteCall)} → IsThrough w w' → HasMore w w'
 through_more (inl none) = record { calls = _; made = none }
 through_more (inr flushed) = last_some IsFlush flushed
 
 -- a batch more was written and flushed
-pub through_batch : {w w' w'' : Option (List WriteTold)} → IsThrough w w' → EndsWith IsFlush w' w''
+pub through_batch : {w w' w'' : Option (List WriteCall)} → IsThrough w w' → EndsWith IsFlush w' w''
     → IsThrough w w''
 through_batch h flushed = inr (more_last IsFlush (through_more h) flushed)
 
 -- a batch broke off
-pub ends_broken : (r r' : Option (List ReadTold)) (w w' w'' : Option (List WriteTold))
+pub ends_broken : (r r' : Option (List ReadCall)) (w w' w'' : Option (List WriteCall))
     (k k' : Option (List ℕ)) (c c' : Seen) (cs : List Command) (fault : StreamFault)
     → IsThrough w w' → BreaksOff fault k k' c c' cs → TellsBreak fault w' w''
     → StreamFaultIsOfItsEnd (Err fault) r r' w w''
 ends_broken r r' w w' w'' k k' c c' cs Write h a failed = more_failed IsWriteFailure (through_more h) failed
 ends_broken r r' w w' w'' k k' c c' cs (Bank fault) h a same =
-    subst (λ (t : Option (List WriteTold)). IsThrough w t) (sym same) h
+    subst (λ (t : Option (List WriteCall)). IsThrough w t) (sym same) h
 ends_broken r r' w w' w'' k k' c c' cs Read h a told = absurd a
 ends_broken r r' w w' w'' k k' c c' cs (Truncated n) h a told = absurd a

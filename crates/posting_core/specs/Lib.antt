@@ -2,7 +2,7 @@ pub mod believed
 pub mod Faults
 pub mod Plain
 pub mod Appended
-pub mod Told
+pub mod EndCalls
 pub mod Once
 pub mod Clock
 pub mod Batches

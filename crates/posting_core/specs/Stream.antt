@@ -13,10 +13,10 @@ use Rattle.posting_rules.specs.believed.Commands.{Command}
 use Rattle.posting_rules.specs.believed.Counter.{Seen, ShowsLog, LeavesOnly, StandsAt, ShowsPrefix}
 use Rattle.posting_rules.specs.Counter.{HasRefused}
 use Rattle.posting_rules.specs.believed.Runs.{followed_by, posts, replies_to, ArePosts}
-use Rattle.posting_core.specs.believed.Told.{ReadTold, Gave, Failed, GrowsBy, EndsWith}
-use Rattle.posting_core.specs.Told.{WriteTold, HasReadFailed}
-use Rattle.posting_core.specs.believed.Told.{IsEndOfInput}
-use Rattle.posting_core.specs.Told.{Beside, HasWriteFailed, HoldsFlushed, IsThrough, unknown}
+use Rattle.posting_core.specs.believed.EndCalls.{ReadCall, Gave, Failed, GrowsBy, EndsWith}
+use Rattle.posting_core.specs.EndCalls.{WriteCall, HasReadFailed}
+use Rattle.posting_core.specs.believed.EndCalls.{IsEndOfInput}
+use Rattle.posting_core.specs.EndCalls.{Beside, HasWriteFailed, HoldsFlushed, IsThrough, unknown}
 use Rattle.posting_core.specs.believed.Batches.{Batch, joined, records_of}
 use Rattle.posting_rules.specs.believed.Entries.{reply}
 use Rattle.posting_rules.specs.Resends.{Place, Skips}
@@ -26,13 +26,13 @@ use Rattle.posting_core.specs.believed.Stream.{posted_records, whole_records}
 -- ---- which records go together: q and q' are what the source's reads are known to have returned
 
 -- how many bytes reads gave
-abbrev pub given : List ReadTold → ℕ
+abbrev pub given : List ReadCall → ℕ
 given [] = 0
 given (Gave n ∷ reads) = n + given reads
 given (Failed kind ∷ reads) = given reads
 
 -- how many whole records the first n reads gave
-abbrev pub read_by : ℕ → List ReadTold → ℕ
+abbrev pub read_by : ℕ → List ReadCall → ℕ
 read_by n reads = given (take n reads) / REQUEST_BYTES
 
 -- how many records the first m batches have
@@ -40,8 +40,8 @@ abbrev pub submitted_by : ℕ → List Batch → ℕ
 submitted_by m batches = length (records_of (take m batches))
 
 -- all whole records that a read completed are submitted together, before the next read
-pub record FollowReads (q q' : Option (List ReadTold)) (batches : List Batch) : Type 0 where
-  pub reads : List ReadTold
+pub record FollowReads (q q' : Option (List ReadCall)) (batches : List Batch) : Type 0 where
+  pub reads : List ReadCall
   pub made : GrowsBy q q' reads
   -- wherever a batch ends, it and those before it have the whole records of the reads so far
   pub together : (m : ℕ) → (n : ℕ) × (submitted_by m batches ≡ read_by n reads)
@@ -51,8 +51,8 @@ pub record FollowReads (q q' : Option (List ReadTold)) (batches : List Batch) : 
 -- as each read was made, the replies to all whole records that the reads before it gave were written and
 -- flushed: b and b' are the sinks that reads are known to have been made beside, t what the calls of this one had
 -- returned at first
-pub record RepliesBeforeReads (b b' : Option (List Beside)) (w : Option (List ℕ)) (t : Option (List WriteTold))
-    (reads : List ReadTold) (written : List ℕ) : Type 0 where
+pub record RepliesBeforeReads (b b' : Option (List Beside)) (w : Option (List ℕ)) (t : Option (List WriteCall))
+    (reads : List ReadCall) (written : List ℕ) : Type 0 where
   pub sinks : List Beside
   pub made : GrowsBy b b' sinks
   pub each : length sinks ≡ length reads
@@ -60,8 +60,8 @@ pub record RepliesBeforeReads (b b' : Option (List Beside)) (w : Option (List �
       → HoldsFlushed w t written (REPLY_BYTES * read_by n reads) (get_or sinks n unknown)
 
 -- what a call did; its batches follow its reads, and no reply waits for the next read
-pub record StreamsAsRead (r r' : Option (List ℕ)) (q q' : Option (List ReadTold)) (b b' : Option (List Beside))
-    (w w' : Option (List ℕ)) (t : Option (List WriteTold)) (k k' : Option (List ℕ)) (c c' : Seen)
+pub record StreamsAsRead (r r' : Option (List ℕ)) (q q' : Option (List ReadCall)) (b b' : Option (List Beside))
+    (w w' : Option (List ℕ)) (t : Option (List WriteCall)) (k k' : Option (List ℕ)) (c c' : Seen)
     (result : Result ℕ StreamFault) : Type 0 where
   pub did : Streamed r r' w w' k k' c c' result
   pub follow : FollowReads q q' (did.taken ++ did.refused)
@@ -81,8 +81,8 @@ WritesReplies _ w w' text = Appends w w' text
 
 -- a fault of an end comes where that end failed; all that was written was flushed, wherever the sink didn't
 -- fail
-abbrev pub StreamFaultIsOfItsEnd : Result ℕ StreamFault → Option (List ReadTold) → Option (List ReadTold)
-    → Option (List WriteTold) → Option (List WriteTold) → Type 0
+abbrev pub StreamFaultIsOfItsEnd : Result ℕ StreamFault → Option (List ReadCall) → Option (List ReadCall)
+    → Option (List WriteCall) → Option (List WriteCall) → Type 0
 StreamFaultIsOfItsEnd (Ok count) r r' w w' = EndsWith IsEndOfInput r r' × IsThrough w w'
 StreamFaultIsOfItsEnd (Err (Truncated n)) r r' w w' = EndsWith IsEndOfInput r r' × IsThrough w w'
 StreamFaultIsOfItsEnd (Err Read) r r' w w' = HasReadFailed r r' × IsThrough w w'
@@ -90,7 +90,7 @@ StreamFaultIsOfItsEnd (Err Write) r r' w w' = HasWriteFailed w w'
 StreamFaultIsOfItsEnd (Err (Bank fault)) r r' w w' = IsThrough w w'
 
 -- where a batch broke off, its write failed, or nothing was written
-abbrev pub TellsBreak : StreamFault → Option (List WriteTold) → Option (List WriteTold) → Type 0
+abbrev pub TellsBreak : StreamFault → Option (List WriteCall) → Option (List WriteCall) → Type 0
 TellsBreak Write w w' = HasWriteFailed w w'
 TellsBreak _ w w' = w' ≡ w
 
@@ -127,8 +127,8 @@ pub record Resends (c c' : Seen) (commands : List Command) (written : List ℕ) 
 -- ---- all that a call did to its reader, its writer, its clock and its bank
 
 -- t and t' are what the sink's calls are known to have returned
-pub record Streams {C : Type 0} (r r' : Option (List ℕ)) (q q' : Option (List ReadTold)) (b b' : Option (List Beside))
-    (w w' : Option (List ℕ)) (t t' : Option (List WriteTold)) (k k' : Option (List ℕ)) (seen : C → Seen)
+pub record Streams {C : Type 0} (r r' : Option (List ℕ)) (q q' : Option (List ReadCall)) (b b' : Option (List Beside))
+    (w w' : Option (List ℕ)) (t t' : Option (List WriteCall)) (k k' : Option (List ℕ)) (seen : C → Seen)
     (reason : Fault → C → C → Type 0) (old new : C) (result : Result ℕ StreamFault) : Type 0 where
   -- what was read and written, and the posts of the whole records that were read
   pub bytes : List ℕ

@@ -1,4 +1,4 @@
-pub mod Told
+pub mod EndCalls
 pub mod Clock
 pub mod Batches
 pub mod Stream

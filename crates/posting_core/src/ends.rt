@@ -3,8 +3,8 @@
 ghost use Rattle.std.specs.Prelude.{ℕ, List, [], ◌∷◌, Option, None};
 ghost use Rattle.std.specs.Io.{ReadsAtMost, WritesAtMost};
 ghost use Rattle.std.specs.Io.KnownBytes.{Keeps, ReadConsumes, WriteAppends};
-ghost use Rattle.posting_core.specs.believed.Told.{GrowsBy, ReadTold};
-ghost use Rattle.posting_core.specs.Told.{Beside, WriteTold, read_told, write_told, flush_told};
+ghost use Rattle.posting_core.specs.believed.EndCalls.{GrowsBy, ReadCall};
+ghost use Rattle.posting_core.specs.EndCalls.{Beside, WriteCall, read_call, write_call, flush_call};
 
 use std::io;
 use std::io::{Read, Write};
@@ -16,7 +16,7 @@ pub trait Source {
     ghost remaining: { Self → Option (List ℕ) } = { λ _. None };
 
     /// What each read returned so far, where it is known.
-    ghost told: { Self → Option (List ReadTold) } = { λ _. None };
+    ghost calls: { Self → Option (List ReadCall) } = { λ _. None };
 
     /// What a sink held at each read that was made beside it so far, where it is known.
     ghost beside: { Self → Option (List Beside) } = { λ _. None };
@@ -25,16 +25,16 @@ pub trait Source {
     fn give(&mut self, buffer: &mut [u8]) -> io::Result<usize>
         ensures bound { ReadsAtMost result buffer.new }
         ensures bytes { ReadConsumes (remaining self.old) (remaining self.new) result buffer.new }
-        ensures tells { GrowsBy (told self.old) (told self.new) (read_told result ∷ []) };
+        ensures tells { GrowsBy (calls self.old) (calls self.new) (read_call result ∷ []) };
 
     /// One read into the buffer, as [`Source::give`], made beside a sink. So a stream says what it has written as
     /// it reads.
     fn give_beside<W: Sink>(&mut self, buffer: &mut [u8], sink: &W) -> io::Result<usize>
         ensures bound { ReadsAtMost result buffer.new }
         ensures bytes { ReadConsumes (remaining self.old) (remaining self.new) result buffer.new }
-        ensures tells { GrowsBy (told self.old) (told self.new) (read_told result ∷ []) }
+        ensures tells { GrowsBy (calls self.old) (calls self.new) (read_call result ∷ []) }
         ensures beside { GrowsBy (beside self.old) (beside self.new)
-            (record { contents = W.contents sink.now; told = W.told sink.now } ∷ []) };
+            (record { contents = W.contents sink.now; told = W.calls sink.now } ∷ []) };
 }
 
 /// What takes bytes. Every writer does. A type of its own may also know what its writes and flushes returned.
@@ -43,18 +43,18 @@ pub trait Sink {
     ghost contents: { Self → Option (List ℕ) } = { λ _. None };
 
     /// What each write and flush returned so far, where it is known.
-    ghost told: { Self → Option (List WriteTold) } = { λ _. None };
+    ghost calls: { Self → Option (List WriteCall) } = { λ _. None };
 
     /// One write of bytes at the front of these. It answers how many it took.
     fn take(&mut self, bytes: &[u8]) -> io::Result<usize>
         ensures bound { WritesAtMost result bytes.now }
         ensures bytes { WriteAppends (contents self.old) (contents self.new) result bytes.now }
-        ensures tells { GrowsBy (told self.old) (told self.new) (write_told bytes.now result ∷ []) };
+        ensures tells { GrowsBy (calls self.old) (calls self.new) (write_call bytes.now result ∷ []) };
 
     /// Sends on what was taken.
     fn send_on(&mut self) -> io::Result<()>
         ensures bytes { Keeps (contents self.old) (contents self.new) }
-        ensures tells { GrowsBy (told self.old) (told self.new) (flush_told result ∷ []) };
+        ensures tells { GrowsBy (calls self.old) (calls self.new) (flush_call result ∷ []) };
 }
 
 impl<R: Read> Source for R {

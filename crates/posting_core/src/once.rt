@@ -3,8 +3,8 @@ ghost use Rattle.std.specs.Prelude.{OnOk, IfErr};
 ghost use Rattle.std.specs.Result.{IsErrOf};
 ghost use Rattle.posting_core.specs.Once.{RecordIsAnswered, LeavesAfterFault, IfRefused};
 ghost use Rattle.posting_core.specs.Sparing.{IsSpared};
-ghost use Rattle.posting_core.specs.believed.Told.{EndsWith, IsEndOfInput};
-ghost use Rattle.posting_core.specs.Told.{HasReadFailed, HasWriteFailed, IsFlush};
+ghost use Rattle.posting_core.specs.believed.EndCalls.{EndsWith, IsEndOfInput};
+ghost use Rattle.posting_core.specs.EndCalls.{HasReadFailed, HasWriteFailed, IsFlush};
 
 use crate::ends::{Sink, Source};
 use crate::transfer::{read_full, write_out};
@@ -71,11 +71,11 @@ pub fn answer_once<R: Source, W: Sink, C: Counter>(
         (C.seen bank.old) (C.seen bank.new) moment) }
     ensures why { IfErr result (λ fault. IfRefused fault (λ told. C.reason told bank.old bank.new)) }
     ensures ended { IsErrOf result OnceFault.Short
-        → EndsWith IsEndOfInput (R.told reader.old) (R.told reader.new) }
-    ensures unread { IsErrOf result OnceFault.Read → HasReadFailed (R.told reader.old) (R.told reader.new) }
+        → EndsWith IsEndOfInput (R.calls reader.old) (R.calls reader.new) }
+    ensures unread { IsErrOf result OnceFault.Read → HasReadFailed (R.calls reader.old) (R.calls reader.new) }
     ensures unwritten { IsErrOf result OnceFault.Write
-        → HasWriteFailed (W.told writer.old) (W.told writer.new) }
-    ensures flushed { OnOk result (EndsWith IsFlush (W.told writer.old) (W.told writer.new)) }
+        → HasWriteFailed (W.calls writer.old) (W.calls writer.new) }
+    ensures flushed { OnOk result (EndsWith IsFlush (W.calls writer.old) (W.calls writer.new)) }
     ensures spared { IsSpared C.seen C.spares bank.old bank.new }
 {
     let mut record = [0u8; REQUEST_BYTES];

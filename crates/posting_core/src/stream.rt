@@ -6,8 +6,8 @@ ghost use Rattle.posting_rules.specs.believed.Runs.{posts};
 ghost use Rattle.posting_core.specs.Batches.{BatchIsAnswered, BreaksOff};
 ghost use Rattle.posting_core.specs.Stream.{IfTaken, Streams, TellsBreak};
 ghost use Rattle.posting_core.specs.believed.Stream.{IfBank};
-ghost use Rattle.posting_core.specs.believed.Told.{EndsWith};
-ghost use Rattle.posting_core.specs.Told.{IsFlush};
+ghost use Rattle.posting_core.specs.believed.EndCalls.{EndsWith};
+ghost use Rattle.posting_core.specs.EndCalls.{IsFlush};
 
 use crate::clock::Clock;
 use crate::ends::{Sink, Source};
@@ -72,8 +72,8 @@ fn reply_to_batch<W: Sink, K: Clock, C: Counter>(
         (posts moment records.now))
         (λ fault. BreaksOff fault (W.contents writer.old) (W.contents writer.new) (C.seen bank.old)
         (C.seen bank.new) (posts moment records.now)) }
-    ensures told { MatchResult result (λ _. EndsWith IsFlush (W.told writer.old) (W.told writer.new))
-        (λ fault. TellsBreak fault (W.told writer.old) (W.told writer.new)) }
+    ensures told { MatchResult result (λ _. EndsWith IsFlush (W.calls writer.old) (W.calls writer.new))
+        (λ fault. TellsBreak fault (W.calls writer.old) (W.calls writer.new)) }
     ensures up { IfTaken result ((C.seen bank.new).is_down → ⊥) }
     ensures why { IfErr result (λ fault. IfBank fault (λ told. C.reason told bank.old bank.new)) }
     ensures down { (C.seen bank.old).is_down → IsErrOf result (StreamFault.Bank Fault.Down)
@@ -112,9 +112,9 @@ pub fn post_stream<R: Source, W: Sink, K: Clock, C: Counter>(
     clock: &mut K,
     bank: &mut C,
 ) -> Result<Count, StreamFault>
-    ensures streams { Streams (R.remaining reader.old) (R.remaining reader.new) (R.told reader.old)
-        (R.told reader.new) (R.beside reader.old) (R.beside reader.new) (W.contents writer.old)
-        (W.contents writer.new) (W.told writer.old) (W.told writer.new) (K.readings clock.old)
+    ensures streams { Streams (R.remaining reader.old) (R.remaining reader.new) (R.calls reader.old)
+        (R.calls reader.new) (R.beside reader.old) (R.beside reader.new) (W.contents writer.old)
+        (W.contents writer.new) (W.calls writer.old) (W.calls writer.new) (K.readings clock.old)
         (K.readings clock.new) C.seen C.reason bank.old bank.new result }
     ensures spares { C.spares bank.old bank.new }
 {

@@ -21,7 +21,7 @@
 //! asks once for each batch.
 ghost use Rattle.std.specs.Prelude.{◌≡◌, ℕ, List, [], ◌∷◌, Option, None};
 ghost use Rattle.posting_core.specs.Clock.{IsReading};
-ghost use Rattle.posting_core.specs.believed.Told.{GrowsBy};
+ghost use Rattle.posting_core.specs.believed.EndCalls.{GrowsBy};
 ghost use Rattle.posting_core.specs.Readings.{Reading, moment_at, reading_of, source_of};
 
 use crate::clock::Clock;
@@ -34,7 +34,7 @@ use std::time::{SystemTime, UNIX_EPOCH};
 /// readings gave.
 pub trait TimeTeller {
     /// What each reading gave so far, if that is known.
-    ghost told: { Self → Option (List Reading) } = { λ _. None };
+    ghost calls: { Self → Option (List Reading) } = { λ _. None };
 
     /// Reads the time once.
     ///
@@ -42,7 +42,7 @@ pub trait TimeTeller {
     ///
     /// Those of the system. A later reading may succeed.
     fn tell(&mut self) -> io::Result<SystemTime>
-        ensures { GrowsBy (told self.old) (told self.new) (reading_of result ∷ []) };
+        ensures { GrowsBy (calls self.old) (calls self.new) (reading_of result ∷ []) };
 }
 
 impl<T: TimeSource> TimeTeller for T {
@@ -72,7 +72,7 @@ impl<T: TimeTeller> Clock for SystemClock<T> {
     fn now(&mut self) -> Moment
         ensures reading { IsReading None None result }
         ensures told { (reading : Reading) × (result ≡ moment_at reading)
-            × GrowsBy (T.told (source_of self.old)) (T.told (source_of self.new)) (reading ∷ []) }
+            × GrowsBy (T.calls (source_of self.old)) (T.calls (source_of self.new)) (reading ∷ []) }
     {
         moment_of(self.source.tell())
     }

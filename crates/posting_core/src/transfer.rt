@@ -2,10 +2,10 @@
 ghost use Rattle.std.specs.Prelude.{◌≡◌, ◌≤◌, ◌<◌, ◌+◌, ◌-◌, ◌++◌, ◌∷◌, [], ℕ, List, IfOk, OnOk, OnErr, length};
 ghost use Rattle.std.specs.Prelude.{take, drop};
 ghost use Rattle.std.specs.Io.KnownBytes.{Keeps, Appends, Consumes, IsAtEnd};
-ghost use Rattle.posting_core.specs.believed.Told.{GrowsBy, EndsWith};
-ghost use Rattle.posting_core.specs.Told.{HasMore, HasReadFailed, HasWriteFailed};
-ghost use Rattle.posting_core.specs.believed.Told.{IsEndOfInput};
-ghost use Rattle.posting_core.specs.Told.{IsFlush, read_told};
+ghost use Rattle.posting_core.specs.believed.EndCalls.{GrowsBy, EndsWith};
+ghost use Rattle.posting_core.specs.EndCalls.{HasMore, HasReadFailed, HasWriteFailed};
+ghost use Rattle.posting_core.specs.believed.EndCalls.{IsEndOfInput};
+ghost use Rattle.posting_core.specs.EndCalls.{IsFlush, read_call};
 
 use crate::ends::{Sink, Source};
 use std::io::ErrorKind;
@@ -53,7 +53,7 @@ pub fn fill_buffer<R: Source>(reader: &mut R, buffer: &mut [u8], filled: usize) 
     ensures end { IfOk result (λ n. n ≡ 0 → IsAtEnd (R.remaining reader.new)) }
     ensures err { OnErr result (Keeps (R.remaining reader.old) (R.remaining reader.new)
         × (take filled buffer.new ≡ take filled buffer.old)) }
-    ensures tells { GrowsBy (R.told reader.old) (R.told reader.new) (read_told result ∷ []) }
+    ensures tells { GrowsBy (R.calls reader.old) (R.calls reader.new) (read_call result ∷ []) }
 {
     reader.give(&mut buffer[filled..])
 }
@@ -73,9 +73,9 @@ pub fn fill_buffer_beside<R: Source, W: Sink>(
     ensures end { IfOk result (λ n. n ≡ 0 → IsAtEnd (R.remaining reader.new)) }
     ensures err { OnErr result (Keeps (R.remaining reader.old) (R.remaining reader.new)
         × (take filled buffer.new ≡ take filled buffer.old)) }
-    ensures tells { GrowsBy (R.told reader.old) (R.told reader.new) (read_told result ∷ []) }
+    ensures tells { GrowsBy (R.calls reader.old) (R.calls reader.new) (read_call result ∷ []) }
     ensures beside { GrowsBy (R.beside reader.old) (R.beside reader.new)
-        (record { contents = W.contents sink.now; told = W.told sink.now } ∷ []) }
+        (record { contents = W.contents sink.now; told = W.calls sink.now } ∷ []) }
 {
     reader.give_beside(&mut buffer[filled..], sink)
 }
@@ -97,8 +97,8 @@ pub fn read_full<R: Source>(reader: &mut R, buffer: &mut [u8]) -> Result<usize, 
         (λ n. Consumes (R.remaining reader.old) (R.remaining reader.new) (take n buffer.new)) }
     ensures end { IfOk result (λ n. n < length buffer.new → IsAtEnd (R.remaining reader.new)) }
     ensures ended { IfOk result (λ n. n < length buffer.new
-        → EndsWith IsEndOfInput (R.told reader.old) (R.told reader.new)) }
-    ensures failed { OnErr result (HasReadFailed (R.told reader.old) (R.told reader.new)) }
+        → EndsWith IsEndOfInput (R.calls reader.old) (R.calls reader.new)) }
+    ensures failed { OnErr result (HasReadFailed (R.calls reader.old) (R.calls reader.new)) }
 {
     let mut filled = 0;
     'reads: for _ in 0..u64::MAX {
@@ -121,8 +121,8 @@ pub fn write_out<W: Sink>(writer: &mut W, bytes: &[u8]) -> Result<(), WriteFaile
     ensures written { (n : ℕ) × (n ≤ length bytes.now)
         × Appends (W.contents writer.old) (W.contents writer.new) (take n bytes.now)
         × OnOk result (n ≡ length bytes.now) }
-    ensures flushed { OnOk result (EndsWith IsFlush (W.told writer.old) (W.told writer.new)) }
-    ensures failed { OnErr result (HasWriteFailed (W.told writer.old) (W.told writer.new)) }
+    ensures flushed { OnOk result (EndsWith IsFlush (W.calls writer.old) (W.calls writer.new)) }
+    ensures failed { OnErr result (HasWriteFailed (W.calls writer.old) (W.calls writer.new)) }
 {
     write_each(writer, bytes)?;
     match writer.send_on() {
@@ -136,8 +136,8 @@ pub fn write_each<W: Sink>(writer: &mut W, bytes: &[u8]) -> Result<(), WriteFail
     ensures written { (n : ℕ) × (n ≤ length bytes.now)
         × Appends (W.contents writer.old) (W.contents writer.new) (take n bytes.now)
         × OnOk result (n ≡ length bytes.now) }
-    ensures more { OnOk result (HasMore (W.told writer.old) (W.told writer.new)) }
-    ensures failed { OnErr result (HasWriteFailed (W.told writer.old) (W.told writer.new)) }
+    ensures more { OnOk result (HasMore (W.calls writer.old) (W.calls writer.new)) }
+    ensures failed { OnErr result (HasWriteFailed (W.calls writer.old) (W.calls writer.new)) }
 {
     let mut done = 0;
     'writes: while done < bytes.len() {
@@ -152,8 +152,8 @@ fn write_some<W: Sink>(writer: &mut W, bytes: &[u8]) -> Result<usize, WriteFaile
     ensures some { IfOk result (λ n. (1 ≤ n) × (n ≤ length bytes.now)
         × Appends (W.contents writer.old) (W.contents writer.new) (take n bytes.now)) }
     ensures stays { OnErr result (Keeps (W.contents writer.old) (W.contents writer.new)) }
-    ensures more { OnOk result (HasMore (W.told writer.old) (W.told writer.new)) }
-    ensures failed { OnErr result (HasWriteFailed (W.told writer.old) (W.told writer.new)) }
+    ensures more { OnOk result (HasMore (W.calls writer.old) (W.calls writer.new)) }
+    ensures failed { OnErr result (HasWriteFailed (W.calls writer.old) (W.calls writer.new)) }
 {
     'writes: for _ in 0..u64::MAX {
         match writer.take(bytes) {

@@ -1,7 +1,7 @@
 use Rattle.std.proofs.Common.{◌≡◌, ◌≤◌, ◌+◌, ◌∙◌, [], ◌∷◌, inl, inr, refl, arith, length, take}
 use Rattle.std.proofs.lemmas.{List.length-take-le, Result.err_from_is_err_and}
 use Rattle.posting_core.specs.{declared.stream.TheConstants.BUFFER, believed.Batches.Batch, Stream.given}
-use Rattle.posting_core.specs.{Told.read_told}
+use Rattle.posting_core.specs.{EndCalls.read_call}
 use Rattle.posting_core.proofs.{Batched.cut_into, Batched.cut_and_moved, StreamedBatches.going_batch}
 use Rattle.posting_core.proofs.{Refused.refused_broken, Refused.up_broken, Output.streams_of, Through.ends_broken}
 use Rattle.posting_core.proofs.{Through.through_batch, Through.through_first}
@@ -139,7 +139,7 @@ returns-in_err-reply_to_batch g c =
     length-take-le c.match-fill_buffer_beside.filled c.fill_buffer_beside.new.buffer on.1 in
     let cut = cut_into (take c.match-fill_buffer_beside.filled c.fill_buffer_beside.new.buffer) c.as_chunks.result.0.now
     c.as_chunks.result.1.now c.as_chunks.ensures.front c.as_chunks.ensures.back in
-    let gave : c.reads.filled + given (read_told c.fill_buffer_beside.result ∷ []) ≡ c.match-fill_buffer_beside.filled =
+    let gave : c.reads.filled + given (read_call c.fill_buffer_beside.result ∷ []) ≡ c.match-fill_buffer_beside.filled =
     elim c.match-fill_buffer_beside.branch [
       | in-Ok w ↦ omega (arith, gave_some c.fill_buffer_beside.result w.in-Ok.n w.in-Ok.is, w.filled-is)
       | in-Err w ↦ omega (arith, gave_none c.fill_buffer_beside.result w.in-Err.e w.in-Err.is, w.filled-is)
@@ -189,7 +189,7 @@ reads-preserved g c =
       | in-Ok w ↦ inl (w.in-Ok.n, w.in-Ok.ensures.ok, omega (arith, w.in-Ok.ensures.fits), w.filled-is)
       | in-Err w ↦ inr (w.in-Err.ensures.err, w.filled-is)
     ]) in
-    let gave : c.reads.filled + given (read_told c.fill_buffer_beside.result ∷ []) ≡ c.match-fill_buffer_beside.filled =
+    let gave : c.reads.filled + given (read_call c.fill_buffer_beside.result ∷ []) ≡ c.match-fill_buffer_beside.filled =
     elim c.match-fill_buffer_beside.branch [
       | in-Ok w ↦ omega (arith, gave_some c.fill_buffer_beside.result w.in-Ok.n w.in-Ok.is, w.filled-is)
       | in-Err w ↦ omega (arith, gave_none c.fill_buffer_beside.result w.in-Err.e w.in-Err.is, w.filled-is)

@@ -1,6 +1,6 @@
 use Rattle.std.proofs.Common.{◌≡◌, ◌<◌, ◌≤◌, ◌*◌, ℕ, List, length, take}
 use Rattle.posting_rules.specs.declared.limits.TheConstants.{RECORDS_PER_BATCH}
-use Rattle.posting_core.specs.{declared.stream.TheConstants.BUFFER, believed.Batches.Batch, Told.IsThrough}
+use Rattle.posting_core.specs.{declared.stream.TheConstants.BUFFER, believed.Batches.Batch, EndCalls.IsThrough}
 use Rattle.posting_core.proofs.{ReadsFollowed.Following, Telling.HasMade, Streaming.Going}
 use Rattle.posting_core.proofs.stream.post_stream.Given as goal
 
@@ -17,13 +17,13 @@ invariant-reads g l = record {
       (g.W.Sink.contents l.fn.writer) (g.W.Sink.contents l.writer)
       (g.K.Clock.readings l.fn.clock) (g.K.Clock.readings l.clock) (g.C.Counter.seen l.fn.bank)
       (g.C.Counter.seen l.bank) done (take l.filled l.buffer) l.count written;
-  following : Following (g.R.Source.told l.fn.reader) (g.R.Source.told l.reader)
+  following : Following (g.R.Source.calls l.fn.reader) (g.R.Source.calls l.reader)
       (g.R.Source.beside l.fn.reader) (g.R.Source.beside l.reader) (g.W.Sink.contents l.fn.writer)
-      (g.W.Sink.told l.fn.writer) done l.filled written;
+      (g.W.Sink.calls l.fn.writer) done l.filled written;
   first : l.count ≡ 0 → l.bank ≡ l.fn.bank;
   up : (g.C.Counter.seen l.bank).is_down → (g.C.Counter.seen l.fn.bank).is_down × (l.count ≡ 0);
   idle : (g.C.Counter.seen l.fn.bank).is_down → l.bank ≡ l.fn.bank;
   spares : g.C.Counter.spares l.fn.bank l.bank;
-  made : HasMade (g.R.Source.told l.fn.reader) (g.R.Source.told l.reader) l.counter;
-  through : IsThrough (g.W.Sink.told l.fn.writer) (g.W.Sink.told l.writer);
+  made : HasMade (g.R.Source.calls l.fn.reader) (g.R.Source.calls l.reader) l.counter;
+  through : IsThrough (g.W.Sink.calls l.fn.writer) (g.W.Sink.calls l.writer);
 }

@@ -8,5 +8,5 @@ abbrev pub invariant-reads : goal.invariant-reads
 invariant-reads g l = record {
   within : l.filled ≤ length l.buffer;
   read : Consumes (g.R.Source.remaining l.fn.reader) (g.R.Source.remaining l.reader) (take l.filled l.buffer);
-  made : HasMade (g.R.Source.told l.fn.reader) (g.R.Source.told l.reader) l.counter;
+  made : HasMade (g.R.Source.calls l.fn.reader) (g.R.Source.calls l.reader) l.counter;
 }

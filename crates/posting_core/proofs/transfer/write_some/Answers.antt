@@ -1,5 +1,5 @@
 use Rattle.std.proofs.{Common.inr, Common.arith, KnownBytes.Keeps-trans}
-use Rattle.posting_core.specs.Told.{IsInterrupted}
+use Rattle.posting_core.specs.EndCalls.{IsInterrupted}
 use Rattle.posting_core.proofs.Telling.{only_made, only_many, other_kind, same_kind, write_again, write_done}
 use Rattle.posting_core.proofs.Telling.{write_empty, write_failed}
 use Rattle.posting_core.proofs.transfer.write_some.Goals as goal

@@ -6,11 +6,11 @@ use Rattle.std.specs.declared.io.ErrorKind.{ErrorKind}
 
 -- ---- what a call returned
 
-pub data ReadTold : Type 0 where
+pub data ReadCall : Type 0 where
   -- it gave so many bytes
-  Gave : ℕ → ReadTold
+  Gave : ℕ → ReadCall
   -- it gave none, with an error of this kind
-  Failed : ErrorKind → ReadTold
+  Failed : ErrorKind → ReadCall
 
 -- ---- calls one after another
 
@@ -27,6 +27,6 @@ pub record EndsWith {A : Type 0} (P : A → Type 0) (old new : Option (List A)) 
   pub made : GrowsBy old new (earlier ++ last ∷ [])
   pub is : P last
 
-abbrev pub IsEndOfInput : ReadTold → Type 0
+abbrev pub IsEndOfInput : ReadCall → Type 0
 IsEndOfInput (Gave n) = n ≡ 0
 IsEndOfInput (Failed kind) = ⊥
