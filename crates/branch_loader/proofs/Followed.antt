@@ -11,7 +11,7 @@ use Rattle.posting_rules.specs.declared.fault.Fault.{Fault}
 use Rattle.posting_core.specs.Entries.{IsEntry, IsNoEntry, new_after, requests_of}
 use Rattle.posting_core.specs.believed.LogEntries.{AnsweredRequest, entries_of, entry_of, log_entries}
 use Rattle.posting_core.specs.{believed.Batches.joined, declared.entries.TheConstants.ENTRY_BYTES}
-use Rattle.posting_core.specs.believed.Told.{ReadTold}
+use Rattle.posting_core.specs.believed.EndCalls.{ReadCall}
 use Rattle.posting_core.proofs.Batched.{chunks_joined, joined-append}
 use Rattle.posting_core.proofs.Streaming.{nothing_read}
 use Rattle.posting_core.proofs.Stops.{refused_stop, stop_all, stop_part}
@@ -170,7 +170,7 @@ next_whole n [] text more all = all.0
 next_whole n (x ∷ xs) text more all = next_whole n xs text more all.1
 
 module _ {C : Type 0} (seen : C → Seen) (spares : C → C → Type 0) (reason : Fault → C → C → Type 0) (rows : Rows)
-    (r r' : Option (List ℕ)) (q q' : Option (List ReadTold)) (old new : C) (given : List AnsweredRequest)
+    (r r' : Option (List ℕ)) (q q' : Option (List ReadCall)) (old new : C) (given : List AnsweredRequest)
     (texts : List (List ℕ)) (bytes left : List ℕ) (before : ℕ) (w : Waiting) (looked : List Bool)
     (read : Consumes r r' (joined (entries_of given) ++ bytes)) (cut : bytes ≡ joined texts ++ left)
     (whole : AllByRecursion (λ t. length t ≡ 308) texts) (are : AllByRecursion IsEntry given)

@@ -3,40 +3,40 @@ use Rattle.std.proofs.Common.{◌≡◌, List, [], ◌∷◌, Option, Some, None
 use Rattle.std.proofs.Common.{subst, ◌∙◌, inl}
 use Rattle.std.specs.Prelude.{⊤, ℤ, if◌then◌else◌}
 use Rattle.csv.specs.declared.error.{Error.Error, ErrorKind.ErrorKind}
-use Rattle.posting_core.specs.{believed.Told.GrowsBy, believed.Told.EndsWith, Told.HasMore}
+use Rattle.posting_core.specs.{believed.EndCalls.GrowsBy, believed.EndCalls.EndsWith, EndCalls.HasMore}
 use Rattle.posting_core.proofs.Telling.{more_last}
 use Rattle.branch_loader.specs.{declared.fault.PlanFault.PlanFault, believed.Plans.Rows, believed.Plans.Row}
 use Rattle.branch_loader.specs.declared.fault.PlanFault.TheVariants.{Csv, Memory}
-use Rattle.branch_loader.specs.Records.{Fields, RecordTold, Found, Failed, WasRecord, WasFailure, record_told}
+use Rattle.branch_loader.specs.Records.{Fields, RecordCall, Found, Failed, WasRecord, WasFailure, record_call}
 use Rattle.branch_loader.specs.Plans.{IsToldSo, names, row_of, row_of_parts, row_of_fields, parts_of}
 
 -- what one call told is the last that was told
-last_told : (P : RecordTold → Type 0) (a b : Option (List RecordTold)) (r : Result Bool Error)
-    (t : RecordTold) → record_told r ≡ t → P t
-    → GrowsBy a b (record_told r ∷ []) → EndsWith P a b
+last_told : (P : RecordCall → Type 0) (a b : Option (List RecordCall)) (r : Result Bool Error)
+    (t : RecordCall) → record_call r ≡ t → P t
+    → GrowsBy a b (record_call r ∷ []) → EndsWith P a b
 last_told P a b r t is p tells = record {
   earlier = [];
   last = t;
-  made = subst (λ (x : RecordTold). GrowsBy a b (x ∷ [])) is tells;
+  made = subst (λ (x : RecordCall). GrowsBy a b (x ∷ [])) is tells;
   is = p;
 }
 
-pub found_last : {a b : Option (List RecordTold)} (r : Result Bool Error) (found : Bool) → r ≡ Ok found
-    → GrowsBy a b (record_told r ∷ []) → found ≡ true
+pub found_last : {a b : Option (List RecordCall)} (r : Result Bool Error) (found : Bool) → r ≡ Ok found
+    → GrowsBy a b (record_call r ∷ []) → found ≡ true
     → EndsWith WasRecord a b
 found_last {a = a} {b = b} r found is tells some = last_told WasRecord a b r (Found found)
-    (ap record_told is) some tells
+    (ap record_call is) some tells
 
-pub failed_last : (P : RecordTold → Type 0) {a b : Option (List RecordTold)} (r : Result Bool Error)
+pub failed_last : (P : RecordCall → Type 0) {a b : Option (List RecordCall)} (r : Result Bool Error)
     (e : Error) (k x : ErrorKind) → r ≡ Err e
-    → k ≡ e.kind → k ≡ x → P (Failed x) → GrowsBy a b (record_told r ∷ []) → EndsWith P a b
+    → k ≡ e.kind → k ≡ x → P (Failed x) → GrowsBy a b (record_call r ∷ []) → EndsWith P a b
 failed_last P {a = a} {b = b} r e k x is kind_is k_is p tells =
     let same : e.kind ≡ x = cc (kind_is, k_is) in
-    last_told P a b r (Failed x) (ap record_told is ∙ ap Failed same) p tells
+    last_told P a b r (Failed x) (ap record_call is ∙ ap Failed same) p tells
 
 -- ---- what explains a fault
 
-pub fault_told : (o a b : Option (List RecordTold)) (fault : PlanFault) → fault ≡ Memory
+pub fault_told : (o a b : Option (List RecordCall)) (fault : PlanFault) → fault ≡ Memory
     → EndsWith WasFailure a b → HasMore o a → IsToldSo (Err fault) o b
 fault_told o a b fault is failed before = rw is (inl (more_last WasFailure before failed))
 
@@ -63,7 +63,7 @@ unfolding IsOfRow
 parts_fault before None = tt
 parts_fault before (Some p) = row_fault before _ _ _
 
-not_of_row : (fault : PlanFault) (a b : Option (List RecordTold)) → IsOfRow (Err fault)
+not_of_row : (fault : PlanFault) (a b : Option (List RecordCall)) → IsOfRow (Err fault)
     → IsToldSo (Err fault) a b
 unfolding IsOfRow
 not_of_row Csv a b h = absurd h
@@ -71,7 +71,7 @@ not_of_row Memory a b h = absurd h
 not_of_row other a b h = tt
 
 pub row_told : (has_floors : Bool) (before : Rows) (fields : Fields) (fault : PlanFault)
-    (a b : Option (List RecordTold))
+    (a b : Option (List RecordCall))
     → row_of_fields has_floors before fields ≡ Err fault
     → IsToldSo (Err fault) a b
 row_told has_floors before fields fault a b is =
@@ -81,6 +81,6 @@ row_told has_floors before fields fault a b is =
 -- ---- a text that was read
 
 -- no answer from a text in memory is of its source
-pub not_csv : (result : Result Rows PlanFault) (a b : Option (List RecordTold)) → IsToldSo result a b
+pub not_csv : (result : Result Rows PlanFault) (a b : Option (List RecordCall)) → IsToldSo result a b
     → result ≡ Err Csv → ⊥
 not_csv result a b h is = rw is at h

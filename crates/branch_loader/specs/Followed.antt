@@ -8,9 +8,9 @@ use Rattle.posting_rules.specs.believed.Counter.{LeavesOnly, Seen, ShowsLog, Sho
 use Rattle.posting_rules.specs.declared.fault.Fault.{Fault}
 use Rattle.posting_core.specs.Entries.{IsEntry, IsNoEntry, new_after, requests_of}
 use Rattle.posting_core.specs.believed.LogEntries.{AnsweredRequest, entries_of, log_entries}
-use Rattle.posting_core.specs.Told.{HasReadFailed}
+use Rattle.posting_core.specs.EndCalls.{HasReadFailed}
 use Rattle.posting_core.specs.believed.Batches.{joined}
-use Rattle.posting_core.specs.believed.Told.{EndsWith, GrowsBy, IsEndOfInput, ReadTold}
+use Rattle.posting_core.specs.believed.EndCalls.{EndsWith, GrowsBy, IsEndOfInput, ReadCall}
 use Rattle.posting_core.specs.declared.entries.TheConstants.{ENTRY_BYTES}
 use Rattle.branch_loader.specs.Following.{HasDiffered, HasFollowed, IsRefusedFollowing}
 use Rattle.branch_loader.specs.believed.Plans.{Rows}
@@ -19,7 +19,7 @@ use Rattle.branch_loader.specs.declared.follow_fault.FollowFault.TheVariants.{Ba
 use Rattle.branch_loader.specs.declared.follow_fault.FollowFault.TheVariants.{Truncated}
 
 -- how it ended, where so many entries were followed and these bytes were read after them
-abbrev pub EndsFollowing : Result ℕ FollowFault → (r' : Option (List ℕ)) → (q q' : Option (List ReadTold)) → ℕ → List ℕ
+abbrev pub EndsFollowing : Result ℕ FollowFault → (r' : Option (List ℕ)) → (q q' : Option (List ReadCall)) → ℕ → List ℕ
     → Type 0
 EndsFollowing (Ok count) r' q q' followed rest =
     IsAtEnd r' × EndsWith IsEndOfInput q q' × (rest ≡ []) × (count ≡ followed)
@@ -64,7 +64,7 @@ LeavesFollowed seen spares reason rows old new entries (Err Memory) did = ⊤
 LeavesFollowed seen spares reason rows old new entries result did = LeavesTaken (seen old) (seen new) did.commands []
 
 pub record FollowsLog {C : Type 0} (seen : C → Seen) (spares : C → C → Type 0) (reason : Fault → C → C → Type 0)
-    (rows : Rows) (r r' : Option (List ℕ)) (q q' : Option (List ReadTold)) (old new : C) (result : Result ℕ FollowFault)
+    (rows : Rows) (r r' : Option (List ℕ)) (q q' : Option (List ReadCall)) (old new : C) (result : Result ℕ FollowFault)
     : Type 0 where
   -- entries were read, and bytes after them
   pub entries : List AnsweredRequest

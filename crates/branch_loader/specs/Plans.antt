@@ -12,9 +12,9 @@ use Rattle.posting_rules.specs.believed.Commands.{Command, Open, Terms, opened_w
 use Rattle.branch_loader.specs.declared.fault.PlanFault.{PlanFault}
 use Rattle.branch_loader.specs.declared.fault.PlanFault.TheVariants.{Header, Columns, Branch, Accounts, Floor}
 use Rattle.branch_loader.specs.declared.fault.PlanFault.TheVariants.{Twice, Csv, Memory}
-use Rattle.posting_core.specs.believed.Told.{EndsWith, IsEndOfInput, ReadTold}
-use Rattle.posting_core.specs.Told.{HasReadFailed}
-use Rattle.branch_loader.specs.Records.{Records, Fields, RecordTold, WasFailure, WasRecord}
+use Rattle.posting_core.specs.believed.EndCalls.{EndsWith, IsEndOfInput, ReadCall}
+use Rattle.posting_core.specs.EndCalls.{HasReadFailed}
+use Rattle.branch_loader.specs.Records.{Records, Fields, RecordCall, WasFailure, WasRecord}
 use Rattle.branch_loader.specs.believed.Plans.{Row, Rows}
 
 -- what its branch is to be opened with
@@ -164,7 +164,7 @@ TellsPlan stated answer = stated ≡ answer
 -- ---- what csv returned, where the answer is none of a plan
 
 -- Csv failed, or memory was refused after a record for the room of its row. Every other answer is stated.
-abbrev pub IsToldSo : Result Rows PlanFault → Option (List RecordTold) → Option (List RecordTold) → Type 0
+abbrev pub IsToldSo : Result Rows PlanFault → Option (List RecordCall) → Option (List RecordCall) → Type 0
 IsToldSo (Err Csv) old new = ⊥
 IsToldSo (Err Memory) old new = EndsWith WasFailure old new ⊎ EndsWith WasRecord old new
 IsToldSo answer old new = ⊤
@@ -173,14 +173,14 @@ IsToldSo answer old new = ⊤
 -- known to have returned q and q'
 
 -- the source failed, or memory was refused, or the source was read to its end
-abbrev pub IsReadSo : Result Rows PlanFault → Option (List ℕ) → Option (List ReadTold)
-    → Option (List ReadTold) → Type 0
+abbrev pub IsReadSo : Result Rows PlanFault → Option (List ℕ) → Option (List ReadCall)
+    → Option (List ReadCall) → Type 0
 IsReadSo (Err Csv) r' q q' = HasReadFailed q q'
 IsReadSo (Err Memory) r' q q' = ⊤
 IsReadSo answer r' q q' = IsAtEnd r' × EndsWith IsEndOfInput q q'
 
 -- a text was read, and the answer is the plan that it states
-pub record ReadsPlan (r r' : Option (List ℕ)) (q q' : Option (List ReadTold))
+pub record ReadsPlan (r r' : Option (List ℕ)) (q q' : Option (List ReadCall))
     (answer : Result Rows PlanFault) : Type 0 where
   pub text : List ℕ
   pub read : Consumes r r' text

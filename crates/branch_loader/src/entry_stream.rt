@@ -42,7 +42,7 @@ pub fn follow<R: Source, C: Counter, T: FollowWatch>(
     watch: &mut T,
 ) -> Result<Count, FollowFault>
     ensures { FollowsLog C.seen C.spares C.reason plan.now (R.remaining reader.old) (R.remaining reader.new)
-        (R.told reader.old) (R.told reader.new) bank.old bank.new result }
+        (R.calls reader.old) (R.calls reader.new) bank.old bank.new result }
 {
     let Ok(mut follower) = Follower::over(alloc, plan) else {
         return Err(FollowFault::Memory);

@@ -3,7 +3,7 @@ ghost use Rattle.std.specs.Prelude.{◌≡◌, ◌<◌, ◌≤◌, ◌+◌, ℕ,
 ghost use Rattle.std.specs.Prelude.{OnErr, OnOk};
 ghost use Rattle.message_records.specs.declared.limits.TheConstants.{MAX_BALANCE};
 ghost use Rattle.std.specs.Result.{IsErrOf};
-ghost use Rattle.posting_core.specs.believed.Told.{EndsWith};
+ghost use Rattle.posting_core.specs.believed.EndCalls.{EndsWith};
 ghost use Rattle.csv.specs.Records.{fields_of};
 ghost use Rattle.branch_loader.specs.Plans.{IsToldSo, ReadsPlan, TellsPlan, plan_of, plan_of_records};
 ghost use Rattle.branch_loader.specs.Plans.{amount_of, are_names, floor_of, header_of, number_within, parts_of};
@@ -158,9 +158,9 @@ pub fn next_record<S: RecordSource>(
     ensures takes { IfOk result (λ found. (rows : Records) → S.has_left source.old rows
         → TakesRecord found (fields_of fields.new) rows (S.has_left source.new)) }
     ensures found { IfOk result (λ found. found ≡ true
-        → EndsWith WasRecord (S.told source.old) (S.told source.new)) }
+        → EndsWith WasRecord (S.calls source.old) (S.calls source.new)) }
     ensures fault { IfErr result (λ fault. fault ≡ PlanFault.Memory) }
-    ensures failed { OnErr result (EndsWith WasFailure (S.told source.old) (S.told source.new)) }
+    ensures failed { OnErr result (EndsWith WasFailure (S.calls source.old) (S.calls source.new)) }
 {
     match source.next(fields) {
         Ok(found) => Ok(found),
@@ -179,7 +179,7 @@ fn read_rows<S: RecordSource>(
 ) -> Result<Plan, PlanFault>
     requires { S.is_plain records.old }
     ensures plan { (all : Records) → S.has_left records.old all → TellsPlan (plan_of_records all) result }
-    ensures told { IsToldSo result (S.told records.old) (S.told records.new) }
+    ensures told { IsToldSo result (S.calls records.old) (S.calls records.new) }
 {
     if !next_record(records, fields)? {
         return Err(PlanFault::Header);
@@ -216,7 +216,7 @@ fn plan_of_text(alloc: Global, text: &[u8]) -> Result<Plan, PlanFault>
 /// read of this call failed, or where 2^64 - 1 of them were made; an interrupted read is made again.
 pub fn read_plan<R: Source>(alloc: Global, reader: &mut R) -> Result<Plan, PlanFault>
     ensures { ReadsPlan (R.remaining reader.old) (R.remaining reader.new)
-        (R.told reader.old) (R.told reader.new) result }
+        (R.calls reader.old) (R.calls reader.new) result }
 {
     let text = read_text(alloc, reader)?;
     plan_of_text(alloc, &text)

@@ -2,8 +2,8 @@
 ghost use Rattle.std.specs.Prelude.{◌≡◌, true, List, [], ◌∷◌, Option, None, IfOk, IfErr, OnOk};
 ghost use Rattle.csv.specs.Reading.{error_kind, stops_reader};
 ghost use Rattle.csv.specs.Records.{fields_of};
-ghost use Rattle.posting_core.specs.believed.Told.{GrowsBy};
-ghost use Rattle.branch_loader.specs.Records.{Records, RecordTold, TakesRecord, record_told};
+ghost use Rattle.posting_core.specs.believed.EndCalls.{GrowsBy};
+ghost use Rattle.branch_loader.specs.Records.{Records, RecordCall, TakesRecord, record_call};
 
 use csv::{ByteRecord, Error, Reader};
 use std::io::Read;
@@ -17,7 +17,7 @@ pub trait RecordSource {
     ghost has_left: { Self → Records → Type 0 };
 
     /// What it returned so far, where that is known.
-    ghost told: { Self → Option (List RecordTold) } = { λ _. None };
+    ghost calls: { Self → Option (List RecordCall) } = { λ _. None };
 
     /// Takes the next record, if there is one. It fails where its source failed or memory was refused, and
     /// not otherwise.
@@ -27,7 +27,7 @@ pub trait RecordSource {
         ensures takes { IfOk result (λ found. (rows : Records) → has_left self.old rows
             → TakesRecord found (fields_of fields.new) rows (has_left self.new)) }
         ensures stops { IfErr result (λ e. stops_reader (error_kind e) ≡ true) }
-        ensures tells { GrowsBy (told self.old) (told self.new) (record_told result ∷ []) };
+        ensures tells { GrowsBy (calls self.old) (calls self.new) (record_call result ∷ []) };
 }
 
 impl<R: Read> RecordSource for Reader<R> {

@@ -1,8 +1,8 @@
 //! The text of a plan, or of another sheet of CSV.
 ghost use Rattle.std.specs.Prelude.{◌≡◌, ◌⊎◌, ℕ, List, IfErr, IfOk, OnOk};
 ghost use Rattle.std.specs.Io.KnownBytes.{Consumes, IsAtEnd};
-ghost use Rattle.posting_core.specs.believed.Told.{EndsWith, IsEndOfInput};
-ghost use Rattle.posting_core.specs.Told.{HasReadFailed};
+ghost use Rattle.posting_core.specs.believed.EndCalls.{EndsWith, IsEndOfInput};
+ghost use Rattle.posting_core.specs.EndCalls.{HasReadFailed};
 
 use crate::fault::PlanFault;
 use posting_core::Source;
@@ -18,9 +18,9 @@ pub fn read_text<R: Source>(alloc: Global, reader: &mut R) -> Result<Vec<u8>, Pl
     ensures read { (bytes : List ℕ) × Consumes (R.remaining reader.old) (R.remaining reader.new) bytes
         × IfOk result (λ text. text.items ≡ bytes) }
     ensures end { OnOk result (IsAtEnd (R.remaining reader.new)) }
-    ensures ended { OnOk result (EndsWith IsEndOfInput (R.told reader.old) (R.told reader.new)) }
+    ensures ended { OnOk result (EndsWith IsEndOfInput (R.calls reader.old) (R.calls reader.new)) }
     ensures fault { IfErr result (λ fault. (fault ≡ PlanFault.Memory)
-        ⊎ ((fault ≡ PlanFault.Csv) × HasReadFailed (R.told reader.old) (R.told reader.new))) }
+        ⊎ ((fault ≡ PlanFault.Csv) × HasReadFailed (R.calls reader.old) (R.calls reader.new))) }
 {
     let mut text = Vec::new(alloc);
     let mut part = [0u8; PART];

@@ -17,7 +17,7 @@ invariant-reads g l = record {
   count_is : l.count ≡ length entries;
   read : Consumes (g.R.Source.remaining l.fn.reader) (g.R.Source.remaining l.reader)
       (joined (entries_of entries) ++ take l.filled l.buffer);
-  made : HasMade (g.R.Source.told l.fn.reader) (g.R.Source.told l.reader) l.counter;
+  made : HasMade (g.R.Source.calls l.fn.reader) (g.R.Source.calls l.reader) l.counter;
   plan : l.follower.plan.now ≡ l.fn.plan;
   waits : IsWaiting l.follower.waiting [];
   posted : HasPosted g.C.Counter.seen g.C.Counter.spares l.fn.plan l.fn.bank l.bank entries l.follower.waiting

@@ -1,14 +1,14 @@
 use Rattle.std.proofs.Common.{◌≡◌, ◌+◌, ◌-◌, length}
 use Rattle.posting_rules.specs.declared.limits.TheConstants.{LAST_BRANCH}
 use Rattle.branch_loader.specs.Plans.{IsPlan, plan_of_records, row_of_fields, rows_by}
-use Rattle.posting_core.specs.Told.{HasMore}
+use Rattle.posting_core.specs.EndCalls.{HasMore}
 use Rattle.branch_loader.specs.Records.{Records}
 use Rattle.branch_loader.proofs.read.read_rows.Given as goal
 
 abbrev pub invariant-rows : goal.invariant-rows
 invariant-rows g l = record {
   plain : g.S.RecordSource.is_plain l.records;
-  more : HasMore (g.S.RecordSource.told l.fn.records) (g.S.RecordSource.told l.records);
+  more : HasMore (g.S.RecordSource.calls l.fn.records) (g.S.RecordSource.calls l.records);
   plan : IsPlan l.rows.items;
   states : (all : Records) → g.S.RecordSource.has_left l.fn.records all → (rest : Records)
       × g.S.RecordSource.has_left l.records rest ×

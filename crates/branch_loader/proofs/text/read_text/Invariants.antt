@@ -6,5 +6,5 @@ use Rattle.branch_loader.proofs.text.read_text.Given as goal
 abbrev pub invariant-reads : goal.invariant-reads
 invariant-reads g l = record {
   read : Consumes (g.R.Source.remaining l.fn.reader) (g.R.Source.remaining l.reader) l.text.items;
-  made : HasMade (g.R.Source.told l.fn.reader) (g.R.Source.told l.reader) l.counter;
+  made : HasMade (g.R.Source.calls l.fn.reader) (g.R.Source.calls l.reader) l.counter;
 }
