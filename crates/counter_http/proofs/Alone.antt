@@ -12,7 +12,7 @@ use Rattle.posting_rules.specs.declared.fault.Fault.{Fault}
 use Rattle.posting_rules.specs.believed.Commands.{Command}
 use Rattle.posting_rules.specs.believed.Counter.{LeavesOnly, Seen, ShowsLog, ShowsPrefix, Takes}
 use Rattle.posting_core.specs.believed.{Batches.joined, Clock.AreReadings}
-use Rattle.counter_http.specs.Clients.{ClientsTold}
+use Rattle.counter_http.specs.Clients.{ClientsCall}
 use Rattle.counter_http.specs.Connections.{Known}
 use Rattle.counter_http.specs.together.Order.{Step, answers_at, of_client, steps_of, submitted_by, turns_of}
 use Rattle.counter_http.specs.together.Serving.{ClientIsServed, IsOfVisit, IsVisited, ServesTogether, Visit}
@@ -43,7 +43,7 @@ whose_first P [] ys all = tt
 whose_first P (x ∷ xs) ys all = (all.0, whose_first P xs ys all.1)
 
 its_own : {C E : Type 0} (seen : C → Seen) {reason : Fault → C → C → Type 0} {known : E → Known}
-    {g g' : Option (List (ClientsTold E))} {k k' : Option (List ℕ)} (old new : C) {n : ℕ}
+    {g g' : Option (List (ClientsCall E))} {k k' : Option (List ℕ)} (old new : C) {n : ℕ}
     {result : Result (Unit {0}) ListenFault} (v : Visit E)
     (s : ServesTogether seen reason known g g' k k' old new n result) → s.visits ≡ v ∷ []
     → AllByRecursion (OfOne v.number) (steps_of s.rounds)
@@ -53,7 +53,7 @@ its_own {E = E} seen old new v s alone =
     (whose_first (IsOfVisit s.visits) (steps_of s.rounds) s.refused s.whose))
 
 its_visit : {C E : Type 0} (seen : C → Seen) {reason : Fault → C → C → Type 0} {known : E → Known}
-    {g g' : Option (List (ClientsTold E))} {k k' : Option (List ℕ)} (old new : C) {n : ℕ}
+    {g g' : Option (List (ClientsCall E))} {k k' : Option (List ℕ)} (old new : C) {n : ℕ}
     {result : Result (Unit {0}) ListenFault} (v : Visit E)
     (s : ServesTogether seen reason known g g' k k' old new n result) → s.visits ≡ v ∷ []
     → ClientIsServed v.number (known v.given) (known v.left) (seen old) (seen new) (steps_of s.rounds) v.parting
@@ -63,7 +63,7 @@ its_visit {E = E} seen {known = known} old new v s alone =
 
 -- it was served so, where all that its messages submit was taken
 served_as : {C E : Type 0} (seen : C → Seen) {reason : Fault → C → C → Type 0} {known : E → Known}
-    {g g' : Option (List (ClientsTold E))} {k k' : Option (List ℕ)} (old new : C) {n : ℕ} (v : Visit E)
+    {g g' : Option (List (ClientsCall E))} {k k' : Option (List ℕ)} (old new : C) {n : ℕ} (v : Visit E)
     (result : Result ℕ ServeFault) (s : ServesTogether seen reason known g g' k k' old new n (Ok tt))
     (alone : s.visits ≡ v ∷ []) (untold : AllByRecursion IsUntold (steps_of s.rounds)) (c : ClientIsServed v.number (known v.given) (known v.left) (seen old) (seen new)
     (steps_of s.rounds) v.parting) → c.lost ≡ []
@@ -107,7 +107,7 @@ served_as {C} seen {known = known} old new v result s alone untold c none exits 
 
 -- the walk over its messages ended
 pub served_alone : {C E : Type 0} (seen : C → Seen) {reason : Fault → C → C → Type 0} {known : E → Known}
-    {g g' : Option (List (ClientsTold E))} {k k' : Option (List ℕ)} (old new : C) {n : ℕ} (given left : E) (number : ℕ)
+    {g g' : Option (List (ClientsCall E))} {k k' : Option (List ℕ)} (old new : C) {n : ℕ} (given left : E) (number : ℕ)
     (s : ServesTogether seen reason known g g' k k' old new n (Ok tt))
     → s.visits ≡ record { number = number; given = given; left = left; parting = parting.Served } ∷ []
     → AllByRecursion IsUntold (steps_of s.rounds)
@@ -131,7 +131,7 @@ served_alone {E = E} seen {known = known} old new given left number s alone unto
 
 -- its reader failed
 pub cut_off_alone : {C E : Type 0} (seen : C → Seen) {reason : Fault → C → C → Type 0} {known : E → Known}
-    {g g' : Option (List (ClientsTold E))} {k k' : Option (List ℕ)} (old new : C) {n : ℕ} (given left : E) (number : ℕ)
+    {g g' : Option (List (ClientsCall E))} {k k' : Option (List ℕ)} (old new : C) {n : ℕ} (given left : E) (number : ℕ)
     (s : ServesTogether seen reason known g g' k k' old new n (Ok tt))
     → s.visits ≡ record { number = number; given = given; left = left; parting = parting.Read } ∷ []
     → AllByRecursion IsUntold (steps_of s.rounds)

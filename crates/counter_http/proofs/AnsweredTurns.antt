@@ -8,7 +8,7 @@ use Rattle.posting_rules.specs.declared.fault.Fault.{Fault}
 use Rattle.posting_rules.specs.believed.{Entries.reply, Commands.Command, Commands.Post}
 use Rattle.posting_rules.specs.believed.Counter.{Seen, IsCounterCall, ShowsLog, Takes, Refuses}
 use Rattle.posting_rules.proofs.CounterCalls.{call_refused_after, refused_after, takes_none}
-use Rattle.posting_core.specs.{Clock.IsReading, believed.Clock.AreReadings, Stream.IsOfCall, Told.WriteTold}
+use Rattle.posting_core.specs.{Clock.IsReading, believed.Clock.AreReadings, Stream.IsOfCall, EndCalls.WriteCall}
 use Rattle.counter_http.specs.{declared.fault.ServeFault.ServeFault, declared.routes.Route.Route, Ends.SendsAs}
 use Rattle.counter_http.specs.declared.fault.ServeFault.TheVariants as told
 use Rattle.counter_http.specs.Figures.{asks_figures, asks_on}
@@ -27,7 +27,7 @@ use Rattle.counter_http.specs.Turns.{IsAsked, IsDealtWith, IfRefused, IsRefusedA
 
 -- the bank refused a call, and that was told
 pub told_refused : {C : Type 0} (seen : C → Seen) {reason : Fault → C → C → Type 0} {w w' : Option (List ℕ)}
-    {v v' : Option (List WriteTold)} (old new : C) (a : Asked) (cs : List Command) (fault : Fault)
+    {v v' : Option (List WriteCall)} (old new : C) (a : Asked) (cs : List Command) (fault : Fault)
     (result : ServeFault)
     → IsRefusedAt seen old new fault cs → IsOfCall seen reason old new fault
     → ((seen old).is_down → new ≡ old)
@@ -99,7 +99,7 @@ refused_first seen old new fault cs refuses honest =
 
 -- the bank took the commands, and the answer was told
 pub told_answer : {C : Type 0} (seen : C → Seen) {reason : Fault → C → C → Type 0} {w w' : Option (List ℕ)}
-    {v v' : Option (List WriteTold)} (old new : C) (a : Asked) (cs : List Command) (x : Answer)
+    {v v' : Option (List WriteCall)} (old new : C) (a : Asked) (cs : List Command) (x : Answer)
     (result : Result (Unit {0}) ServeFault)
     → Takes (seen old) (seen new) cs → ((seen new).is_down → (seen old).is_down)
     → ((seen new).honest → (log : List Command) → ShowsLog (seen old) log → x ≡ answer_to log a)
@@ -223,7 +223,7 @@ not_as_long a t n =
 
 -- nothing is submitted, and the bank was asked
 pub idle : {C : Type 0} (seen : C → Seen) {reason : Fault → C → C → Type 0} {w w' k : Option (List ℕ)}
-    {v v' : Option (List WriteTold)} (old new : C) (a : Asked) (result : Result (Unit {0}) ServeFault)
+    {v v' : Option (List WriteCall)} (old new : C) (a : Asked) (result : Result (Unit {0}) ServeFault)
     → is_posting a ≡ false → IsDealtWith seen reason w w' v v' old new a [] result
     → TurnIsDealtWith seen reason w w' v v' k k old new a result
 idle seen {reason = reason} {w = w} {w' = w'} {k = k} {v = v} {v' = v'} old new a result is d = record {
@@ -235,7 +235,7 @@ idle seen {reason = reason} {w = w} {w' = w'} {k = k} {v = v} {v' = v'} old new 
 
 -- nothing is submitted, and the bank is left alone
 pub fixed : {C : Type 0} (seen : C → Seen) {reason : Fault → C → C → Type 0} {w w' k : Option (List ℕ)}
-    {v v' : Option (List WriteTold)} (c : C) (a : Asked) (x : Answer) (result : Result (Unit {0}) ServeFault)
+    {v v' : Option (List WriteCall)} (c : C) (a : Asked) (x : Answer) (result : Result (Unit {0}) ServeFault)
     → is_posting a ≡ false → ((log : List Command) → answer_to log a ≡ x)
     → IsSentAs w w' v v' (answer_text x (shows a) a.closes) result
     → TurnIsDealtWith seen reason w w' v v' k k c c a result
@@ -247,7 +247,7 @@ fixed seen c a x result none is sent =
 
 -- the bank was asked, and what it showed was told, or that it refused
 pub reading_told : {C : Type 0} (seen : C → Seen) {reason : Fault → C → C → Type 0} {w w' : Option (List ℕ)}
-    {v v' : Option (List WriteTold)} (old new : C) (a : Asked) (read : Result Reading Fault)
+    {v v' : Option (List WriteCall)} (old new : C) (a : Asked) (read : Result Reading Fault)
     (result : Result (Unit {0}) ServeFault) → IsAsked seen reason old new read
     → IfOk read (λ reading. (seen new).honest → (log : List Command) → ShowsLog (seen old) log
     → said_in reading ≡ answer_to log a)

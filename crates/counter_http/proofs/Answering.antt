@@ -8,8 +8,8 @@ use Rattle.httparse.specs.Grammar.{lf}
 use Rattle.posting_rules.specs.declared.fault.Fault.{Fault}
 use Rattle.posting_rules.specs.{believed.Commands.Command, believed.Counter.Seen, believed.Counter.ShowsLog}
 use Rattle.posting_rules.specs.believed.Runs.{followed_by}
-use Rattle.posting_core.specs.believed.{Batches.joined, Told.EndsWith, Told.GrowsBy, Told.ReadTold}
-use Rattle.posting_core.specs.Told.{Beside, IsReadFailure, read_told}
+use Rattle.posting_core.specs.believed.{Batches.joined, EndCalls.EndsWith, EndCalls.GrowsBy, EndCalls.ReadCall}
+use Rattle.posting_core.specs.EndCalls.{Beside, IsReadFailure, read_call}
 use Rattle.posting_core.proofs.Batched.{joined-append}
 use Rattle.counter_http.specs.Connections.{Known}
 use Rattle.counter_http.specs.Next.{IsUnfinished}
@@ -238,9 +238,9 @@ answered_refusal {i} {k} {l} {c} {c'} {steps} {buf = buf} {pending = pending} sh
 -- ---- something is read
 
 pub read_going : {i : ℕ} {k l : Known} {c c' : Seen} {steps : List Step} {shown : Bool} {rest : List ℕ}
-    (all : List ℕ) (told : Result ℕ Error) (r'' : Option (List ℕ)) (q'' : Option (List ReadTold))
+    (all : List ℕ) (told : Result ℕ Error) (r'' : Option (List ℕ)) (q'' : Option (List ReadCall))
     (b'' : Option (List Beside)) → IsGoing i k l c c' steps false shown rest []
-    → HasRead l.reader r'' told rest all → GrowsBy l.reads q'' (read_told told ∷ [])
+    → HasRead l.reader r'' told rest all → GrowsBy l.reads q'' (read_call told ∷ [])
     → GrowsBy l.beside b'' (record { contents = l.writer; told = l.writes } ∷ [])
     → IsGoing i k (record l { reader = r''; reads = q''; beside = b'' }) c c' steps true shown all []
 read_going {i} {k} {l} {c} {c'} {steps} {rest = rest} all told r'' q'' b'' g read tells beside =
@@ -257,7 +257,7 @@ read_going {i} {k} {l} {c} {c'} {steps} {rest = rest} all told r'' q'' b'' g rea
       more = g.more;
       through = g.through;
       prompt = subst (λ (x : List ℕ). AnswersBeforeItsReads i k.reads q'' k.beside b'' k.writer k.writes c c' steps x)
-          same (one_read_more (before ++ rest) read.bytes (read_told told) _ g.prompt (record {
+          same (one_read_more (before ++ rest) read.bytes (read_call told) _ g.prompt (record {
             before = steps;
             after = [];
             order = sym (append-nil steps);

@@ -7,8 +7,8 @@ use Rattle.std.proofs.{Math.Seq.get_or-append_seam, Math.Seq.take-append_seam}
 use Rattle.posting_rules.specs.{believed.Commands.Command, believed.Counter.Seen}
 use Rattle.posting_rules.specs.believed.Runs.{followed_by}
 use Rattle.posting_core.specs.{Stream.given, believed.Batches.joined}
-use Rattle.posting_core.specs.believed.Told.{GrowsBy, ReadTold}
-use Rattle.posting_core.specs.Told.{Beside, WriteTold, unknown}
+use Rattle.posting_core.specs.believed.EndCalls.{GrowsBy, ReadCall}
+use Rattle.posting_core.specs.EndCalls.{Beside, WriteCall, unknown}
 use Rattle.posting_core.proofs.ReadsFollowed.{given-append}
 use Rattle.posting_core.proofs.Telling.{adds-more, adds-none}
 use Rattle.counter_http.specs.Connections.{Known}
@@ -24,7 +24,7 @@ use Rattle.counter_http.proofs.Steps.{OfOther, answers_at-append, no_answers, no
 
 -- ---- reads
 
-holds_further : {i : ℕ} {w : Option (List ℕ)} {t : Option (List WriteTold)} {c c' c'' : Seen} {steps : List Step}
+holds_further : {i : ℕ} {w : Option (List ℕ)} {t : Option (List WriteCall)} {c c' c'' : Seen} {steps : List Step}
     {input input' : List ℕ} {sink sink' : Beside} (more : List Step) → (c''.honest → c'.honest) → input ≡ input'
     → sink ≡ sink' → HoldsOwnAnswers i w t c c' steps input sink
     → HoldsOwnAnswers i w t c c'' (steps ++ more) input' sink'
@@ -41,8 +41,8 @@ holds_further {i} {w} {t} {c} {c'} {c''} {steps} {input} {input'} {sink} {sink'}
     })
 
 -- other messages are answered, and the bank goes on
-pub reads_further : {i : ℕ} {q q' : Option (List ReadTold)} {b b' : Option (List Beside)} {w : Option (List ℕ)}
-    {t : Option (List WriteTold)} {c c' c'' : Seen} {steps : List Step} {input input' : List ℕ} (more : List Step)
+pub reads_further : {i : ℕ} {q q' : Option (List ReadCall)} {b b' : Option (List Beside)} {w : Option (List ℕ)}
+    {t : Option (List WriteCall)} {c c' c'' : Seen} {steps : List Step} {input input' : List ℕ} (more : List Step)
     → (c''.honest → c'.honest) → input ≡ input' → AnswersBeforeItsReads i q q' b b' w t c c' steps input
     → AnswersBeforeItsReads i q q' b b' w t c c'' (steps ++ more) input'
 reads_further {input = input} more honest same p = record {
@@ -56,8 +56,8 @@ reads_further {input = input} more honest same p = record {
       (ap (λ (x : List ℕ). take (given (take n p.reads)) x) same) refl (p.answered n below);
 }
 
-pub none_read_yet : (i : ℕ) (q : Option (List ReadTold)) (b : Option (List Beside)) {w : Option (List ℕ)}
-    {t : Option (List WriteTold)} {c c' : Seen} (steps : List Step)
+pub none_read_yet : (i : ℕ) (q : Option (List ReadCall)) (b : Option (List Beside)) {w : Option (List ℕ)}
+    {t : Option (List WriteCall)} {c c' : Seen} (steps : List Step)
     → AnswersBeforeItsReads i q q b b w t c c' steps []
 none_read_yet i q b steps = record {
   reads = [];
@@ -69,9 +69,9 @@ none_read_yet i q b steps = record {
   answered = λ n below. absurd (omega (arith, below));
 }
 
-as_before : {i : ℕ} {w : Option (List ℕ)} {t : Option (List WriteTold)} {c c' : Seen} {steps : List Step}
-    (reads : List ReadTold)
-    (sinks : List Beside) (input bytes : List ℕ) (x : ReadTold) (sink : Beside) (n : ℕ)
+as_before : {i : ℕ} {w : Option (List ℕ)} {t : Option (List WriteCall)} {c c' : Seen} {steps : List Step}
+    (reads : List ReadCall)
+    (sinks : List Beside) (input bytes : List ℕ) (x : ReadCall) (sink : Beside) (n : ℕ)
     → given reads ≡ length input → length sinks ≡ length reads → n < length reads
     → HoldsOwnAnswers i w t c c' steps (take (given (take n reads)) input) (get_or sinks n unknown)
     → HoldsOwnAnswers i w t c c' steps (take (given (take n (reads ++ x ∷ []))) (input ++ bytes))
@@ -82,14 +82,14 @@ as_before {i} {w} {t} {c} {c'} {steps} reads sinks input bytes x sink n long eac
     let upto : n ≤ length reads = omega (arith, below) in
     subst (λ (ss : List Step). HoldsOwnAnswers i w t c c' ss (take (given (take n (reads ++ x ∷ []))) (input ++ bytes))
     (get_or (sinks ++ sink ∷ []) n unknown)) (append-nil steps)
-    (holds_further [] (λ up. up) (sym (ap (λ (ts : List ReadTold). take (given ts) (input ++ bytes))
+    (holds_further [] (λ up. up) (sym (ap (λ (ts : List ReadCall). take (given ts) (input ++ bytes))
     (take-append-le n reads (x ∷ []) upto)
     ∙ take-append-le (given (take n reads)) input bytes few))
     (sym (get_or_append_left sinks (sink ∷ []) unknown n inside)) h)
 
-as_last : {i : ℕ} {w : Option (List ℕ)} {t : Option (List WriteTold)} {c c' : Seen} {steps : List Step}
-    (reads : List ReadTold)
-    (sinks : List Beside) (input bytes : List ℕ) (x : ReadTold) (sink : Beside) (n : ℕ)
+as_last : {i : ℕ} {w : Option (List ℕ)} {t : Option (List WriteCall)} {c c' : Seen} {steps : List Step}
+    (reads : List ReadCall)
+    (sinks : List Beside) (input bytes : List ℕ) (x : ReadCall) (sink : Beside) (n : ℕ)
     → given reads ≡ length input → length sinks ≡ length reads → n ≡ length reads
     → HoldsOwnAnswers i w t c c' steps input sink
     → HoldsOwnAnswers i w t c c' steps (take (given (take n (reads ++ x ∷ []))) (input ++ bytes))
@@ -98,14 +98,14 @@ as_last {i} {w} {t} {c} {c'} {steps} reads sinks input bytes x sink n long each 
     subst (λ (ss : List Step). HoldsOwnAnswers i w t c c' ss (take (given (take n (reads ++ x ∷ []))) (input ++ bytes))
     (get_or (sinks ++ sink ∷ []) n unknown)) (append-nil steps)
     (holds_further [] (λ up. up) (sym (ap (λ (m : ℕ). take (given (take m (reads ++ x ∷ []))) (input ++ bytes)) is
-    ∙ ap (λ (ts : List ReadTold). take (given ts) (input ++ bytes)) (take-append_seam reads (x ∷ []))
+    ∙ ap (λ (ts : List ReadCall). take (given ts) (input ++ bytes)) (take-append_seam reads (x ∷ []))
     ∙ ap (λ (m : ℕ). take m (input ++ bytes)) long ∙ take-append_seam input bytes))
     (sym (ap (λ (m : ℕ). get_or (sinks ++ sink ∷ []) m unknown) (is ∙ sym each)
     ∙ get_or-append_seam sinks sink [] unknown)) h)
 
-pub one_read_more : {i : ℕ} {q q' q'' : Option (List ReadTold)} {b b' b'' : Option (List Beside)}
-    {w : Option (List ℕ)} {t : Option (List WriteTold)} {c c' : Seen} {steps : List Step} (input bytes : List ℕ)
-    (x : ReadTold) (sink : Beside)
+pub one_read_more : {i : ℕ} {q q' q'' : Option (List ReadCall)} {b b' b'' : Option (List Beside)}
+    {w : Option (List ℕ)} {t : Option (List WriteCall)} {c c' : Seen} {steps : List Step} (input bytes : List ℕ)
+    (x : ReadCall) (sink : Beside)
     → AnswersBeforeItsReads i q q' b b' w t c c' steps input → HoldsOwnAnswers i w t c c' steps input sink
     → GrowsBy q' q'' (x ∷ []) → GrowsBy b' b'' (sink ∷ []) → given (x ∷ []) ≡ length bytes
     → AnswersBeforeItsReads i q q'' b b'' w t c c' steps (input ++ bytes)

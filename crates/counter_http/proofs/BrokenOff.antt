@@ -6,8 +6,8 @@ use Rattle.std.proofs.{KnownBytes.Appends-trans, lemmas.List.Concat.flat_map-app
 use Rattle.posting_rules.specs.{declared.fault.Fault.Fault, believed.Commands.Command, believed.Runs.followed_by}
 use Rattle.posting_rules.specs.believed.Counter.{Seen, Takes, Refuses}
 use Rattle.posting_rules.proofs.CounterCalls.{idle_after}
-use Rattle.posting_core.specs.believed.{Clock.AreReadings, Told.ReadTold, Batches.joined}
-use Rattle.posting_core.specs.Told.{WriteTold}
+use Rattle.posting_core.specs.believed.{Clock.AreReadings, EndCalls.ReadCall, Batches.joined}
+use Rattle.posting_core.specs.EndCalls.{WriteCall}
 use Rattle.counter_http.specs.{declared.fault.ServeFault.ServeFault, declared.next.Whole.Whole}
 use Rattle.counter_http.specs.{believed.Ends.HasEnded, believed.Messages.IsMessage, Next.asked, Next.IsWhole}
 use Rattle.counter_http.specs.declared.fault.ServeFault.TheVariants.{Read, Write, Bank, Memory}
@@ -25,7 +25,7 @@ use Rattle.counter_http.proofs.ConnectionLoop.{Going, turn_of, read_one_more}
 
 -- its answer was written in part
 answer_begun : {C : Type 0} (seen : C → Seen) {r r' w w' w'' k k' k'' : Option (List ℕ)}
-    {q q' : Option (List ReadTold)} (old now new : C)
+    {q q' : Option (List ReadCall)} (old now new : C)
     {count : ℕ} (t : Turn) (all rest : List ℕ)
     → Going r r' w w' k k' (seen old) (seen now) all count → IsMessage t.message → all ≡ text_in t ++ rest
     → AreReadings k' k'' (moments_in t)
@@ -89,7 +89,7 @@ answer_begun seen {r = r} {r' = r'} {w = w} {w' = w'} {w'' = w''} {k = k} {k' = 
 
 -- the bank refused it, and so much was written
 bank_failed : {C : Type 0} (seen : C → Seen) {r r' w w' w'' k k' k'' : Option (List ℕ)}
-    {q q' : Option (List ReadTold)} (old now new : C)
+    {q q' : Option (List ReadCall)} (old now new : C)
     {count : ℕ} (result : Result ℕ ServeFault) (t : Turn) (all rest : List ℕ) (more : List ℕ)
     (fault : Fault) (g : Going r r' w w' k k' (seen old) (seen now) all count) → all ≡ text_in t ++ rest
     → AreReadings k' k'' (moments_in t)
@@ -145,7 +145,7 @@ one_commands : (t : Turn) → commands_in t ≡ commands_of (t ∷ [])
 one_commands t = sym (append-nil (commands_in t))
 
 broken_at : {C : Type 0} (seen : C → Seen) (fault : ServeFault) {r r' w w' w'' k k' k'' : Option (List ℕ)}
-    {q q' : Option (List ReadTold)}
+    {q q' : Option (List ReadCall)}
     (old now new : C) {count : ℕ} (t : Turn) (all rest : List ℕ)
     → Going r r' w w' k k' (seen old) (seen now) all count → IsMessage t.message → all ≡ text_in t ++ rest
     → AreReadings k' k'' (moments_in t)
@@ -173,8 +173,8 @@ broken_at seen Read old now new t all rest g is front reading honest a idle = ab
 broken_at seen Memory old now new t all rest g is front reading honest a idle = absurd a
 
 pub end_broken : {C : Type 0} (seen : C → Seen) {reason : Fault → C → C → Type 0} (fault : ServeFault)
-    {r r' w w' w'' k k' k'' : Option (List ℕ)} {q q' : Option (List ReadTold)}
-    {v v' : Option (List WriteTold)} (old now new : C) {count : ℕ} (all : List ℕ) (p : Whole)
+    {r r' w w' w'' k k' k'' : Option (List ℕ)} {q q' : Option (List ReadCall)}
+    {v v' : Option (List WriteCall)} (old now new : C) {count : ℕ} (all : List ℕ) (p : Whole)
     → Going r r' w w' k k' (seen old) (seen now) all count → ((seen old).is_down → now ≡ old) → IsWhole all p
     → TurnIsDealtWith seen reason w' w'' v v' k' k'' now new (asked p) (Err fault)
     → ServesConnection seen r r' q q' w w'' k k'' old new (Err fault)

@@ -6,8 +6,8 @@ use Rattle.std.specs.Io.KnownBytes.{Appends, Keeps, WriteAppends}
 use Rattle.std.proofs.lemmas.List.{drop-append-le, drop-take, take_all, nil_from_length}
 use Rattle.std.proofs.lemmas.{Bool.true≢false, Slice.between_to_end}
 use Rattle.std.proofs.Math.ListN.{length-drop}
-use Rattle.posting_core.specs.believed.Told.{EndsWith, GrowsBy}
-use Rattle.posting_core.specs.Told.{HasMore}
+use Rattle.posting_core.specs.believed.EndCalls.{EndsWith, GrowsBy}
+use Rattle.posting_core.specs.EndCalls.{HasMore}
 use Rattle.posting_core.proofs.Telling.{adds-more}
 
 -- ---- what was told

@@ -8,8 +8,8 @@ use Rattle.std.proofs.KnownBytes.{Appends-trans, Appends-nil, Consumes-nil}
 use Rattle.std.proofs.lemmas.List.{length-take-le, length-append, take_all}
 use Rattle.posting_rules.specs.{declared.fault.Fault.Fault, believed.Counter.Seen}
 use Rattle.posting_rules.proofs.CounterCalls.{idle_after}
-use Rattle.posting_core.specs.believed.{Clock.AreReadings, Batches.joined, Told.ReadTold, Told.GrowsBy}
-use Rattle.posting_core.specs.Told.{WriteTold, read_told}
+use Rattle.posting_core.specs.believed.{Clock.AreReadings, Batches.joined, EndCalls.ReadCall, EndCalls.GrowsBy}
+use Rattle.posting_core.specs.EndCalls.{WriteCall, read_call}
 use Rattle.counter_http.specs.{declared.fault.ServeFault.ServeFault, declared.next.Whole.Whole}
 use Rattle.counter_http.specs.{believed.Ends.HasEnded, Turns.AreAnswered, Turns.TurnIsDealtWith}
 use Rattle.counter_http.specs.believed.{Answers.Asked, Answers.refusal, Turns.Turn, Turns.text_in, Turns.commands_of}
@@ -31,7 +31,7 @@ use Rattle.counter_http.proofs.ConnectionLoop.{going_filled}
 
 -- the messages were answered, and then so much was written
 end_with : {C : Type 0} (seen : C → Seen) {r r' w w' w'' k k' : Option (List ℕ)}
-    {q q' : Option (List ReadTold)} (old new : C)
+    {q q' : Option (List ReadCall)} (old new : C)
     (result : Result ℕ ServeFault) (ts : List Turn) (rest : List ℕ) (last : List (List ℕ)) (more : List ℕ)
     → Consumes r r' (texts_of ts ++ rest) → AreAnswered w w' k k' (seen old) (seen new) ts
     → Appends w' w'' more
@@ -66,7 +66,7 @@ end_with seen {r = r} {r' = r'} {w = w} {w' = w'} {w'' = w''} {k = k} {k' = k'} 
 
 -- nothing remains
 pub end_finished : {C : Type 0} (seen : C → Seen) {r r' w w' k k' : Option (List ℕ)}
-    {q q' : Option (List ReadTold)} (old new : C) {count : ℕ}
+    {q q' : Option (List ReadCall)} (old new : C) {count : ℕ}
     (rest : List ℕ)
     → Going r r' w w' k k' (seen old) (seen new) rest count → HasEnded r' q q' → rest ≡ []
     → ((seen old).is_down → new ≡ old) → ServesConnection seen r r' q q' w w' k k' old new (Ok count)
@@ -85,7 +85,7 @@ end_finished seen {w' = w'} old new {count = count} rest g ended none idle =
 
 -- the reader failed
 pub end_unread : {C : Type 0} (seen : C → Seen) {r r' w w' k k' : Option (List ℕ)}
-    {q q' : Option (List ReadTold)} (old new : C) {count : ℕ}
+    {q q' : Option (List ReadCall)} (old new : C) {count : ℕ}
     (rest : List ℕ)
     → Going r r' w w' k k' (seen old) (seen new) rest count → BeginsWithNoMessage rest
     → ((seen old).is_down → new ≡ old) → ServesConnection seen r r' q q' w w' k k' old new (Err Read)
@@ -96,8 +96,8 @@ end_unread seen {w' = w'} old new rest g none idle =
 
 -- the answer to a message was the last
 pub end_closed : {C : Type 0} (seen : C → Seen) {reason : Fault → C → C → Type 0}
-    {r r' w w' w'' k k' k'' : Option (List ℕ)} {q q' : Option (List ReadTold)}
-    {v v' : Option (List WriteTold)} (old now new : C) {count : ℕ} (all : List ℕ) (count' : ℕ) (p : Whole)
+    {r r' w w' w'' k k' k'' : Option (List ℕ)} {q q' : Option (List ReadCall)}
+    {v v' : Option (List WriteCall)} (old now new : C) {count : ℕ} (all : List ℕ) (count' : ℕ) (p : Whole)
     → Going r r' w w' k k' (seen old) (seen now) all count → ((seen old).is_down → now ≡ old) → IsWhole all p
     → p.closes ≡ true → count' ≡ count + 1
     → TurnIsDealtWith seen reason w' w'' v v' k' k'' now new (asked p) (Ok tt)
@@ -180,13 +180,13 @@ short_front {shown = shown} old new filled n going got none many fits fits' wait
     )
 
 -- the input ended after what stands at the front of the buffer
-pub short_read : {r r' r'' w w' k k' : Option (List ℕ)} {q q' q'' : Option (List ReadTold)} {c c' : Seen}
+pub short_read : {r r' r'' w w' k k' : Option (List ℕ)} {q q' q'' : Option (List ReadCall)} {c c' : Seen}
     {count calls : ℕ} {shown : Bool} (old new : List ℕ) (filled n : ℕ) (told : Result ℕ Error)
     → Going r r' w w' k k' c c' (take filled old) count → told ≡ Ok n → n ≡ 0
     → IfOk told (λ m. (bytes : List ℕ) × (take (filled + m) new ≡ take filled old ++ bytes)
     × Consumes r' r'' bytes)
     → IfOk told (λ m. m ≡ 0 → IsAtEnd r'')
-    → HasMade q q' calls → GrowsBy q' q'' (read_told told ∷ [])
+    → HasMade q q' calls → GrowsBy q' q'' (read_call told ∷ [])
     → 0 < filled → filled ≤ length old → length old ≡ length new → IsUnfinished (take filled old) shown
     → (g : Going r r'' w w' k k' c c' (take filled new) count)
     × IsWalked (HasEnded r'' q q'') g.turns [] (take filled new) (refusal shown ∷ [])
@@ -196,7 +196,7 @@ short_read old new filled n told going is none ok end made tells some fits long 
 
 -- it was written
 pub end_told : {C : Type 0} (seen : C → Seen) {r r' w w' w'' k k' : Option (List ℕ)}
-    {q q' : Option (List ReadTold)} (old new : C) {count : ℕ}
+    {q q' : Option (List ReadCall)} (old new : C) {count : ℕ}
     (shown : Bool) (count' : ℕ) (rest : List ℕ)
     (g : Going r r' w w' k k' (seen old) (seen new) rest count)
     → IsWalked (HasEnded r' q q') g.turns [] rest (refusal shown ∷ [])
@@ -211,7 +211,7 @@ end_told seen {w' = w'} {w'' = w''} old new shown count' rest g walked told one 
 
 -- it was written in part
 pub end_untold : {C : Type 0} (seen : C → Seen) {r r' w w' w'' k k' : Option (List ℕ)}
-    {q q' : Option (List ReadTold)} (old new : C)
+    {q q' : Option (List ReadCall)} (old new : C)
     {count : ℕ} (shown : Bool) (n : ℕ) (rest : List ℕ)
     (g : Going r r' w w' k k' (seen old) (seen new) rest count)
     → IsWalked (HasEnded r' q q') g.turns [] rest (refusal shown ∷ [])
@@ -225,7 +225,7 @@ end_untold seen old new shown n rest g walked wrote idle =
     ∙ ap (take (length (take n (refusal shown)))) (sym (append-nil (refusal shown))))) idle
 
 -- memory was refused before anything was read
-pub untouched : {C : Type 0} (seen : C → Seen) {r : Option (List ℕ)} {q : Option (List ReadTold)}
+pub untouched : {C : Type 0} (seen : C → Seen) {r : Option (List ℕ)} {q : Option (List ReadCall)}
     {w k : Option (List ℕ)} (c : C)
     → ServesConnection seen r r q q w w k k c c (Err Memory)
 untouched seen {r = r} {w = w} c =

@@ -6,7 +6,7 @@ use Rattle.std.specs.{List.AllByRecursion, Io.KnownBytes.Consumes}
 use Rattle.std.proofs.KnownBytes.{Consumes-trans, Consumes-nil}
 use Rattle.std.proofs.lemmas.List.{length-append, length-take-le, drop-take, nil_from_length, Concat.flat_map-append}
 use Rattle.posting_rules.specs.{declared.fault.Fault.Fault, believed.Counter.Seen}
-use Rattle.posting_core.specs.Told.{WriteTold}
+use Rattle.posting_core.specs.EndCalls.{WriteCall}
 use Rattle.httparse.specs.Grammar.{print_request}
 use Rattle.counter_http.specs.{declared.next.Whole.Whole, believed.Messages.message_text, believed.Messages.Finished}
 use Rattle.counter_http.specs.{believed.Answers.Asked, Turns.AreAnswered, Turns.TurnIsDealtWith}
@@ -86,7 +86,7 @@ abbrev pub turn_of : {all : List ℕ} {w : Whole} → ℕ → IsWhole all w → 
 turn_of moment is = record { message = is.message; moment = moment }
 
 unfoldable pub going_message : {C : Type 0} (seen : C → Seen) {reason : Fault → C → C → Type 0}
-    {r r' w w' w'' k k' k'' : Option (List ℕ)} {v v' : Option (List WriteTold)} {c : Seen} {count : ℕ}
+    {r r' w w' w'' k k' k'' : Option (List ℕ)} {v v' : Option (List WriteCall)} {c : Seen} {count : ℕ}
     (now new : C) (all rest : List ℕ) (count' : ℕ) (p : Whole)
     → Going r r' w w' k k' c (seen now) all count → IsWhole all p → p.closes ≡ false
     → rest ≡ drop p.length all → count' ≡ count + 1

@@ -18,10 +18,10 @@ use Rattle.posting_rules.proofs.CounterCalls.{idle_after, refused_after, takes_n
 use Rattle.posting_rules.proofs.{Remaining.leaves_weaker, Sequence.after-append}
 use Rattle.posting_core.specs.Stream.{IsOfCall}
 use Rattle.posting_core.specs.believed.Clock.{AreReadings}
-use Rattle.posting_core.specs.Told.{HasMore}
-use Rattle.posting_core.specs.believed.Told.{GrowsBy}
+use Rattle.posting_core.specs.EndCalls.{HasMore}
+use Rattle.posting_core.specs.believed.EndCalls.{GrowsBy}
 use Rattle.posting_core.proofs.{Stops.stop_all, StreamedBatches.all_more, StreamedBatches.takes_more, Telling.adds-none, Telling.more_more}
-use Rattle.counter_http.specs.Clients.{ClientsTold, Gave, given_up_told}
+use Rattle.counter_http.specs.Clients.{ClientsCall, Gave, given_up_told}
 use Rattle.counter_http.specs.Connections.{Known}
 use Rattle.counter_http.specs.together.Crowd.{Differ, GoesOn, HasLeft, HaveCome, HaveMoved, IsCrowd, IsHere, Scene, ServesRounds}
 use Rattle.counter_http.specs.together.Crowd.{WereRefused, all_numbers, fault_of_bank}
@@ -53,7 +53,7 @@ use Rattle.counter_http.proofs.Written.{number_written, written_here}
 -- ---- each client on its own
 
 here_as : {R W : Type 0} {known : R × W → Known} {c c' c'' : Seen} {steps steps' : List Step} {fault fault' : Option Fault}
-    {refused refused' : List Step} {calls : List (ClientsTold (R × W))} (old new : Client R W) → new.number ≡ old.number
+    {refused refused' : List Step} {calls : List (ClientsCall (R × W))} (old new : Client R W) → new.number ≡ old.number
     → ((k : Known) → StandsHere known k c c' steps old → StandsHere known k c c'' steps' new)
     → ((k : Known) → StandsHere known k c c' steps old → AreRefused known k c c' steps fault refused old
     → AreRefused known k c c'' steps' fault' refused' new)
@@ -65,7 +65,7 @@ here_as {calls = calls} old new number stands told is = record {
   told = told _ is.stands is.told;
 }
 
-goes_here : {R W : Type 0} {known : R × W → Known} {c c' : Seen} {steps : List Step} {calls : List (ClientsTold (R × W))}
+goes_here : {R W : Type 0} {known : R × W → Known} {c c' : Seen} {steps : List Step} {calls : List (ClientsCall (R × W))}
     (old new : Client R W) → GoesOn known old new → IsHere known c c' steps None [] calls old
     → IsHere known c c' steps None [] calls new
 goes_here {known = known} {c} {c'} {steps} {calls} old new (inl same) is =
@@ -92,7 +92,7 @@ told_written known k c c' steps (Some why) (s ∷ ss) old new w told = (
 )
 
 writes_here : {R W : Type 0} {known : R × W → Known} {c c' : Seen} {steps : List Step} {fault : Option Fault}
-    {refused : List Step} {calls : List (ClientsTold (R × W))} (old new : Client R W) → Writes known old new
+    {refused : List Step} {calls : List (ClientsCall (R × W))} (old new : Client R W) → Writes known old new
     → IsHere known c c' steps fault refused calls old → IsHere known c c' steps fault refused calls new
 writes_here {known = known} {c} {c'} {steps} {fault} {refused} old new w is =
     here_as old new (number_written old new w) (λ k stands. written_here old new w stands)
@@ -116,7 +116,7 @@ all_by M P Q f (x ∷ xs) [] all h = absurd all
 all_by M P Q f (x ∷ xs) (y ∷ ys) all h = (f x y all.0 h.0, all_by M P Q f xs ys all.1 h.1)
 
 -- the same clients are here, and stand there
-pub crowd_as : {R W : Type 0} {stops : Type 0} {given : List ℕ} {known : R × W → Known} {g t : Option (List (ClientsTold (R × W)))} {c c' : Seen}
+pub crowd_as : {R W : Type 0} {stops : Type 0} {given : List ℕ} {known : R × W → Known} {g t : Option (List (ClientsCall (R × W)))} {c c' : Seen}
     {steps : List Step} {fault : Option Fault} {refused : List Step} {came : ℕ} {here : List (Client R W)} (here' : List (Client R W))
     (crowd : IsCrowd stops given known g c c' steps fault refused (record { told = t; came = came; here = here })) → numbers here' ≡ numbers here
     → AllByRecursion (IsHere known c c' steps fault refused crowd.calls) here'
@@ -138,7 +138,7 @@ crowd_as {steps = steps} {fault} {refused} {came} {here} here' crowd same stand 
       many = subst (λ (ns : List ℕ). length ns ≡ came) all crowd.many;
     }
 
-pub crowd_goes : {R W : Type 0} {stops : Type 0} {given : List ℕ} {known : R × W → Known} {g t : Option (List (ClientsTold (R × W)))} {c c' : Seen}
+pub crowd_goes : {R W : Type 0} {stops : Type 0} {given : List ℕ} {known : R × W → Known} {g t : Option (List (ClientsCall (R × W)))} {c c' : Seen}
     {steps : List Step} {came : ℕ} (here here' : List (Client R W)) → AllZip (GoesOn known) here here'
     → IsCrowd stops given known g c c' steps None [] (record { told = t; came = came; here = here })
     → IsCrowd stops given known g c c' steps None [] (record { told = t; came = came; here = here' })
@@ -147,7 +147,7 @@ crowd_goes {known = known} {c = c} {c'} {steps} here here' goes crowd =
     (all_by (GoesOn known) (IsHere known c c' steps None [] crowd.calls) (IsHere known c c' steps None [] crowd.calls) goes_here here here'
     goes crowd.are_here)
 
-pub crowd_writes : {R W : Type 0} {stops : Type 0} {given : List ℕ} {known : R × W → Known} {g t : Option (List (ClientsTold (R × W)))} {c c' : Seen}
+pub crowd_writes : {R W : Type 0} {stops : Type 0} {given : List ℕ} {known : R × W → Known} {g t : Option (List (ClientsCall (R × W)))} {c c' : Seen}
     {steps : List Step} {fault : Option Fault} {refused : List Step} {came : ℕ} (here here' : List (Client R W)) → AllZip (Writes known) here here'
     → IsCrowd stops given known g c c' steps fault refused (record { told = t; came = came; here = here })
     → IsCrowd stops given known g c c' steps fault refused (record { told = t; came = came; here = here' })
@@ -157,7 +157,7 @@ crowd_writes {known = known} {c = c} {c'} {steps} {fault} {refused} here here' w
     here' writes crowd.are_here)
 
 -- no two have the same number
-pub crowd_differs : {R W : Type 0} {stops : Type 0} {given : List ℕ} {known : R × W → Known} {g : Option (List (ClientsTold (R × W)))} {c c' : Seen}
+pub crowd_differs : {R W : Type 0} {stops : Type 0} {given : List ℕ} {known : R × W → Known} {g : Option (List (ClientsCall (R × W)))} {c c' : Seen}
     {steps : List Step} {fault : Option Fault} {refused : List Step} {a : Scene R W} → IsCrowd stops given known g c c' steps fault refused a → AllPairs (λ (m n : ℕ). m ≢ n) (numbers a.here)
 crowd_differs {a = a} crowd =
     pairs_differ (numbers a.here) (last_of (map number_of crowd.visits) (numbers a.here) crowd.differ)
@@ -168,12 +168,12 @@ crowd_differs {a = a} crowd =
 
 -- where one waits for more, its whole messages are answered
 up_to_date : {R W : Type 0} {known : R × W → Known} {c c' : Seen} {steps : List Step} {fault : Option Fault}
-    {refused : List Step} {calls : List (ClientsTold (R × W))} (client : Client R W)
+    {refused : List Step} {calls : List (ClientsCall (R × W))} (client : Client R W)
     → IsHere known c c' steps fault refused calls client → IsUpToDate client
 up_to_date client is going none =
     unfinished_none (unread client) ((going_of client going is.stands).waits none)
 
-pub all_up_to_date : {R W : Type 0} {stops : Type 0} {given : List ℕ} {known : R × W → Known} {g : Option (List (ClientsTold (R × W)))} {c c' : Seen}
+pub all_up_to_date : {R W : Type 0} {stops : Type 0} {given : List ℕ} {known : R × W → Known} {g : Option (List (ClientsCall (R × W)))} {c c' : Seen}
     {steps : List Step} {fault : Option Fault} {refused : List Step} {a : Scene R W}
     → IsCrowd stops given known g c c' steps fault refused a → AllByRecursion IsUpToDate a.here
 all_up_to_date {known = known} {c = c} {c'} {steps} {fault} {refused} {a} crowd =
@@ -199,7 +199,7 @@ none_refused known c c' steps (Some why) (s ∷ ss) v others =
     ((λ own. absurd (others.0 own)), none_refused known c c' steps (Some why) ss v others.1)
 
 visited_further : {R W : Type 0} (stops : Type 0) (known : R × W → Known) (c c' c'' : Seen) (steps : List Step)
-    (calls : List (ClientsTold (R × W))) (ns : List ℕ) (more : List Step) (fault : Option Fault) (refused : List Step)
+    (calls : List (ClientsCall (R × W))) (ns : List ℕ) (more : List Step) (fault : Option Fault) (refused : List Step)
     (visits : List (Visit (R × W))) → (c''.honest → c'.honest) → AllByRecursion (IsOfOneOf ns) more
     → AllByRecursion (IsOfOneOf ns) refused → Differ (map number_of visits ++ ns)
     → AllByRecursion (HasLeft stops known c c' steps None [] calls) visits
@@ -243,7 +243,7 @@ zip_places M (x ∷ xs) (y ∷ ys) same at = (
     rest_of (x ∷ xs) = xs
 
 pub crowd_round : {C R W : Type 0} (seen : C → Seen) {reason : Fault → C → C → Type 0} {known : R × W → Known}
-    {k k' : Option (List ℕ)} {g t : Option (List (ClientsTold (R × W)))} {X : Type 0} (first old new : C)
+    {k k' : Option (List ℕ)} {g t : Option (List (ClientsCall (R × W)))} {X : Type 0} (first old new : C)
     (steps : List Step) {came seconds : ℕ} {u u' : Tally} (here here' : List (Client R W)) (result : Result X Fault)
     → IsCrowd ⊥ [] known g (seen first) (seen old) steps None [] (record { told = t; came = came; here = here })
     → Takes (seen first) (seen old) (submitted_by steps)
@@ -287,7 +287,7 @@ crowd_round {C} {R} {W} seen {known = known} first old new steps {came = came} h
 -- ---- rounds
 
 -- where the loop over rounds stands
-pub record Rounding {C R W : Type 0} (seen : C → Seen) (known : R × W → Known) (g t : Option (List (ClientsTold (R × W))))
+pub record Rounding {C R W : Type 0} (seen : C → Seen) (known : R × W → Known) (g t : Option (List (ClientsCall (R × W))))
     (k k' : Option (List ℕ)) (old now : C) (n came : ℕ) (here : List (Client R W)) (tally : Tally) (turns : ℕ)
     : Type 0 where
   pub rounds : List Round
@@ -303,7 +303,7 @@ pub record Rounding {C R W : Type 0} (seen : C → Seen) (known : R × W → Kno
   pub few : came ≤ n
   pub crowd : IsCrowd ⊥ [] known g (seen old) (seen now) (steps_of rounds) None [] (record { told = t; came = came; here = here })
 
-pub rounding_none : {C R W : Type 0} (seen : C → Seen) {known : R × W → Known} (g : Option (List (ClientsTold (R × W))))
+pub rounding_none : {C R W : Type 0} (seen : C → Seen) {known : R × W → Known} (g : Option (List (ClientsCall (R × W))))
     (k : Option (List ℕ)) (old : C) (n : ℕ) (here : List (Client R W)) (tally : Tally) → here ≡ [] → tally ≡ nothing
     → Rounding seen known g g k k old old n 0 here tally 0
 rounding_none {C} {R} {W} seen {known} g k old n here tally none zero = record {
@@ -335,7 +335,7 @@ rounding_none {C} {R} {W} seen {known} g k old n here tally none zero = record {
 }
 
 -- clients come, go on and leave
-pub rounding_on : {C R W : Type 0} {seen : C → Seen} {known : R × W → Known} {g t t' : Option (List (ClientsTold (R × W)))}
+pub rounding_on : {C R W : Type 0} {seen : C → Seen} {known : R × W → Known} {g t t' : Option (List (ClientsCall (R × W)))}
     {k k' : Option (List ℕ)} {old now : C} {n came came' turns : ℕ} {here here' : List (Client R W)} {tally : Tally}
     (s : Rounding seen known g t k k' old now n came here tally turns)
     → IsCrowd ⊥ [] known g (seen old) (seen now) (steps_of s.rounds) None [] (record { told = t'; came = came'; here = here' })
@@ -376,7 +376,7 @@ takes_one_more c c' c'' rs r honest a b =
 
 -- the figures of a round more are those that stood before it
 figured_then : {C R W X : Type 0} (seen : C → Seen) {reason : Fault → C → C → Type 0} {known : R × W → Known}
-    {g t : Option (List (ClientsTold (R × W)))} {k k' k'' : Option (List ℕ)} {old : C} (now new : C)
+    {g t : Option (List (ClientsCall (R × W)))} {k k' k'' : Option (List ℕ)} {old : C} (now new : C)
     {n came seconds turns : ℕ} {here here' : List (Client R W)} {u u' : Tally} {result : Result X Fault}
     (s : Rounding seen known g t k k' old now n came here u turns)
     (r : AnswersRound seen reason known k' k'' now new here here' u u' seconds result) → (seen now).honest
@@ -387,7 +387,7 @@ figured_then seen now new s r honest log shown =
 
 -- a round was answered
 pub rounding_next : {C R W X : Type 0} (seen : C → Seen) {reason : Fault → C → C → Type 0} {known : R × W → Known}
-    {g t t' : Option (List (ClientsTold (R × W)))} {k k' k'' : Option (List ℕ)} (old now new : C)
+    {g t t' : Option (List (ClientsCall (R × W)))} {k k' k'' : Option (List ℕ)} (old now new : C)
     {n came came' seconds turns : ℕ} {here here' here'' : List (Client R W)} {u u' : Tally} {x : X}
     (s : Rounding seen known g t k k' old now n came here u turns)
     (r : AnswersRound seen reason known k' k'' now new here here' u u' seconds (Ok x))
@@ -422,7 +422,7 @@ rounding_next seen {known = known} {g = g} {t' = t'} {k} {k'} {k''} old now new 
 -- ---- what is done before a round, and after it
 
 -- nobody came or left
-pub waited_still : {R W : Type 0} {known : R × W → Known} {g t t' : Option (List (ClientsTold (R × W)))} {c c' : Seen}
+pub waited_still : {R W : Type 0} {known : R × W → Known} {g t t' : Option (List (ClientsCall (R × W)))} {c c' : Seen}
     {steps : List Step} {fault : Option Fault} {refused : List Step} {came : ℕ} {here : List (Client R W)} → GrowsBy t t' []
     → IsCrowd ⊥ [] known g c c' steps fault refused (record { told = t; came = came; here = here })
     → IsCrowd ⊥ [] known g c c' steps fault refused (record { told = t'; came = came; here = here })
@@ -437,7 +437,7 @@ waited_still waited crowd = crowd_moved (λ stop. stop) (all_stay (record {
 
 -- those who were here were waited for and gone on with, some were given up, and others were taken in
 pub before_round : {C R W : Type 0} {seen : C → Seen} {known : R × W → Known}
-    {g t t' u t'' : Option (List (ClientsTold (R × W)))} {k k' : Option (List ℕ)} {old now : C} {n came came' turns : ℕ}
+    {g t t' u t'' : Option (List (ClientsCall (R × W)))} {k k' : Option (List ℕ)} {old now : C} {n came came' turns : ℕ}
     {tally : Tally} (asked here viewed gone here' left here'' : List (Client R W)) (said told : List Readiness)
     → asked ≡ here → viewed ≡ here → here' ≡ gone → told ≡ said
     → Rounding seen known g t k k' old now n came here tally turns
@@ -461,7 +461,7 @@ before_round {R = R} {W} {known = known} {g} {t} {t'} {came = came} asked here v
     (subst (λ (ns : List ℕ). GrowsBy t t' (given_up_told ns)) (sym those) waited) s.crowd))))) few
 
 pub after_round : {C R W X : Type 0} (seen : C → Seen) {reason : Fault → C → C → Type 0} {known : R × W → Known}
-    {g t t' : Option (List (ClientsTold (R × W)))} {k k' k'' : Option (List ℕ)} (old now new : C)
+    {g t t' : Option (List (ClientsCall (R × W)))} {k k' k'' : Option (List ℕ)} (old now new : C)
     {n came seconds turns : ℕ} {u u' : Tally} (here here' viewed gone here'' left : List (Client R W))
     (result : Result X Fault) → viewed ≡ here' → here'' ≡ gone
     → (s : Rounding seen known g t k k' old now n came here u turns)
@@ -505,7 +505,7 @@ stop_more c log cs ds es n m e long stop = leaves_weaker c (ShowsPrefix (followe
 
 -- the bank took all that it was given
 pub rounds_end : {C R W : Type 0} (seen : C → Seen) {reason : Fault → C → C → Type 0} {known : R × W → Known}
-    {g t : Option (List (ClientsTold (R × W)))} {k k' : Option (List ℕ)} (old new : C) {n came turns : ℕ}
+    {g t : Option (List (ClientsCall (R × W)))} {k k' : Option (List ℕ)} (old new : C) {n came turns : ℕ}
     {here : List (Client R W)} {tally : Tally} (result : Result (Unit {0}) ListenFault)
     → EndsTogether seen result new new [] → IfErr result (λ fault. IfBank fault (IsOfCall seen reason old new))
     → OnOk result ((came ≡ n) × (here ≡ [])) → fault_of_bank result ≡ None
@@ -544,7 +544,7 @@ why_now seen reason old now new cs takes honest idle fault (inr own) = inr own
 
 -- the bank refused a message, or a batch
 pub rounds_broken : {C R W X : Type 0} (seen : C → Seen) {reason : Fault → C → C → Type 0} {known : R × W → Known}
-    {g t t' : Option (List (ClientsTold (R × W)))} {k k' k'' : Option (List ℕ)} (old now new : C)
+    {g t t' : Option (List (ClientsCall (R × W)))} {k k' k'' : Option (List ℕ)} (old now new : C)
     {n came came' seconds turns : ℕ} {here here' here'' : List (Client R W)} {u u' : Tally} (fault : Fault)
     (s : Rounding seen known g t k k' old now n came here u turns)
     (r : AnswersRound {X = X} seen reason known k' k'' now new here here' u u' seconds (Err fault))
@@ -642,7 +642,7 @@ all_told {E} known c c' steps fault visits (s ∷ ss) told whose =
           (λ v all. all.1) visits told) whose.1,
     )
 
-told_of : {E : Type 0} (stops : Type 0) (known : E → Known) (c c' : Seen) (steps : List Step) (calls : List (ClientsTold E))
+told_of : {E : Type 0} (stops : Type 0) (known : E → Known) (c c' : Seen) (steps : List Step) (calls : List (ClientsCall E))
     (visits : List (Visit E)) (refused : List Step) (result : Result (Unit {0}) ListenFault)
     → AllByRecursion (HasLeft stops known c c' steps (fault_of_bank result) refused calls) visits
     → AllByRecursion (IsOfVisit visits) refused
@@ -661,7 +661,7 @@ stopped_by came n here (Ok done) ends some = absurd (some ends.1)
 stopped_by came n here (Err fault) ends some = refl
 
 -- connections were closed after that
-cut_off_then : {E : Type 0} {g t t' : Option (List (ClientsTold E))} (result : Result (Unit {0}) ListenFault)
+cut_off_then : {E : Type 0} {g t t' : Option (List (ClientsCall E))} (result : Result (Unit {0}) ListenFault)
     (rounds : List Round) → HasMore t t' → IsCutOff g t result rounds → IsCutOff g t' result rounds
 cut_off_then {g = g} {t} {t'} result rounds grown cut same = further (cut same)
   where
@@ -671,7 +671,7 @@ cut_off_then {g = g} {t} {t'} result rounds grown cut same = further (cut same)
 
 -- everybody left
 pub serves_together : {C R W : Type 0} (seen : C → Seen) {reason : Fault → C → C → Type 0} {known : R × W → Known}
-    {g t t' : Option (List (ClientsTold (R × W)))} {k k' : Option (List ℕ)} (old new : C) {n : ℕ}
+    {g t t' : Option (List (ClientsCall (R × W)))} {k k' : Option (List ℕ)} (old new : C) {n : ℕ}
     (here here' : List (Client R W)) (result : Result (Unit {0}) ListenFault)
     → ServesRounds seen reason known g t k k' old new n here result
     → ((came : ℕ) → HaveMoved (here ≢ []) [] (record { told = t; came = came; here = here })
@@ -724,14 +724,14 @@ serves_together {C} {R} {W} seen {reason} {known} {g} {t} {t'} old new {n} here 
       many = omega (arith, long, crowd.many, s.few);
     }
 
-come_where : {E : Type 0} (P : Type 0) (g g' : Option (List (ClientsTold E))) (came n : ℕ)
+come_where : {E : Type 0} (P : Type 0) (g g' : Option (List (ClientsCall E))) (came n : ℕ)
     (result : Result (Unit {0}) ListenFault) → OnOk result ((came ≡ n) × P) → HaveCome g g' came → OnOk result (HaveCome g g' n)
 come_where P g g' came n (Ok done) same come = subst (λ (m : ℕ). HaveCome g g' m) same.0 come
 come_where P g g' came n (Err fault) same come = tt
 
 -- all came that were to come
 pub all_came : {C R W : Type 0} (seen : C → Seen) {reason : Fault → C → C → Type 0} {known : R × W → Known}
-    {g t t' : Option (List (ClientsTold (R × W)))} {k k' : Option (List ℕ)} (old new : C) {n : ℕ}
+    {g t t' : Option (List (ClientsCall (R × W)))} {k k' : Option (List ℕ)} (old new : C) {n : ℕ}
     (here here' : List (Client R W)) (result : Result (Unit {0}) ListenFault)
     → ServesRounds seen reason known g t k k' old new n here result
     → ((came : ℕ) → HaveMoved (here ≢ []) [] (record { told = t; came = came; here = here })
@@ -746,7 +746,7 @@ all_came seen {known = known} {g} {t} {t'} old new {n} here here' result s moved
 
 -- memory was refused before anybody came
 pub nobody_came : {C R W : Type 0} (seen : C → Seen) {reason : Fault → C → C → Type 0} {known : R × W → Known}
-    (g : Option (List (ClientsTold (R × W)))) (k : Option (List ℕ)) (old : C) (n : ℕ)
+    (g : Option (List (ClientsCall (R × W)))) (k : Option (List ℕ)) (old : C) (n : ℕ)
     → ServesTogether seen reason known g g k k old old n (Err (Bank Memory))
 nobody_came seen g k old n = record {
   rounds = [];
@@ -779,7 +779,7 @@ nobody_came seen g k old n = record {
 
 -- an opening was refused in a round
 pub cut_off_by : {C R W : Type 0} {seen : C → Seen} {known : R × W → Known}
-    {g t t' t'' : Option (List (ClientsTold (R × W)))} {k k' : Option (List ℕ)} {old now : C} {n came turns : ℕ}
+    {g t t' t'' : Option (List (ClientsCall (R × W)))} {k k' : Option (List ℕ)} {old now : C} {n came turns : ℕ}
     {here : List (Client R W)} {tally : Tally} → Rounding seen known g t k k' old now n came here tally turns
     → HasMore t t' → HasRefused t' t''
     → HasRefused g t''
@@ -787,8 +787,8 @@ cut_off_by {g = g} {t} {t'} {t''} s more refused =
     refused_last g t' t'' (more_more (record { calls = s.crowd.calls; made = s.crowd.told }) more) refused
 
 -- clients were waited for, and some were given up
-pub waited_grows : {R W : Type 0} {t t' t'' : Option (List (ClientsTold (R × W)))} {given : List ℕ}
-    (calls : List (ClientsTold (R × W))) {here here' : List (Client R W)} → GrowsBy t t' calls
+pub waited_grows : {R W : Type 0} {t t' t'' : Option (List (ClientsCall (R × W)))} {given : List ℕ}
+    (calls : List (ClientsCall (R × W))) {here here' : List (Client R W)} → GrowsBy t t' calls
     → ((m : ℕ) → HaveMoved ⊥ given (record { told = t'; came = m; here = here })
     (record { told = t''; came = m; here = here' })) → HasMore t t''
 waited_grows {t' = t'} {t''} calls {here} {here'} waited leave =

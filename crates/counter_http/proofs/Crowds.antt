@@ -13,11 +13,11 @@ use Rattle.std.proofs.lemmas.Option.{slice_get_read}
 use Rattle.posting_rules.specs.declared.fault.Fault.{Fault}
 use Rattle.posting_rules.specs.believed.Counter.{Seen}
 use Rattle.posting_core.specs.believed.Batches.{joined}
-use Rattle.posting_core.specs.Told.{HasMore}
-use Rattle.posting_core.specs.believed.Told.{GrowsBy}
+use Rattle.posting_core.specs.EndCalls.{HasMore}
+use Rattle.posting_core.specs.believed.EndCalls.{GrowsBy}
 use Rattle.posting_core.proofs.StreamedBatches.{all_more}
 use Rattle.posting_core.proofs.Telling.{adds-more, adds-none, more_more, more_none}
-use Rattle.counter_http.specs.Clients.{ClientsTold, Closed, Gave, Gave_up, Refused, given_up_told}
+use Rattle.counter_http.specs.Clients.{ClientsCall, Closed, Gave, Gave_up, Refused, given_up_told}
 use Rattle.counter_http.specs.Connections.{Known}
 use Rattle.counter_http.specs.together.Crowd.{AreGivenUp, Closes, Comes, Differ, HasLeft, HaveMoved, IsCrowd, IsHere, Leaves}
 use Rattle.counter_http.specs.together.Crowd.{MayPart, Moves, Scene, Stays, WereRefused, all_numbers}
@@ -98,14 +98,14 @@ each_weaker P Q f (x ∷ xs) all = (f x all.0, each_weaker P Q f xs all.1)
 
 -- ---- calls
 
-openings-append : {E : Type 0} (xs ys : List (ClientsTold E)) → openings (xs ++ ys) ≡ openings xs ++ openings ys
+openings-append : {E : Type 0} (xs ys : List (ClientsCall E)) → openings (xs ++ ys) ≡ openings xs ++ openings ys
 openings-append [] ys = refl
 openings-append (Gave n e ∷ xs) ys = ap (λ (t : List (ℕ × _)). (n, e) ∷ t) (openings-append xs ys)
 openings-append (Closed n e ∷ xs) ys = openings-append xs ys
 openings-append (Refused kind ∷ xs) ys = openings-append xs ys
 openings-append (Gave_up n ∷ xs) ys = openings-append xs ys
 
-closings-append : {E : Type 0} (xs ys : List (ClientsTold E)) → closings (xs ++ ys) ≡ closings xs ++ closings ys
+closings-append : {E : Type 0} (xs ys : List (ClientsCall E)) → closings (xs ++ ys) ≡ closings xs ++ closings ys
 closings-append [] ys = refl
 closings-append (Gave n e ∷ xs) ys = closings-append xs ys
 closings-append (Closed n e ∷ xs) ys = ap (λ (t : List (ℕ × _)). (n, e) ∷ t) (closings-append xs ys)
@@ -115,13 +115,13 @@ closings-append (Gave_up n ∷ xs) ys = closings-append xs ys
 -- ---- those who are here and those who left, as more calls are made
 
 here_told : {R W : Type 0} {known : R × W → Known} {c c' : Seen} {steps : List Step} {fault : Option Fault}
-    {refused : List Step} (calls more : List (ClientsTold (R × W)))
+    {refused : List Step} (calls more : List (ClientsCall (R × W)))
     (client : Client R W) → IsHere known c c' steps fault refused calls client → IsHere known c c' steps fault refused (calls ++ more) client
 here_told calls more client is =
     record { given = is.given; came = Contains-append_left calls more _ is.came; stands = is.stands; told = is.told }
 
 -- and so was it said why
-why_told : {E : Type 0} (stops : Type 0) (calls more : List (ClientsTold E)) (n : ℕ) (p : Parting)
+why_told : {E : Type 0} (stops : Type 0) (calls more : List (ClientsCall E)) (n : ℕ) (p : Parting)
     → IsWhyParted stops calls n p → IsWhyParted stops (calls ++ more) n p
 why_told stops calls more n parting.GivenUp is = Contains-append_left calls more (Gave_up n) is
 why_told stops calls more n parting.Stopped is = is
@@ -132,13 +132,13 @@ why_told stops calls more n parting.Memory is = tt
 why_told stops calls more n (parting.Bank fault) is = tt
 
 visited_told : {E : Type 0} (stops : Type 0) (known : E → Known) (c c' : Seen) (steps : List Step) (fault : Option Fault)
-    (refused : List Step) (calls more : List (ClientsTold E))
+    (refused : List Step) (calls more : List (ClientsCall E))
     (v : Visit E) → HasLeft stops known c c' steps fault refused calls v
     → HasLeft stops known c c' steps fault refused (calls ++ more) v
 visited_told stops known c c' steps fault refused calls more v is =
     ((Contains-append_left calls more _ is.0.0, is.0.1), is.1, why_told stops calls more v.number v.parting is.2)
 
-given_told : {E : Type 0} (calls more : List (ClientsTold E)) (fault : Option Fault) (given : List ℕ)
+given_told : {E : Type 0} (calls more : List (ClientsCall E)) (fault : Option Fault) (given : List ℕ)
     → AreGivenUp fault calls given → AreGivenUp fault (calls ++ more) given
 given_told calls more (Some why) given none = none
 given_told calls more None given all =
@@ -215,11 +215,11 @@ numbers_more visits here here' client n is number =
     ∙ ap (λ (m : ℕ). map number_of visits ++ (numbers here ++ m ∷ [])) number
     ∙ sym (append_assoc (map number_of visits) (numbers here) (n ∷ []))
 
-pub crowd_comes : {R W : Type 0} {stops : Type 0} {given : List ℕ} {known : R × W → Known} {g : Option (List (ClientsTold (R × W)))} {c c' : Seen}
+pub crowd_comes : {R W : Type 0} {stops : Type 0} {given : List ℕ} {known : R × W → Known} {g : Option (List (ClientsCall (R × W)))} {c c' : Seen}
     {steps : List Step} {fault : Option Fault} {refused : List Step} {a : Scene R W} (b : Scene R W) → IsCrowd stops given known g c c' steps fault refused a → Comes a b
     → IsCrowd stops given known g c c' steps fault refused b
 crowd_comes {R} {W} {stops} {given} {known} {g} {c} {c'} {steps} {fault} {refused} {a} b crowd m =
-    let new : ClientsTold (R × W) = Gave a.came m.given in
+    let new : ClientsCall (R × W) = Gave a.came m.given in
     let calls = crowd.calls ++ new ∷ [] in
     let all = numbers_more crowd.visits a.here b.here m.client a.came m.here m.is.number_is in
     let one : IsHere known c c' steps fault refused calls m.client = record {
@@ -334,7 +334,7 @@ is_refused_cause stops n parting.Read may = absurd may
 is_refused_cause stops n parting.Write may = absurd may
 is_refused_cause stops n (parting.Bank why) may = absurd may
 
-cause_where : {E : Type 0} (s : Type 0) (calls : List (ClientsTold E)) (given : List ℕ) (n : ℕ) (cause : Parting)
+cause_where : {E : Type 0} (s : Type 0) (calls : List (ClientsCall E)) (given : List ℕ) (n : ℕ) (cause : Parting)
     (fault : Option Fault) (early : Type 0) → AreGivenUp fault calls given → (early → MayPart s given n cause)
     → IfRefused fault (early → IsRefusedCause cause)
 cause_where s calls given n cause None early to_give_up may = tt
@@ -342,7 +342,7 @@ cause_where s calls given n cause (Some why) early none may =
     λ is. is_refused_cause s n cause (subst (λ (ns : List ℕ). MayPart s ns n cause) none (may is))
 
 -- a wait said so, or clients are stopped
-may_why : {E : Type 0} (s stops : Type 0) (calls : List (ClientsTold E)) (given : List ℕ) (n : ℕ) (cause : Parting)
+may_why : {E : Type 0} (s stops : Type 0) (calls : List (ClientsCall E)) (given : List ℕ) (n : ℕ) (cause : Parting)
     (fault : Option Fault) → (s → stops) → AreGivenUp fault calls given → MayPart s given n cause
     → IsWhyParted stops calls n cause
 may_why s stops calls given n parting.Memory fault far to_give_up may = tt
@@ -358,7 +358,7 @@ may_why s stops calls given n parting.Write fault far to_give_up may = absurd ma
 may_why s stops calls given n (parting.Bank why) fault far to_give_up may = absurd may
 
 -- nobody who is here was given up or stopped
-own_why : {E : Type 0} (stops : Type 0) (calls : List (ClientsTold E)) (n : ℕ) (p : Parting) (left : List ℕ)
+own_why : {E : Type 0} (stops : Type 0) (calls : List (ClientsCall E)) (n : ℕ) (p : Parting) (left : List ℕ)
     → MayBeLeft p left → IsWhyParted stops calls n p
 own_why stops calls n parting.GivenUp left is = absurd is
 own_why stops calls n parting.Stopped left is = absurd is
@@ -369,7 +369,7 @@ own_why stops calls n parting.Memory left is = tt
 own_why stops calls n (parting.Bank fault) left is = tt
 
 left_why : {R W : Type 0} {known : R × W → Known} {k : Known} {c c' : Seen} {steps : List Step} {s stops : Type 0}
-    (calls : List (ClientsTold (R × W))) (given : List ℕ) (fault : Option Fault) (client : Client R W) (cause : Parting)
+    (calls : List (ClientsCall (R × W))) (given : List ℕ) (fault : Option Fault) (client : Client R W) (cause : Parting)
     (parts : R × W × Parting) → IsParting client cause parts → (s → stops) → AreGivenUp fault calls given
     → ((IsOver client → ⊥) → MayPart s given client.number cause) → StandsHere known k c c' steps client
     → IsWhyParted stops calls client.number parts.2
@@ -389,14 +389,14 @@ left_why {known = known} {k} {c} {c'} {steps} {s} {stops} calls given fault clie
     parted_left p left is = is.left
 
 -- its place is known
-left_one : {R W : Type 0} {stops : Type 0} {given : List ℕ} {known : R × W → Known} {g t' : Option (List (ClientsTold (R × W)))} {c c' : Seen}
-    {steps : List Step} {fault : Option Fault} {refused : List Step} (t : Option (List (ClientsTold (R × W)))) (came : ℕ) (before after : List (Client R W))
+left_one : {R W : Type 0} {stops : Type 0} {given : List ℕ} {known : R × W → Known} {g t' : Option (List (ClientsCall (R × W)))} {c c' : Seen}
+    {steps : List Step} {fault : Option Fault} {refused : List Step} (t : Option (List (ClientsCall (R × W)))) (came : ℕ) (before after : List (Client R W))
     (client : Client R W) {s : Type 0} (cause : Parting) → (s → stops)
     → IsCrowd stops given known g c c' steps fault refused (record { told = t; came = came; here = before ++ client ∷ after })
     → ((IsOver client → ⊥) → MayPart s given client.number cause) → Closes t t' client cause
     → IsCrowd stops given known g c c' steps fault refused (record { told = t'; came = came; here = before ++ after })
 left_one {R} {W} {stops} {given} {known} {g} {t'} {c} {c'} {steps} {fault} {refused} t came before after client {s} cause far crowd may closes =
-    let new : ClientsTold (R × W) = Closed client.number closes.left in
+    let new : ClientsCall (R × W) = Closed client.number closes.left in
     let calls = crowd.calls ++ new ∷ [] in
     let parts = without (IsHere known c c' steps fault refused crowd.calls) before after client crowd.are_here in
     let one : IsHere known c c' steps fault refused crowd.calls client = parts.0 in
@@ -462,7 +462,7 @@ left_one {R} {W} {stops} {given} {known} {g} {t'} {c} {c'} {steps} {fault} {refu
       );
     }
 
-pub crowd_leaves : {R W : Type 0} {stops : Type 0} {given : List ℕ} {known : R × W → Known} {g : Option (List (ClientsTold (R × W)))} {c c' : Seen}
+pub crowd_leaves : {R W : Type 0} {stops : Type 0} {given : List ℕ} {known : R × W → Known} {g : Option (List (ClientsCall (R × W)))} {c c' : Seen}
     {steps : List Step} {fault : Option Fault} {refused : List Step} {s : Type 0} {a : Scene R W} (b : Scene R W) → (s → stops)
     → IsCrowd stops given known g c c' steps fault refused a → Leaves s given a b
     → IsCrowd stops given known g c c' steps fault refused b
@@ -477,9 +477,9 @@ crowd_leaves {R} {W} {stops} {given} {known} {g} {c} {c'} {steps} {fault} {refus
 
 -- ---- nobody comes or leaves
 
-waited : {R W : Type 0} {stops : Type 0} {given : List ℕ} {known : R × W → Known} {g t' : Option (List (ClientsTold (R × W)))} {c c' : Seen}
-    {steps : List Step} {fault : Option Fault} {refused : List Step} (t : Option (List (ClientsTold (R × W)))) (came : ℕ) (here : List (Client R W))
-    (more : List (ClientsTold (R × W))) (given' : List ℕ)
+waited : {R W : Type 0} {stops : Type 0} {given : List ℕ} {known : R × W → Known} {g t' : Option (List (ClientsCall (R × W)))} {c c' : Seen}
+    {steps : List Step} {fault : Option Fault} {refused : List Step} (t : Option (List (ClientsCall (R × W)))) (came : ℕ) (here : List (Client R W))
+    (more : List (ClientsCall (R × W))) (given' : List ℕ)
     (crowd : IsCrowd stops given known g c c' steps fault refused (record { told = t; came = came; here = here }))
     → AreGivenUp fault (crowd.calls ++ more) given' → GrowsBy t t' more → openings more ≡ [] → closings more ≡ []
     → IsCrowd stops given' known g c c' steps fault refused (record { told = t'; came = came; here = here })
@@ -505,7 +505,7 @@ waited {R} {W} {stops} {given} {known} {g} {t'} {c} {c'} {steps} {fault} {refuse
       many = crowd.many;
     }
 
-pub crowd_stays : {R W : Type 0} {stops : Type 0} {given : List ℕ} {known : R × W → Known} {g : Option (List (ClientsTold (R × W)))} {c c' : Seen}
+pub crowd_stays : {R W : Type 0} {stops : Type 0} {given : List ℕ} {known : R × W → Known} {g : Option (List (ClientsCall (R × W)))} {c c' : Seen}
     {steps : List Step} {fault : Option Fault} {refused : List Step} {a : Scene R W} (b : Scene R W) → IsCrowd stops given known g c c' steps fault refused a → Stays a b
     → IsCrowd stops given known g c c' steps fault refused b
 crowd_stays {R} {W} {stops} {given} {known} {g} {c} {c'} {steps} {fault} {refused} {a} b crowd m =
@@ -523,17 +523,17 @@ none_closed : {E : Type 0} (ns : List ℕ) → closings {E = E} (given_up_told n
 none_closed [] = refl
 none_closed (n ∷ ns) = none_closed ns
 
-all_said : {E : Type 0} (calls : List (ClientsTold E)) (ns : List ℕ)
+all_said : {E : Type 0} (calls : List (ClientsCall E)) (ns : List ℕ)
     → AllByRecursion (λ (n : ℕ). Contains (calls ++ given_up_told ns) (Gave_up n)) ns
 all_said calls [] = tt
 all_said {E} calls (n ∷ ns) = (
   Contains-append_right calls (Gave_up n ∷ given_up_told ns) (Gave_up n) (0, omega arith, refl),
-  subst (λ (x : List (ClientsTold E)). AllByRecursion (λ (m : ℕ). Contains x (Gave_up m)) ns)
+  subst (λ (x : List (ClientsCall E)). AllByRecursion (λ (m : ℕ). Contains x (Gave_up m)) ns)
       (append_assoc calls (Gave_up n ∷ []) (given_up_told ns)) (all_said (calls ++ Gave_up n ∷ []) ns),
 )
 
 -- a wait says whom to give up
-pub crowd_waits : {R W : Type 0} {stops : Type 0} {known : R × W → Known} {g t t' : Option (List (ClientsTold (R × W)))}
+pub crowd_waits : {R W : Type 0} {stops : Type 0} {known : R × W → Known} {g t t' : Option (List (ClientsCall (R × W)))}
     {c c' : Seen} {steps : List Step} {came : ℕ} {here : List (Client R W)} (ns : List ℕ)
     → GrowsBy t t' (given_up_told ns)
     → IsCrowd stops [] known g c c' steps None [] (record { told = t; came = came; here = here })
@@ -541,13 +541,13 @@ pub crowd_waits : {R W : Type 0} {stops : Type 0} {known : R × W → Known} {g 
 crowd_waits {t = t} {came = came} {here = here} ns told crowd =
     waited t came here (given_up_told ns) ns crowd (all_said crowd.calls ns) told (none_opened ns) (none_closed ns)
 
-pub none_given : {E : Type 0} (fault : Option Fault) (calls : List (ClientsTold E)) → AreGivenUp fault calls []
+pub none_given : {E : Type 0} (fault : Option Fault) (calls : List (ClientsCall E)) → AreGivenUp fault calls []
 none_given None calls = tt
 none_given (Some why) calls = refl
 
 -- nobody is to be given up any more
 pub crowd_on : {R W : Type 0} {stops : Type 0} {given : List ℕ} {known : R × W → Known}
-    {g : Option (List (ClientsTold (R × W)))} {c c' : Seen} {steps : List Step} {fault : Option Fault} {refused : List Step}
+    {g : Option (List (ClientsCall (R × W)))} {c c' : Seen} {steps : List Step} {fault : Option Fault} {refused : List Step}
     {a : Scene R W} → IsCrowd stops given known g c c' steps fault refused a
     → IsCrowd stops [] known g c c' steps fault refused a
 crowd_on {fault = fault} crowd = record {
@@ -566,7 +566,7 @@ crowd_on {fault = fault} crowd = record {
 }
 
 -- clients may be stopped from now on
-why_stopped : {E : Type 0} {s stops : Type 0} (calls : List (ClientsTold E)) (n : ℕ) (p : Parting) → (s → stops)
+why_stopped : {E : Type 0} {s stops : Type 0} (calls : List (ClientsCall E)) (n : ℕ) (p : Parting) → (s → stops)
     → IsWhyParted s calls n p → IsWhyParted stops calls n p
 why_stopped calls n parting.GivenUp far is = is
 why_stopped calls n parting.Stopped far is = far is
@@ -577,7 +577,7 @@ why_stopped calls n parting.Memory far is = tt
 why_stopped calls n (parting.Bank fault) far is = tt
 
 pub crowd_stops : {R W : Type 0} {s stops : Type 0} {given : List ℕ} {known : R × W → Known}
-    {g : Option (List (ClientsTold (R × W)))} {c c' : Seen} {steps : List Step} {fault : Option Fault} {refused : List Step}
+    {g : Option (List (ClientsCall (R × W)))} {c c' : Seen} {steps : List Step} {fault : Option Fault} {refused : List Step}
     {a : Scene R W} → (s → stops) → IsCrowd s given known g c c' steps fault refused a
     → IsCrowd stops given known g c c' steps fault refused a
 crowd_stops {s = s} {stops} {known = known} {c = c} {c'} {steps} {fault} {refused} far crowd = record {
@@ -599,7 +599,7 @@ crowd_stops {s = s} {stops} {known = known} {c = c} {c'} {steps} {fault} {refuse
 
 -- ---- one after another
 
-crowd_by : {R W : Type 0} {stops : Type 0} {given : List ℕ} {known : R × W → Known} {g : Option (List (ClientsTold (R × W)))} {c c' : Seen}
+crowd_by : {R W : Type 0} {stops : Type 0} {given : List ℕ} {known : R × W → Known} {g : Option (List (ClientsCall (R × W)))} {c c' : Seen}
     {steps : List Step} {fault : Option Fault} {refused : List Step} {s : Type 0} (far : s → stops) (ms : List (Scene R W)) (a b : Scene R W)
     → Moves s given ms a b → IsCrowd stops given known g c c' steps fault refused a
     → IsCrowd stops given known g c c' steps fault refused b
@@ -614,7 +614,7 @@ crowd_by far (m ∷ ms) a b moves crowd =
       ]
     ])
 
-pub crowd_moved : {R W : Type 0} {stops : Type 0} {given : List ℕ} {known : R × W → Known} {g : Option (List (ClientsTold (R × W)))} {c c' : Seen}
+pub crowd_moved : {R W : Type 0} {stops : Type 0} {given : List ℕ} {known : R × W → Known} {g : Option (List (ClientsCall (R × W)))} {c c' : Seen}
     {steps : List Step} {fault : Option Fault} {refused : List Step} {s : Type 0} {a b : Scene R W} → (s → stops) → HaveMoved s given a b
     → IsCrowd stops given known g c c' steps fault refused a → IsCrowd stops given known g c c' steps fault refused b
 crowd_moved {a = a} {b} far moved crowd = crowd_by far moved.scenes a b moved.moves crowd
@@ -642,7 +642,7 @@ all_stay {b = b} same = record { scenes = b ∷ []; moves = (inr (inr same), ref
 -- ---- the moves of the loops
 
 -- the one at a place left
-pub left_at : {R W : Type 0} {s : Type 0} {given : List ℕ} {t t' : Option (List (ClientsTold (R × W)))}
+pub left_at : {R W : Type 0} {s : Type 0} {given : List ℕ} {t t' : Option (List (ClientsCall (R × W)))}
     (here here' : List (Client R W)) (place : ℕ) (client : Client R W) (cause : Parting) → place < length here
     → client ≡ get_or here place client → here' ≡ take place here ++ drop (place + 1) here
     → ((IsOver client → ⊥) → MayPart s given client.number cause) → Closes t t' client cause
@@ -670,7 +670,7 @@ over_at here place looked removed within is same over =
     subst (λ (x : Client _ _). IsOver x) (cc (one, two)) over
 
 -- the last one left
-pub left_last : {R W : Type 0} {s : Type 0} {given : List ℕ} {t t' : Option (List (ClientsTold (R × W)))}
+pub left_last : {R W : Type 0} {s : Type 0} {given : List ℕ} {t t' : Option (List (ClientsCall (R × W)))}
     (here here' : List (Client R W)) (client : Client R W) (cause : Parting) → here ≡ here' ++ client ∷ []
     → MayPart s given client.number cause → Closes t t' client cause
     → (came : ℕ) → HaveMoved s given (record { told = t; came = came; here = here }) (record { told = t'; came = came; here = here' })
@@ -691,7 +691,7 @@ some_last here here' x is none =
     absurd (omega (arith, ap length is, length-append here' (x ∷ []), ap length none))
 
 -- one came in
-pub came_in : {R W : Type 0} {s : Type 0} {given : List ℕ} {t t' : Option (List (ClientsTold (R × W)))} (came came' : ℕ) (here here' : List (Client R W))
+pub came_in : {R W : Type 0} {s : Type 0} {given : List ℕ} {t t' : Option (List (ClientsCall (R × W)))} (came came' : ℕ) (here here' : List (Client R W))
     (ends : R × W) (client : Client R W) → IsNew came ends.0 ends.1 client → here' ≡ here ++ client ∷ []
     → came' ≡ came + 1 → GrowsBy t t' (Gave came ends ∷ [])
     → HaveMoved s given (record { told = t; came = came; here = here }) (record { told = t'; came = came'; here = here' })
@@ -705,7 +705,7 @@ came_in came came' here here' ends client is more next told = one_comes (record 
 })
 
 -- there was no memory for it, and it left at once
-pub turned_away : {R W : Type 0} {s : Type 0} {given : List ℕ} {t t' t'' : Option (List (ClientsTold (R × W)))} (came came' : ℕ)
+pub turned_away : {R W : Type 0} {s : Type 0} {given : List ℕ} {t t' t'' : Option (List (ClientsCall (R × W)))} (came came' : ℕ)
     (here here' : List (Client R W)) (ends : R × W) (client other : Client R W) → IsNew came ends.0 ends.1 client
     → other ≡ client → here' ≡ here → came' ≡ came + 1 → GrowsBy t t' (Gave came ends ∷ [])
     → Closes t' t'' other parting.Memory
@@ -717,8 +717,8 @@ turned_away {R} {W} {s} {given} {t} {t'} {t''} came came' here here' ends client
     (subst (λ (x : Client R W). Closes t' t'' x parting.Memory) same closes) came')
 
 -- nobody came
-pub nobody_came_in : {R W : Type 0} {s : Type 0} {given : List ℕ} {t t' : Option (List (ClientsTold (R × W)))} (came : ℕ) (here : List (Client R W))
-    (calls : List (ClientsTold (R × W))) → openings calls ≡ [] → closings calls ≡ [] → GrowsBy t t' calls
+pub nobody_came_in : {R W : Type 0} {s : Type 0} {given : List ℕ} {t t' : Option (List (ClientsCall (R × W)))} (came : ℕ) (here : List (Client R W))
+    (calls : List (ClientsCall (R × W))) → openings calls ≡ [] → closings calls ≡ [] → GrowsBy t t' calls
     → HaveMoved s given (record { told = t; came = came; here = here }) (record { told = t'; came = came; here = here })
 nobody_came_in came here calls none_came none_left told = all_stay (record {
   calls = calls;
@@ -744,7 +744,7 @@ all_grow s given (m ∷ ms) a b moves = more_more (one_grows a m moves.0) (all_g
 pub moved_grows : {R W : Type 0} {s : Type 0} {given : List ℕ} (a b : Scene R W) → HaveMoved s given a b → HasMore a.told b.told
 moved_grows {s = s} {given} a b moved = all_grow s given moved.scenes a b moved.moves
 
-pub one_refused : {E : Type 0} (a b : Option (List (ClientsTold E))) (kind : ErrorKind)
+pub one_refused : {E : Type 0} (a b : Option (List (ClientsCall E))) (kind : ErrorKind)
     → GrowsBy a b (Refused kind ∷ []) → HasRefused a b
 one_refused a b kind told = record {
   calls = Refused kind ∷ [];
@@ -753,7 +753,7 @@ one_refused a b kind told = record {
   one = (0, omega arith, refl);
 }
 
-pub refused_last : {E : Type 0} (a b d : Option (List (ClientsTold E))) → HasMore a b → HasRefused b d → HasRefused a d
+pub refused_last : {E : Type 0} (a b d : Option (List (ClientsCall E))) → HasMore a b → HasRefused b d → HasRefused a d
 refused_last a b d grown refused = record {
   calls = grown.calls ++ refused.calls;
   told = adds-more a b d grown.calls refused.calls grown.made refused.told;
@@ -761,7 +761,7 @@ refused_last a b d grown refused = record {
   one = Contains-append_right grown.calls refused.calls (Refused refused.kind) refused.one;
 }
 
-pub refused_first : {E : Type 0} (a b d : Option (List (ClientsTold E))) → HasRefused a b → HasMore b d → HasRefused a d
+pub refused_first : {E : Type 0} (a b d : Option (List (ClientsCall E))) → HasRefused a b → HasMore b d → HasRefused a d
 refused_first a b d refused grown = record {
   calls = refused.calls ++ grown.calls;
   told = adds-more a b d refused.calls grown.calls refused.told grown.made;

@@ -6,7 +6,7 @@ use Rattle.std.specs.Prelude.{◌⊎◌, OnOk}
 use Rattle.std.proofs.lemmas.List.{length-append, take-append-drop, Concat.flat_map-append}
 use Rattle.posting_rules.specs.believed.{Commands.Command, Counter.Seen}
 use Rattle.posting_rules.proofs.Remaining.{leaves_weaker}
-use Rattle.posting_core.specs.believed.{Batches.joined, Stream.acknowledged, Told.ReadTold}
+use Rattle.posting_core.specs.believed.{Batches.joined, Stream.acknowledged, EndCalls.ReadCall}
 use Rattle.posting_core.proofs.Stops.{at_least}
 use Rattle.counter_http.specs.{declared.fault.ServeFault.ServeFault, believed.Ends.HasEnded}
 use Rattle.counter_http.specs.declared.fault.ServeFault.TheVariants.{Read, Write, Bank, Memory}
@@ -157,7 +157,7 @@ one_front_of log moments input text other a b =
     ∙ sym b.text_is
 
 -- the text that the result speaks of
-text_for : {C : Type 0} (seen : C → Seen) {r r' : Option (List ℕ)} {q q' : Option (List ReadTold)}
+text_for : {C : Type 0} (seen : C → Seen) {r r' : Option (List ℕ)} {q q' : Option (List ReadCall)}
     {w w' k k' : Option (List ℕ)} (old new : C) (result : Result ℕ ServeFault)
     (s : ServesConnection seen r r' q q' w w' k k' old new result) (log : List Command)
     → IsTextFor result log (moments_of (s.taken ++ s.refused)) (texts_of (s.taken ++ s.refused) ++ s.rest)
@@ -195,7 +195,7 @@ written_for (Err Write) w w' written text wrote is =
     (length written, subst (λ (x : List ℕ). Appends w w' x) is wrote)
 written_for other w w' written text wrote is = subst (λ (x : List ℕ). Appends w w' x) is wrote
 
-ended_for : {C : Type 0} (seen : C → Seen) {r r' : Option (List ℕ)} {q q' : Option (List ReadTold)}
+ended_for : {C : Type 0} (seen : C → Seen) {r r' : Option (List ℕ)} {q q' : Option (List ReadCall)}
     {w w' k k' : Option (List ℕ)} (old new : C) (result : Result ℕ ServeFault)
     (s : ServesConnection seen r r' q q' w w' k k' old new result)
     → OnOk result (HasEnded r' q q' ⊎ IsSettled (texts_of (s.taken ++ s.refused) ++ s.rest))
@@ -206,7 +206,7 @@ ended_for seen old new (Ok count) s =
     ]
 ended_for seen old new (Err fault) s = tt
 
-pub output_of : {C : Type 0} (seen : C → Seen) {r r' : Option (List ℕ)} {q q' : Option (List ReadTold)}
+pub output_of : {C : Type 0} (seen : C → Seen) {r r' : Option (List ℕ)} {q q' : Option (List ReadCall)}
     {w w' k k' : Option (List ℕ)} (old new : C) (result : Result ℕ ServeFault)
     → ServesConnection seen r r' q q' w w' k k' old new result
     → OutputsAnswers r r' q q' w w' k k' (seen old) (seen new) result
@@ -237,7 +237,7 @@ commands_of_first n ts =
     let len = ap length (sym split ∙ all) in
     omega (arith, len, length-append (commands_of (take n ts)) (commands_of (drop n ts)))
 
-pub survives_of : {C : Type 0} (seen : C → Seen) {r r' : Option (List ℕ)} {q q' : Option (List ReadTold)}
+pub survives_of : {C : Type 0} (seen : C → Seen) {r r' : Option (List ℕ)} {q q' : Option (List ReadCall)}
     {w w' k k' : Option (List ℕ)} (old new : C) (result : Result ℕ ServeFault)
     → ServesConnection seen r r' q q' w w' k k' old new result
     → SurvivesServing r r' w w' (seen old) (seen new)

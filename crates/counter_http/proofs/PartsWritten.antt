@@ -9,7 +9,7 @@ use Rattle.std.proofs.lemmas.List.{length-append, length-take, take_all, take-ap
 use Rattle.std.proofs.lemmas.List.{length-take-le}
 use Rattle.std.proofs.lemmas.Result.{on_ok_weaker}
 use Rattle.http.specs.StatusCode.{reason_phrase, code_digits}
-use Rattle.posting_core.specs.Told.{WriteTold}
+use Rattle.posting_core.specs.EndCalls.{WriteCall}
 use Rattle.counter_http.specs.believed.Answers.{Answer, status_words, allow_line, close_line, answer_text, bare}
 use Rattle.counter_http.specs.{declared.fault.ServeFault.ServeFault, declared.fault.ServeFault.TheVariants.Write}
 use Rattle.counter_http.specs.{Ends.SendsAs, Turns.IsSentAs, Turns.IsWrittenTo}
@@ -223,7 +223,7 @@ unfolding status_words
 bad_request = refl
 
 -- one text in place of another
-pub told_text : {w w' : Option (List ℕ)} {v v' : Option (List WriteTold)} {x y : List ℕ}
+pub told_text : {w w' : Option (List ℕ)} {v v' : Option (List WriteCall)} {x y : List ℕ}
     (r : Result (Unit {0}) ServeFault) → x ≡ y → IsWrittenTo w w' x r → OnErr r (IsErrOf r Write)
     → SendsAs r v v' → IsSentAs w w' v v' y r
 told_text {w = w} {w' = w'} r e t fault ends = record

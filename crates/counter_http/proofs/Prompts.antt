@@ -8,8 +8,8 @@ use Rattle.std.proofs.{lemmas.List.Concat.flat_map-append, lemmas.List.length-ap
 use Rattle.std.proofs.{lemmas.List.take-append-le, Math.Seq.get_or-append_seam, Math.Seq.take-append_seam}
 use Rattle.posting_rules.specs.{believed.Commands.Command, believed.Counter.Seen, declared.fault.Fault.Fault}
 use Rattle.posting_core.specs.{Stream.given, believed.Batches.joined}
-use Rattle.posting_core.specs.believed.{Clock.AreReadings, Told.GrowsBy, Told.ReadTold}
-use Rattle.posting_core.specs.Told.{Beside, IsThrough, WriteTold, read_told, unknown}
+use Rattle.posting_core.specs.believed.{Clock.AreReadings, EndCalls.GrowsBy, EndCalls.ReadCall}
+use Rattle.posting_core.specs.EndCalls.{Beside, IsThrough, WriteCall, read_call, unknown}
 use Rattle.posting_core.proofs.ReadsFollowed.{gave_none, gave_some, given-append}
 use Rattle.posting_core.proofs.Telling.{adds-more, adds-none}
 use Rattle.counter_http.specs.{Outputs.AnswersWhole, believed.Serving.BeginsWithNoMessage, Next.asked, Next.IsWhole}
@@ -35,7 +35,7 @@ whole_so_far rest g none log = record {
 }
 
 -- all whole messages that were read are answered
-holds_now : {r r' w w' k k' : Option (List ℕ)} {c c' : Seen} {count : ℕ} {t t' : Option (List WriteTold)}
+holds_now : {r r' w w' k k' : Option (List ℕ)} {c c' : Seen} {count : ℕ} {t t' : Option (List WriteCall)}
     (rest : List ℕ) (g : Going r r' w w' k k' c c' rest count) → BeginsWithNoMessage rest → IsThrough t t'
     → HoldsAnswers w t c c' (moments_of g.turns) (texts_of g.turns ++ rest) (record { contents = w'; told = t' })
 holds_now {w = w} {w' = w'} rest g none through = record {
@@ -47,7 +47,7 @@ holds_now {w = w} {w' = w'} rest g none through = record {
   through = through;
 }
 
-holds_as : {w : Option (List ℕ)} {t : Option (List WriteTold)} {c c' : Seen} {moments input input' : List ℕ}
+holds_as : {w : Option (List ℕ)} {t : Option (List WriteCall)} {c c' : Seen} {moments input input' : List ℕ}
     {sink sink' : Beside} → input ≡ input' → sink ≡ sink' → HoldsAnswers w t c c' moments input sink
     → HoldsAnswers w t c c' moments input' sink'
 holds_as {w} {t} {c} {c'} {moments} {input} {input'} {sink} {sink'} one two h =
@@ -73,7 +73,7 @@ whole_later more a = record {
 
 -- ---- one read more
 
-pub given_front : (n : ℕ) (xs : List ReadTold) → given (take n xs) ≤ given xs
+pub given_front : (n : ℕ) (xs : List ReadCall) → given (take n xs) ≤ given xs
 given_front n xs =
     let all = ap given (take-append-drop n xs) in
     omega (arith, all, given-append (take n xs) (drop n xs))
@@ -82,8 +82,8 @@ pub before_or_last : (n m : ℕ) → n < m + 1 → (n < m) ⊎ (n ≡ m)
 before_or_last n m below = grind arith
 
 -- of a read that was made before
-as_before : {w : Option (List ℕ)} {t : Option (List WriteTold)} {c c' : Seen} (reads : List ReadTold)
-    (sinks : List Beside) {moments : List ℕ} (input bytes : List ℕ) (x : ReadTold) (sink : Beside) (n : ℕ)
+as_before : {w : Option (List ℕ)} {t : Option (List WriteCall)} {c c' : Seen} (reads : List ReadCall)
+    (sinks : List Beside) {moments : List ℕ} (input bytes : List ℕ) (x : ReadCall) (sink : Beside) (n : ℕ)
     → given reads ≡ length input → length sinks ≡ length reads → n < length reads
     → HoldsAnswers w t c c' moments (take (given (take n reads)) input) (get_or sinks n unknown)
     → HoldsAnswers w t c c' moments (take (given (take n (reads ++ x ∷ []))) (input ++ bytes))
@@ -92,27 +92,27 @@ as_before reads sinks input bytes x sink n long each below h =
     let few : given (take n reads) ≤ length input = omega (arith, given_front n reads, long) in
     let inside : n < length sinks = omega (arith, each, below) in
     let upto : n ≤ length reads = omega (arith, below) in
-    holds_as (sym (ap (λ (ts : List ReadTold). take (given ts) (input ++ bytes))
+    holds_as (sym (ap (λ (ts : List ReadCall). take (given ts) (input ++ bytes))
     (take-append-le n reads (x ∷ []) upto)
     ∙ take-append-le (given (take n reads)) input bytes few))
     (sym (get_or_append_left sinks (sink ∷ []) unknown n inside)) h
 
 -- of the read itself
-as_last : {w : Option (List ℕ)} {t : Option (List WriteTold)} {c c' : Seen} (reads : List ReadTold)
-    (sinks : List Beside) {moments : List ℕ} (input bytes : List ℕ) (x : ReadTold) (sink : Beside) (n : ℕ)
+as_last : {w : Option (List ℕ)} {t : Option (List WriteCall)} {c c' : Seen} (reads : List ReadCall)
+    (sinks : List Beside) {moments : List ℕ} (input bytes : List ℕ) (x : ReadCall) (sink : Beside) (n : ℕ)
     → given reads ≡ length input → length sinks ≡ length reads → n ≡ length reads
     → HoldsAnswers w t c c' moments input sink
     → HoldsAnswers w t c c' moments (take (given (take n (reads ++ x ∷ []))) (input ++ bytes))
     (get_or (sinks ++ sink ∷ []) n unknown)
 as_last reads sinks input bytes x sink n long each is h =
     holds_as (sym (ap (λ (m : ℕ). take (given (take m (reads ++ x ∷ []))) (input ++ bytes)) is
-    ∙ ap (λ (ts : List ReadTold). take (given ts) (input ++ bytes)) (take-append_seam reads (x ∷ []))
+    ∙ ap (λ (ts : List ReadCall). take (given ts) (input ++ bytes)) (take-append_seam reads (x ∷ []))
     ∙ ap (λ (m : ℕ). take m (input ++ bytes)) long ∙ take-append_seam input bytes))
     (sym (ap (λ (m : ℕ). get_or (sinks ++ sink ∷ []) m unknown) (is ∙ sym each)
     ∙ get_or-append_seam sinks sink [] unknown)) h
 
-one_read : {q q' q'' : Option (List ReadTold)} {b b' b'' : Option (List Beside)} {w : Option (List ℕ)}
-    {t : Option (List WriteTold)} {c c' : Seen} {moments : List ℕ} (input bytes : List ℕ) (x : ReadTold)
+one_read : {q q' q'' : Option (List ReadCall)} {b b' b'' : Option (List Beside)} {w : Option (List ℕ)}
+    {t : Option (List WriteCall)} {c c' : Seen} {moments : List ℕ} (input bytes : List ℕ) (x : ReadCall)
     (sink : Beside)
     → AnswersBeforeReads q q' b b' w t c c' moments input → HoldsAnswers w t c c' moments input sink
     → GrowsBy q' q'' (x ∷ []) → GrowsBy b' b'' (sink ∷ []) → given (x ∷ []) ≡ length bytes
@@ -134,14 +134,14 @@ one_read {q} {q'} {q''} {b} {b'} {b''} {w} {t} {c} {c'} input bytes x sink p hol
 -- ---- where the loop stands
 
 -- what was done so far, and what stood written as each read was made
-pub record Prompted (r r' : Option (List ℕ)) (q q' : Option (List ReadTold)) (b b' : Option (List Beside))
-    (w w' : Option (List ℕ)) (t : Option (List WriteTold)) (k k' : Option (List ℕ)) (c c' : Seen)
+pub record Prompted (r r' : Option (List ℕ)) (q q' : Option (List ReadCall)) (b b' : Option (List Beside))
+    (w w' : Option (List ℕ)) (t : Option (List WriteCall)) (k k' : Option (List ℕ)) (c c' : Seen)
     (rest : List ℕ) (count : ℕ) : Type 0 where
   pub going : Going r r' w w' k k' c c' rest count
   pub before : AnswersBeforeReads q q' b b' w t c c' (moments_of going.turns) (texts_of going.turns ++ rest)
 
-pub none_read : (q : Option (List ReadTold)) (b : Option (List Beside)) {w : Option (List ℕ)}
-    {t : Option (List WriteTold)} {c c' : Seen} {moments : List ℕ} → AnswersBeforeReads q q b b w t c c' moments []
+pub none_read : (q : Option (List ReadCall)) (b : Option (List Beside)) {w : Option (List ℕ)}
+    {t : Option (List WriteCall)} {c c' : Seen} {moments : List ℕ} → AnswersBeforeReads q q b b w t c c' moments []
 none_read q b = record {
   reads = [];
   made = adds-none q;
@@ -153,8 +153,8 @@ none_read q b = record {
 }
 
 -- the bank went on
-goes_to : {q q' : Option (List ReadTold)} {b b' : Option (List Beside)} {w : Option (List ℕ)}
-    {t : Option (List WriteTold)} {c c' c'' : Seen} {moments input input' : List ℕ} → input ≡ input'
+goes_to : {q q' : Option (List ReadCall)} {b b' : Option (List Beside)} {w : Option (List ℕ)}
+    {t : Option (List WriteCall)} {c c' c'' : Seen} {moments input input' : List ℕ} → input ≡ input'
     → (c''.honest → c'.honest) → AnswersBeforeReads q q' b b' w t c c' moments input
     → AnswersBeforeReads q q' b b' w t c c'' moments input'
 goes_to {q} {q'} {b} {b'} {w} {t} {c} {c'} {c''} {moments} same honest p =
@@ -172,8 +172,8 @@ goes_to {q} {q'} {b} {b'} {w} {t} {c} {c'} {c''} {moments} same honest p =
     })
 
 -- and so did the clock
-goes_later : {q q' : Option (List ReadTold)} {b b' : Option (List Beside)} {w : Option (List ℕ)}
-    {t : Option (List WriteTold)} {c c' : Seen} {moments input : List ℕ} (more : List ℕ)
+goes_later : {q q' : Option (List ReadCall)} {b b' : Option (List Beside)} {w : Option (List ℕ)}
+    {t : Option (List WriteCall)} {c c' : Seen} {moments input : List ℕ} (more : List ℕ)
     → AnswersBeforeReads q q' b b' w t c c' moments input → AnswersBeforeReads q q' b b' w t c c' (moments ++ more) input
 goes_later more p = record {
   reads = p.reads;
@@ -188,15 +188,15 @@ goes_later more p = record {
   };
 }
 
-moments_as : {q q' : Option (List ReadTold)} {b b' : Option (List Beside)} {w : Option (List ℕ)}
-    {t : Option (List WriteTold)} {c c' : Seen} {moments moments' input : List ℕ} → moments ≡ moments'
+moments_as : {q q' : Option (List ReadCall)} {b b' : Option (List Beside)} {w : Option (List ℕ)}
+    {t : Option (List WriteCall)} {c c' : Seen} {moments moments' input : List ℕ} → moments ≡ moments'
     → AnswersBeforeReads q q' b b' w t c c' moments input → AnswersBeforeReads q q' b b' w t c c' moments' input
 moments_as {q} {q'} {b} {b'} {w} {t} {c} {c'} {moments} {moments'} {input} same p =
     subst (λ (ms : List ℕ). AnswersBeforeReads q q' b b' w t c c' ms input) same p
 
 -- of all that was read so far
-pub prompt_so_far : {r r' : Option (List ℕ)} {q q' : Option (List ReadTold)} {b b' : Option (List Beside)}
-    {w w' : Option (List ℕ)} {t : Option (List WriteTold)} {k k' k'' : Option (List ℕ)} {c c' c'' : Seen}
+pub prompt_so_far : {r r' : Option (List ℕ)} {q q' : Option (List ReadCall)} {b b' : Option (List Beside)}
+    {w w' : Option (List ℕ)} {t : Option (List WriteCall)} {k k' k'' : Option (List ℕ)} {c c' c'' : Seen}
     {rest : List ℕ} {count : ℕ} (more : List ℕ) → AreReadings k' k'' more → (c''.honest → c'.honest)
     → Prompted r r' q q' b b' w w' t k k' c c' rest count
     → IsPrompt r r' q q' b b' w t k k'' c c''
@@ -209,8 +209,8 @@ prompt_so_far {k = k} {k' = k'} {k'' = k''} {rest = rest} more clock honest p = 
 }
 
 -- nothing was read
-pub prompt_none : {r : Option (List ℕ)} {q : Option (List ReadTold)} {b : Option (List Beside)}
-    {w : Option (List ℕ)} {t : Option (List WriteTold)} {k : Option (List ℕ)} {c c' : Seen}
+pub prompt_none : {r : Option (List ℕ)} {q : Option (List ReadCall)} {b : Option (List Beside)}
+    {w : Option (List ℕ)} {t : Option (List WriteCall)} {k : Option (List ℕ)} {c c' : Seen}
     → IsPrompt r r q q b b w t k k c c'
 prompt_none {r = r} {q = q} {b = b} = record {
   input = [];
@@ -222,8 +222,8 @@ prompt_none {r = r} {q = q} {b = b} = record {
 
 -- ---- step by step
 
-pub prompted_first : {r : Option (List ℕ)} {q : Option (List ReadTold)} {b : Option (List Beside)}
-    {w : Option (List ℕ)} {t : Option (List WriteTold)} {k : Option (List ℕ)} {c : Seen} (rest : List ℕ)
+pub prompted_first : {r : Option (List ℕ)} {q : Option (List ReadCall)} {b : Option (List Beside)}
+    {w : Option (List ℕ)} {t : Option (List WriteCall)} {k : Option (List ℕ)} {c : Seen} (rest : List ℕ)
     → rest ≡ [] → Prompted r r q q b b w w t k k c c rest 0
 unfolding going_first
 prompted_first {q = q} {b = b} {c = c} rest none = record {
@@ -236,7 +236,7 @@ pub record HasRead (r r' : Option (List ℕ)) (told : Result ℕ Error) (rest al
   pub bytes : List ℕ
   pub got : Consumes r r' bytes
   pub all_is : all ≡ rest ++ bytes
-  pub long : given (read_told told ∷ []) ≡ length bytes
+  pub long : given (read_call told ∷ []) ≡ length bytes
 
 bytes_long : (old new bytes : List ℕ) (filled n : ℕ) → take (filled + n) new ≡ take filled old ++ bytes
     → filled + n ≤ length new → filled ≤ length old → length bytes ≡ n
@@ -272,11 +272,11 @@ has_failed {r} {r'} old new filled filled' told e is kept place = record {
 }
 
 -- one read more, before which all whole messages were answered
-pub read_on : {r r' r'' : Option (List ℕ)} {q q' q'' : Option (List ReadTold)}
-    {b b' b'' : Option (List Beside)} {w w' : Option (List ℕ)} {t t' : Option (List WriteTold)}
+pub read_on : {r r' r'' : Option (List ℕ)} {q q' q'' : Option (List ReadCall)}
+    {b b' b'' : Option (List Beside)} {w w' : Option (List ℕ)} {t t' : Option (List WriteCall)}
     {k k' : Option (List ℕ)} {c c' : Seen} {count : ℕ} (rest all : List ℕ) (told : Result ℕ Error)
     → Prompted r r' q q' b b' w w' t k k' c c' rest count → BeginsWithNoMessage rest → IsThrough t t'
-    → HasRead r' r'' told rest all → GrowsBy q' q'' (read_told told ∷ [])
+    → HasRead r' r'' told rest all → GrowsBy q' q'' (read_call told ∷ [])
     → GrowsBy b' b'' (record { contents = w'; told = t' } ∷ [])
     → Prompted r r'' q q'' b b'' w w' t k k' c c' all count
 unfolding going_read
@@ -286,14 +286,14 @@ read_on rest all told p none through read tells beside =
       going = going_read rest read.bytes all p.going read.got read.all_is;
       before = goes_to (append_assoc before rest read.bytes
           ∙ ap (λ (x : List ℕ). before ++ x) (sym read.all_is)) (λ h. h)
-          (one_read (before ++ rest) read.bytes (read_told told) _ p.before (holds_now rest p.going none through)
+          (one_read (before ++ rest) read.bytes (read_call told) _ p.before (holds_now rest p.going none through)
           tells beside read.long);
     }
 
 -- a message was answered
 pub message_on : {C : Type 0} (seen : C → Seen) {reason : Fault → C → C → Type 0} {r r' : Option (List ℕ)}
-    {q q' : Option (List ReadTold)} {b b' : Option (List Beside)} {w w' w'' : Option (List ℕ)}
-    {t v v' : Option (List WriteTold)} {k k' k'' : Option (List ℕ)} {c : Seen} {count : ℕ} (now new : C)
+    {q q' : Option (List ReadCall)} {b b' : Option (List Beside)} {w w' w'' : Option (List ℕ)}
+    {t v v' : Option (List WriteCall)} {k k' k'' : Option (List ℕ)} {c : Seen} {count : ℕ} (now new : C)
     (all rest : List ℕ) (count' : ℕ) (p : Whole)
     → Prompted r r' q q' b b' w w' t k k' c (seen now) all count → IsWhole all p → p.closes ≡ false
     → rest ≡ drop p.length all → count' ≡ count + 1

@@ -5,8 +5,8 @@ use Rattle.std.specs.{Prelude.◌≢◌, Io.KnownBytes.Consumes, declared.io.Err
 use Rattle.std.proofs.lemmas.List.{nil_from_length}
 use Rattle.posting_rules.specs.{believed.Counter.Seen}
 use Rattle.posting_core.specs.Stream.{given}
-use Rattle.posting_core.specs.believed.{Told.EndsWith, Told.GrowsBy, Told.ReadTold}
-use Rattle.posting_core.specs.Told.{Beside, WriteTold, read_told}
+use Rattle.posting_core.specs.believed.{EndCalls.EndsWith, EndCalls.GrowsBy, EndCalls.ReadCall}
+use Rattle.posting_core.specs.EndCalls.{Beside, WriteCall, read_call}
 use Rattle.posting_core.proofs.ReadsFollowed.{gave_none, gave_some}
 use Rattle.posting_core.proofs.Telling.{adds-more}
 use Rattle.counter_http.specs.Connections.{Known, known_ends}
@@ -57,14 +57,14 @@ with_none : {R W : Type 0} {known : R × W → Known} {k : Known} {c c' : Seen} 
 with_none {old = old} made stands = waits_so (append-nil (unread old)) (λ e. cc e) (with_read made stands)
 
 last_read : {R W : Type 0} {known : R × W → Known} {k : Known} {c c' : Seen} {steps : List Step} {old new : Client R W}
-    {told : Result ℕ Error} {bytes : List ℕ} (P : ReadTold → Type 0) (made : MakesRead known old new told bytes)
-    → StandsHere known k c c' steps old → P (read_told told) → EndsWith P k.reads made.reads
+    {told : Result ℕ Error} {bytes : List ℕ} (P : ReadCall → Type 0) (made : MakesRead known old new told bytes)
+    → StandsHere known k c c' steps old → P (read_call told) → EndsWith P k.reads made.reads
 last_read {known = known} {k} {old = old} {told = told} P made stands is =
     let before = (before_read made stands).prompt in
     record {
       earlier = before.reads;
-      last = read_told told;
-      made = adds-more k.reads (known (old.reader, old.writer)).reads made.reads before.reads (read_told told ∷ [])
+      last = read_call told;
+      made = adds-more k.reads (known (old.reader, old.writer)).reads made.reads before.reads (read_call told ∷ [])
           before.made made.tells;
       is = is;
     }
@@ -130,12 +130,12 @@ number_read old new (inr (inr (inr last))) = last.made.number
 
 -- ---- what a read did
 
-abbrev pub made_read : {R W : Type 0} (remaining : R → Option (List ℕ)) (told : R → Option (List ReadTold))
-    (beside : R → Option (List Beside)) (contents : W → Option (List ℕ)) (writes : W → Option (List WriteTold))
+abbrev pub made_read : {R W : Type 0} (remaining : R → Option (List ℕ)) (told : R → Option (List ReadCall))
+    (beside : R → Option (List Beside)) (contents : W → Option (List ℕ)) (writes : W → Option (List WriteCall))
     (old new : Client R W) (reader : R) (result : Result ℕ Error) (bytes : List ℕ) → old.parting ≡ None
     → old.has_more ≡ false → pending old ≡ [] → new.number ≡ old.number → new.reader ≡ reader → new.writer ≡ old.writer
-    → Consumes (remaining old.reader) (remaining reader) bytes → given (read_told result ∷ []) ≡ length bytes
-    → GrowsBy (told old.reader) (told reader) (read_told result ∷ [])
+    → Consumes (remaining old.reader) (remaining reader) bytes → given (read_call result ∷ []) ≡ length bytes
+    → GrowsBy (told old.reader) (told reader) (read_call result ∷ [])
     → GrowsBy (beside old.reader) (beside reader)
     (record { contents = contents old.writer; told = writes old.writer } ∷ [])
     → MakesRead (known_ends remaining told beside contents writes) old new result bytes
@@ -158,19 +158,19 @@ made_read remaining told beside contents writes old new reader result bytes goin
 
 -- no byte came
 none_given : (r r' : Option (List ℕ)) (result : Result ℕ Error) (bytes : List ℕ)
-    → given (read_told result ∷ []) ≡ 0 → given (read_told result ∷ []) ≡ length bytes → Consumes r r' bytes
-    → Consumes r r' [] × (given (read_told result ∷ []) ≡ 0)
+    → given (read_call result ∷ []) ≡ 0 → given (read_call result ∷ []) ≡ length bytes → Consumes r r' bytes
+    → Consumes r r' [] × (given (read_call result ∷ []) ≡ 0)
 none_given r r' result bytes gave long got =
     (subst (λ (x : List ℕ). Consumes r r' x) (nil_from_length bytes (sym long ∙ gave)) got, gave)
 
 pub none_came : (r r' : Option (List ℕ)) (result : Result ℕ Error) (n : ℕ) (bytes : List ℕ) → result ≡ Ok n → n ≡ 0
-    → given (read_told result ∷ []) ≡ length bytes → Consumes r r' bytes
-    → Consumes r r' [] × (given (read_told result ∷ []) ≡ 0)
+    → given (read_call result ∷ []) ≡ length bytes → Consumes r r' bytes
+    → Consumes r r' [] × (given (read_call result ∷ []) ≡ 0)
 none_came r r' result n bytes is none long got = none_given r r' result bytes (gave_some result n is ∙ none) long got
 
 pub none_failed : (r r' : Option (List ℕ)) (result : Result ℕ Error) (e : Error) (bytes : List ℕ) → result ≡ Err e
-    → given (read_told result ∷ []) ≡ length bytes → Consumes r r' bytes
-    → Consumes r r' [] × (given (read_told result ∷ []) ≡ 0)
+    → given (read_call result ∷ []) ≡ length bytes → Consumes r r' bytes
+    → Consumes r r' [] × (given (read_call result ∷ []) ≡ 0)
 none_failed r r' result e bytes is long got = none_given r r' result bytes (gave_none result e is) long got
 
 -- the end of the input is answered

@@ -5,8 +5,8 @@ use Rattle.std.specs.Prelude.{◌≢◌, ⊤}
 use Rattle.std.specs.Io.KnownBytes.{Appends}
 use Rattle.posting_rules.specs.declared.fault.Fault.{Fault}
 use Rattle.posting_rules.specs.believed.Counter.{Seen}
-use Rattle.posting_core.specs.Told.{HasMore, HasWriteFailed, IsFlush, IsWriteFailure, WriteTold}
-use Rattle.posting_core.specs.believed.Told.{EndsWith}
+use Rattle.posting_core.specs.EndCalls.{HasMore, HasWriteFailed, IsFlush, IsWriteFailure, WriteCall}
+use Rattle.posting_core.specs.believed.EndCalls.{EndsWith}
 use Rattle.posting_core.proofs.Telling.{more_failed}
 use Rattle.counter_http.specs.Connections.{Known}
 use Rattle.counter_http.specs.together.Order.{Step, of_client}
@@ -83,7 +83,7 @@ refused_now {known = known} old new moment m head why going is (inr lost) honest
 -- ---- it is written to
 
 refused_wrote : {i : ℕ} {k l : Known} {c c' : Seen} {steps : List Step} {left : List ℕ} {turn : Turn} {p : Parting} (n : ℕ)
-    (w' : Option (List ℕ)) (v' : Option (List WriteTold)) → Appends l.writer w' (take n left) → HasMore l.writes v'
+    (w' : Option (List ℕ)) (v' : Option (List WriteCall)) → Appends l.writer w' (take n left) → HasMore l.writes v'
     → left ≢ [] → (drop n left ≡ [] → EndsWith IsFlush l.writes v') → IsRefused i k l c c' steps left turn p
     → IsRefused i k (record l { writer = w'; writes = v' }) c c' steps (drop n left) turn p
 unfolding wrote_to
@@ -94,7 +94,7 @@ refused_wrote {p = p} n w' v' wrote more some flushed is = record {
 }
 
 refused_failed : {i : ℕ} {k l : Known} {c c' : Seen} {steps : List Step} {left : List ℕ} {turn : Turn} {p : Parting} (n : ℕ)
-    (w' : Option (List ℕ)) (v' : Option (List WriteTold)) → Appends l.writer w' (take n left) → HasWriteFailed l.writes v'
+    (w' : Option (List ℕ)) (v' : Option (List WriteCall)) → Appends l.writer w' (take n left) → HasWriteFailed l.writes v'
     → IsRefused i k l c c' steps left turn p
     → IsRefused i k (record l { writer = w'; writes = v' }) c c' steps [] turn parting.Write
 unfolding left_after left_as

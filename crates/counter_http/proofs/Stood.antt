@@ -7,8 +7,8 @@ use Rattle.std.proofs.lemmas.List.{take-append-drop}
 use Rattle.std.proofs.Math.Seq.{take-append_seam}
 use Rattle.posting_rules.specs.{believed.Commands.Command, believed.Counter.Seen, believed.Counter.ShowsLog}
 use Rattle.posting_core.specs.{believed.Batches.joined}
-use Rattle.posting_core.specs.Told.{HasMore, IsFlush, IsThrough, WriteTold}
-use Rattle.posting_core.specs.believed.Told.{EndsWith}
+use Rattle.posting_core.specs.EndCalls.{HasMore, IsFlush, IsThrough, WriteCall}
+use Rattle.posting_core.specs.believed.EndCalls.{EndsWith}
 use Rattle.posting_core.proofs.Telling.{more_last, more_more}
 use Rattle.counter_http.specs.Connections.{Known}
 use Rattle.counter_http.specs.together.Standing.{IsGoing, IsParted, MayBeLeft, StandsAs}
@@ -215,7 +215,7 @@ regrouped written pending n =
     append_assoc written (take n pending) (drop n pending)
     ∙ ap (λ (x : List ℕ). written ++ x) (take-append-drop n pending)
 
-pub wrote_flushed : (p : Parting) (k l : Known) (v' : Option (List WriteTold)) (pending : List ℕ)
+pub wrote_flushed : (p : Parting) (k l : Known) (v' : Option (List WriteCall)) (pending : List ℕ)
     → MayBeLeft p pending → pending ≢ [] → IsThrough k.writes v'
     → PartingIsOfItsEnd p k.reads l.reads k.writes v'
 wrote_flushed parting.Served k l v' pending left some through = through
@@ -238,7 +238,7 @@ still_left parting.Stopped pending n left some = absurd left
 
 -- so many bytes of what was left were written, and where no more is left they were flushed
 unfoldable pub wrote_to : {i : ℕ} {k l : Known} {c c' : Seen} {steps : List Step} (p : Option Parting) {has_more shown : Bool}
-    {rest pending : List ℕ} (n : ℕ) (w' : Option (List ℕ)) (v' : Option (List WriteTold))
+    {rest pending : List ℕ} (n : ℕ) (w' : Option (List ℕ)) (v' : Option (List WriteCall))
     → Appends l.writer w' (take n pending) → HasMore l.writes v' → pending ≢ []
     → (drop n pending ≡ [] → EndsWith IsFlush l.writes v')
     → StandsAs p i k l c c' steps has_more shown rest pending
@@ -299,7 +299,7 @@ take_written {i} {k} {l} {c} {c'} {steps} (Some p) {pending = pending} n so h lo
 
 -- some were written, and no more will be
 unfoldable pub left_after : {i : ℕ} {k l : Known} {c c' : Seen} {steps : List Step} (p : Option Parting)
-    {has_more shown : Bool} {rest pending : List ℕ} (n : ℕ) (w' : Option (List ℕ)) (v' : Option (List WriteTold))
+    {has_more shown : Bool} {rest pending : List ℕ} (n : ℕ) (w' : Option (List ℕ)) (v' : Option (List WriteCall))
     → Appends l.writer w' (take n pending) → HasMore l.writes v'
     → StandsAs p i k l c c' steps has_more shown rest pending
     → IsLeft i k (record l { writer = w'; writes = v' }) c c' steps

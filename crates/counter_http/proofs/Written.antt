@@ -1,7 +1,7 @@
 -- Where a client stands that was written to, and what became of one whose connection is closed.
 use Rattle.std.proofs.Common.{◌≡◌, ℕ, List, [], ◌++◌, Option, Some, Bool, sym, ap, subst, ◌∙◌, inl, inr}
 use Rattle.posting_rules.specs.{believed.Counter.Seen}
-use Rattle.posting_core.specs.Told.{HasMore, HasWriteFailed, IsWriteFailure, WriteTold}
+use Rattle.posting_core.specs.EndCalls.{HasMore, HasWriteFailed, IsWriteFailure, WriteCall}
 use Rattle.posting_core.proofs.Telling.{last_some, more_failed}
 use Rattle.counter_http.specs.Connections.{Known}
 use Rattle.counter_http.specs.together.Order.{Step}
@@ -43,7 +43,7 @@ some_here old new w stands =
     stands_as old.parting new w.parting w.number w.ends w.has_more w.shows w.unread_same w.left
     (wrote_to old.parting w.count w.contents w.told w.wrote w.more w.some (λ e. w.flushed (w.left ∙ e)) stands.is)
 
-pub failed_more : {old new : Option (List WriteTold)} → HasWriteFailed old new → HasMore old new
+pub failed_more : {old new : Option (List WriteCall)} → HasWriteFailed old new → HasMore old new
 failed_more (inl last) = last_some IsWriteFailure last
 failed_more (inr many) = record { calls = many.earlier ++ many.last; made = many.made }
 

@@ -5,21 +5,21 @@ use Rattle.std.specs.IoError.{error_kind}
 use Rattle.std.specs.declared.io.Error.{Error}
 use Rattle.std.specs.declared.io.ErrorKind.{ErrorKind}
 
-pub data ClientsTold (E : Type 0) : Type 0 where
+pub data ClientsCall (E : Type 0) : Type 0 where
   -- an opening gave the client of this number, by its two ends
-  Gave : ℕ → E → ClientsTold E
+  Gave : ℕ → E → ClientsCall E
   -- an opening failed, with an error of this kind
-  Refused : ErrorKind → ClientsTold E
+  Refused : ErrorKind → ClientsCall E
   -- the connection of the client of this number was closed, and its ends were these
-  Closed : ℕ → E → ClientsTold E
+  Closed : ℕ → E → ClientsCall E
   -- a wait said to give up the client of this number
-  Gave_up : ℕ → ClientsTold E
+  Gave_up : ℕ → ClientsCall E
 
-abbrev pub given_up_told : {E : Type 0} → List ℕ → List (ClientsTold E)
+abbrev pub given_up_told : {E : Type 0} → List ℕ → List (ClientsCall E)
 given_up_told [] = []
 given_up_told (n ∷ ns) = Gave_up n ∷ given_up_told ns
 
-abbrev pub opened_told : {E : Type 0} → ℕ → Result (Option E) Error → List (ClientsTold E)
+abbrev pub opened_told : {E : Type 0} → ℕ → Result (Option E) Error → List (ClientsCall E)
 opened_told number (Ok (Some ends)) = Gave number ends ∷ []
 opened_told number (Ok None) = []
 opened_told number (Err e) = Refused (error_kind e) ∷ []

@@ -7,7 +7,7 @@ use Rattle.posting_rules.specs.believed.Commands.{Command}
 use Rattle.posting_rules.specs.believed.Counter.{Seen, ShowsLog, StandsAt, LeavesOnly, ShowsPrefix}
 use Rattle.posting_core.specs.believed.Batches.{joined}
 use Rattle.posting_core.specs.believed.Clock.{AreReadings}
-use Rattle.posting_core.specs.believed.Told.{ReadTold}
+use Rattle.posting_core.specs.believed.EndCalls.{ReadCall}
 use Rattle.counter_http.specs.declared.fault.ServeFault.{ServeFault}
 use Rattle.counter_http.specs.declared.fault.ServeFault.TheVariants.{Read, Write, Bank, Memory}
 use Rattle.counter_http.specs.believed.Ends.{HasEnded}
@@ -89,7 +89,7 @@ IsSettled input =
     → AnswersInput log moments (input ++ more) text
 
 -- what the reads returned is q before and q' after, and the readings of the clock k before and k' after
-pub record OutputsAnswers (r r' : Option (List ℕ)) (q q' : Option (List ReadTold)) (w w' k k' : Option (List ℕ))
+pub record OutputsAnswers (r r' : Option (List ℕ)) (q q' : Option (List ReadCall)) (w w' k k' : Option (List ℕ))
     (c c' : Seen) (result : Result ℕ ServeFault) : Type 0 where
   pub input : List ℕ
   pub read : Consumes r r' input

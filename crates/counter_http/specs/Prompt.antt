@@ -8,21 +8,21 @@ use Rattle.posting_rules.specs.believed.Commands.{Command}
 use Rattle.posting_rules.specs.believed.Counter.{Seen, ShowsLog}
 use Rattle.posting_core.specs.Stream.{given}
 use Rattle.posting_core.specs.believed.Clock.{AreReadings}
-use Rattle.posting_core.specs.believed.Told.{GrowsBy, ReadTold}
-use Rattle.posting_core.specs.Told.{Beside, IsThrough, WriteTold, unknown}
+use Rattle.posting_core.specs.believed.EndCalls.{GrowsBy, ReadCall}
+use Rattle.posting_core.specs.EndCalls.{Beside, IsThrough, WriteCall, unknown}
 use Rattle.counter_http.specs.Outputs.{AnswersWhole}
 
 -- the sink held the answers to the whole messages at the front of the input and no more, and they were flushed
-pub record HoldsAnswers (w : Option (List ℕ)) (t : Option (List WriteTold)) (c c' : Seen)
+pub record HoldsAnswers (w : Option (List ℕ)) (t : Option (List WriteCall)) (c c' : Seen)
     (moments input : List ℕ) (sink : Beside) : Type 0 where
   pub wrote : c'.honest → (log : List Command) → ShowsLog c log
       → (text : List ℕ) × AnswersWhole log moments input text × Appends w sink.contents text
   pub through : IsThrough t sink.told
 
 -- so it was at each read, of the input that the reads before it gave
-pub record AnswersBeforeReads (q q' : Option (List ReadTold)) (b b' : Option (List Beside))
-    (w : Option (List ℕ)) (t : Option (List WriteTold)) (c c' : Seen) (moments input : List ℕ) : Type 0 where
-  pub reads : List ReadTold
+pub record AnswersBeforeReads (q q' : Option (List ReadCall)) (b b' : Option (List Beside))
+    (w : Option (List ℕ)) (t : Option (List WriteCall)) (c c' : Seen) (moments input : List ℕ) : Type 0 where
+  pub reads : List ReadCall
   pub made : GrowsBy q q' reads
   pub long : given reads ≡ length input
   pub sinks : List Beside
@@ -32,8 +32,8 @@ pub record AnswersBeforeReads (q q' : Option (List ReadTold)) (b b' : Option (Li
       → HoldsAnswers w t c c' moments (take (given (take n reads)) input) (get_or sinks n unknown)
 
 -- so it was of all that a connection read, where the clock's known readings were k before and k' after
-pub record IsPrompt (r r' : Option (List ℕ)) (q q' : Option (List ReadTold)) (b b' : Option (List Beside))
-    (w : Option (List ℕ)) (t : Option (List WriteTold)) (k k' : Option (List ℕ)) (c c' : Seen) : Type 0 where
+pub record IsPrompt (r r' : Option (List ℕ)) (q q' : Option (List ReadCall)) (b b' : Option (List Beside))
+    (w : Option (List ℕ)) (t : Option (List WriteCall)) (k k' : Option (List ℕ)) (c c' : Seen) : Type 0 where
   pub input : List ℕ
   pub read : Consumes r r' input
   pub moments : List ℕ

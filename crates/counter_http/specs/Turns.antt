@@ -9,7 +9,7 @@ use Rattle.posting_rules.specs.believed.Counter.{Seen, ShowsLog, Takes, Refuses}
 use Rattle.posting_core.specs.believed.Batches.{joined}
 use Rattle.posting_core.specs.believed.Clock.{AreReadings}
 use Rattle.posting_core.specs.Stream.{IsOfCall}
-use Rattle.posting_core.specs.Told.{WriteTold}
+use Rattle.posting_core.specs.EndCalls.{WriteCall}
 use Rattle.counter_http.specs.declared.fault.ServeFault.{ServeFault}
 use Rattle.counter_http.specs.declared.fault.ServeFault.TheVariants.{Read, Write, Bank, Memory}
 use Rattle.counter_http.specs.Ends.{SendsAs}
@@ -110,7 +110,7 @@ IsTellingOf fault Memory n text = ⊥
 
 -- what became of a message for which the bank was given these commands, whatever the result
 pub record IsDealtWith {C : Type 0} (seen : C → Seen) (reason : Fault → C → C → Type 0)
-    (w w' : Option (List ℕ)) (v v' : Option (List WriteTold)) (old new : C) (asked : Asked)
+    (w w' : Option (List ℕ)) (v v' : Option (List WriteCall)) (old new : C) (asked : Asked)
     (commands : List Command) (result : Result (Unit {0}) ServeFault) : Type 0 where
   -- the bank took them and the answer was written, or as the fault says
   pub answers : MatchResult result (λ _. TurnIsAnswered w w' (seen old) (seen new) asked commands)
@@ -125,7 +125,7 @@ pub record IsDealtWith {C : Type 0} (seen : C → Seen) (reason : Fault → C �
 
 -- what became of a message, whose record was submitted under one reading of the clock, if it has one
 pub record TurnIsDealtWith {C : Type 0} (seen : C → Seen) (reason : Fault → C → C → Type 0)
-    (w w' : Option (List ℕ)) (v v' : Option (List WriteTold)) (k k' : Option (List ℕ)) (old new : C)
+    (w w' : Option (List ℕ)) (v v' : Option (List WriteCall)) (k k' : Option (List ℕ)) (old new : C)
     (asked : Asked) (result : Result (Unit {0}) ServeFault) : Type 0 where
   pub moment : ℕ
   pub clock : AreReadings k k' (readings_for moment asked)
@@ -138,7 +138,7 @@ abbrev pub IsWrittenTo : (w w' : Option (List ℕ)) → List ℕ → Result (Uni
 IsWrittenTo w w' text result = (n : ℕ) × Appends w w' (take n text) × OnOk result (n ≡ length text)
 
 -- it was written and flushed, or the writer failed
-pub record IsSentAs (w w' : Option (List ℕ)) (v v' : Option (List WriteTold)) (text : List ℕ)
+pub record IsSentAs (w w' : Option (List ℕ)) (v v' : Option (List WriteCall)) (text : List ℕ)
     (result : Result (Unit {0}) ServeFault) : Type 0 where
   pub written : IsWrittenTo w w' text result
   pub fault : OnErr result (IsErrOf result Write)

@@ -29,8 +29,8 @@ use std::alloc::Global;
 
 /// Answers a 400, after which the connection ends.
 pub(crate) fn refuse<W: Sink>(writer: &mut W, shows_body: bool) -> Result<(), ServeFault>
-    ensures { IsSentAs (W.contents writer.old) (W.contents writer.new) (W.told writer.old)
-        (W.told writer.new) (refusal shows_body) result }
+    ensures { IsSentAs (W.contents writer.old) (W.contents writer.new) (W.calls writer.old)
+        (W.calls writer.new) (refusal shows_body) result }
 {
     match tell(writer, &bad_request(), shows_body, true) {
         Ok(()) => Ok(()),
@@ -44,8 +44,8 @@ fn say<W: Sink>(
     response: &Response<'_>,
     writer: &mut W,
 ) -> Result<(), ServeFault>
-    ensures { IsSentAs (W.contents writer.old) (W.contents writer.new) (W.told writer.old)
-        (W.told writer.new)
+    ensures { IsSentAs (W.contents writer.old) (W.contents writer.new) (W.calls writer.old)
+        (W.calls writer.new)
         (answer_text (said response.now) (shows (asked message.now)) message.now.closes) result }
 {
     match tell(writer, response, !is_head(message.method), message.closes) {
@@ -59,7 +59,7 @@ fn fail<W: Sink>(message: &Whole<'_>, fault: Fault, writer: &mut W) -> ServeFaul
     ensures written { (n : ℕ) × Appends (W.contents writer.old) (W.contents writer.new)
         (take n (unavailable (asked message.now)))
         × IsTellingOf fault result n (unavailable (asked message.now)) }
-    ensures ends { SendsAs (Err result) (W.told writer.old) (W.told writer.new) }
+    ensures ends { SendsAs (Err result) (W.calls writer.old) (W.calls writer.new) }
 {
     match tell(writer, &unavailable(), !is_head(message.method), true) {
         Ok(()) => ServeFault::Bank(fault),
@@ -78,7 +78,7 @@ fn answer_posting<W: Sink, K: Clock, C: Counter>(
     requires body { bytes.now ≡ message.now.body.now }
     requires posting { is_posting (asked message.now) ≡ true }
     ensures answers { TurnIsDealtWith C.seen C.reason (W.contents writer.old) (W.contents writer.new)
-        (W.told writer.old) (W.told writer.new) (K.readings clock.old) (K.readings clock.new)
+        (W.calls writer.old) (W.calls writer.new) (K.readings clock.old) (K.readings clock.new)
         bank.old bank.new (asked message.now) result }
     ensures spares { C.spares bank.old bank.new }
 {
@@ -224,8 +224,8 @@ fn answer_reading<W: Sink>(
     read: Result<Reading, Fault>,
     writer: &mut W,
 ) -> Result<(), ServeFault>
-    ensures { SendsReading (W.contents writer.old) (W.contents writer.new) (W.told writer.old)
-        (W.told writer.new) (asked message.now) read result }
+    ensures { SendsReading (W.contents writer.old) (W.contents writer.new) (W.calls writer.old)
+        (W.calls writer.new) (asked message.now) read result }
 {
     match read {
         Ok(reading) => say(message, &reading.response(), writer),
@@ -243,7 +243,7 @@ pub(crate) fn answer_message<W: Sink, K: Clock, C: Followed>(
     bank: &mut C,
 ) -> Result<(), ServeFault>
     ensures answers { TurnIsDealtWith C.seen C.reason (W.contents writer.old) (W.contents writer.new)
-        (W.told writer.old) (W.told writer.new) (K.readings clock.old) (K.readings clock.new)
+        (W.calls writer.old) (W.calls writer.new) (K.readings clock.old) (K.readings clock.new)
         bank.old bank.new (asked message.now) result }
     ensures spares { C.spares bank.old bank.new }
 {

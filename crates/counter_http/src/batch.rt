@@ -62,7 +62,7 @@ fn submit_one<R: Source + Drop, W: Sink + Drop, C: Counter>(
 ) -> Result<(), Fault>
     requires others { AllDiffer (numbers here.old.items) }
     requires gives { GivesAt here.old.items sender bytes.now }
-    ensures submits { AreSubmitted C.seen C.reason (known_ends R.remaining R.told R.beside W.contents W.told)
+    ensures submits { AreSubmitted C.seen C.reason (known_ends R.remaining R.calls R.beside W.contents W.calls)
         (moment ∷ []) bank.old bank.new here.old.items here.new.items tally.old tally.new 1 result }
     ensures only { ChangesAt here.old.items here.new.items sender.place }
     ensures spares { C.spares bank.old bank.new }
@@ -144,7 +144,7 @@ impl Batch {
     ) -> Result<(), Fault>
         requires others { AllDiffer (numbers here.old.items) }
         requires gives { IsBatchOf here.old.items self.now }
-        ensures submits { SubmitsBatch C.seen C.reason (known_ends R.remaining R.told R.beside W.contents W.told)
+        ensures submits { SubmitsBatch C.seen C.reason (known_ends R.remaining R.calls R.beside W.contents W.calls)
             (K.readings clock.old) (K.readings clock.new) bank.old bank.new here.old.items here.new.items
             tally.old tally.new (length self.now.records.items) result }
         ensures none { length self.now.records.items ≡ 0 → here.new.items ≡ here.old.items }
@@ -205,7 +205,7 @@ impl Batch {
     ) -> Result<(), Fault>
         requires others { AllDiffer (numbers here.old.items) }
         requires gives { IsBatchOf here.old.items self.now }
-        ensures submits { AreSubmitted C.seen C.reason (known_ends R.remaining R.told R.beside W.contents W.told)
+        ensures submits { AreSubmitted C.seen C.reason (known_ends R.remaining R.calls R.beside W.contents W.calls)
             (moment ∷ []) bank.old bank.new here.old.items here.new.items tally.old tally.new
             (length self.now.records.items) result }
         ensures spares { C.spares bank.old bank.new }

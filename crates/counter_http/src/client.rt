@@ -181,7 +181,7 @@ impl<R: Source + Drop, W: Sink + Drop> Client<R, W> {
 
     /// One write of what is left of the answers, and a flush where nothing is left then.
     pub(crate) fn write(&mut self)
-        ensures { Writes (known_ends R.remaining R.told R.beside W.contents W.told) self.old self.new }
+        ensures { Writes (known_ends R.remaining R.calls R.beside W.contents W.calls) self.old self.new }
     {
         if self.is_written() {
             return;
@@ -208,7 +208,7 @@ impl<R: Source + Drop, W: Sink + Drop> Client<R, W> {
 
     /// One read, where no whole message is left, and all answers are written.
     pub(crate) fn read(&mut self)
-        ensures { Reads (known_ends R.remaining R.told R.beside W.contents W.told) self.old self.new }
+        ensures { Reads (known_ends R.remaining R.calls R.beside W.contents W.calls) self.old self.new }
     {
         if self.has_more || self.parting.is_some() {
             return;
@@ -327,7 +327,7 @@ impl<R: Source + Drop, W: Sink + Drop> Client<R, W> {
         figures: &Figures,
         bank: &mut C,
     ) -> Result<Front, Fault>
-        ensures answers { IsAnswered C.seen C.reason (known_ends R.remaining R.told R.beside W.contents W.told)
+        ensures answers { IsAnswered C.seen C.reason (known_ends R.remaining R.calls R.beside W.contents W.calls)
             figures.now bank.old bank.new self.old self.new result }
         ensures record { IfOk result (GivesFront self.new) }
         ensures rests { IfOk result (LooksDone self.old self.new) }
@@ -389,7 +389,7 @@ impl<R: Source + Drop, W: Sink + Drop> Client<R, W> {
         figures: &Figures,
         bank: &mut C,
     ) -> Result<Option<Record>, Fault>
-        ensures answers { IsAnswered C.seen C.reason (known_ends R.remaining R.told R.beside W.contents W.told)
+        ensures answers { IsAnswered C.seen C.reason (known_ends R.remaining R.calls R.beside W.contents W.calls)
             figures.now bank.old bank.new self.old self.new result }
         ensures record { IfOk result (λ found. IfSome found (GivesRecord self.new)) }
         ensures rests { IfOk result (λ found. found ≡ None → MovesOn self.old self.new) }

@@ -1,8 +1,8 @@
 //! Where clients come in, and how they are waited for.
 ghost use Rattle.std.specs.Prelude.{◌∷◌, [], ℕ, List, Option, None};
 ghost use Rattle.std.specs.List.{AllByRecursion};
-ghost use Rattle.posting_core.specs.believed.Told.{GrowsBy};
-ghost use Rattle.counter_http.specs.Clients.{ClientsTold, Closed, given_up_told, opened_told};
+ghost use Rattle.posting_core.specs.believed.EndCalls.{GrowsBy};
+ghost use Rattle.counter_http.specs.Clients.{ClientsCall, Closed, given_up_told, opened_told};
 ghost use Rattle.counter_http.specs.together.Rounds.{given_up, numbers};
 ghost use Rattle.counter_http.specs.together.Standing.{IsUpToDate};
 
@@ -29,7 +29,7 @@ pub trait Clients {
     type Writer: Sink + Drop;
 
     /// What each opening returned so far, whom each wait gave up, and what each closing was given, where it is known.
-    ghost told: { Self → Option (List (ClientsTold (Self.Reader × Self.Writer))) } = { λ _. None };
+    ghost calls: { Self → Option (List (ClientsCall (Self.Reader × Self.Writer))) } = { λ _. None };
 
     /// Waits until a stream is ready, one more client has come where more are to come, or a limit has passed. It
     /// doesn't wait where a client has more: of the others each whole message that was read is answered. Where all
@@ -42,11 +42,11 @@ pub trait Clients {
         readiness: &mut Vec<Readiness>,
     )
         requires { AllByRecursion IsUpToDate clients.now }
-        ensures { GrowsBy (told self.old) (told self.new) (given_up_told (given_up (numbers clients.now) readiness.new.items)) };
+        ensures { GrowsBy (calls self.old) (calls self.new) (given_up_told (given_up (numbers clients.now) readiness.new.items)) };
 
     /// The next client, the one before whom so many came; none where nobody waits to be taken in.
     fn open(&mut self, number: u64) -> io::Result<Option<(Self::Reader, Self::Writer)>>
-        ensures { GrowsBy (told self.old) (told self.new) (opened_told number result) };
+        ensures { GrowsBy (calls self.old) (calls self.new) (opened_told number result) };
 
     /// For how many seconds clients have been served. It is told to who asks for the figures, and no clause speaks of
     /// it.
@@ -56,10 +56,10 @@ pub trait Clients {
 
     /// So many postings were done in a round.
     fn posted(&mut self, _count: usize)
-        ensures { GrowsBy (told self.old) (told self.new) [] }
+        ensures { GrowsBy (calls self.old) (calls self.new) [] }
     {}
 
     /// Closes the connection of a client, once what was written has come to it.
     fn close(&mut self, number: u64, reader: Self::Reader, writer: Self::Writer)
-        ensures { GrowsBy (told self.old) (told self.new) (Closed number (reader, writer) ∷ []) };
+        ensures { GrowsBy (calls self.old) (calls self.new) (Closed number (reader, writer) ∷ []) };
 }

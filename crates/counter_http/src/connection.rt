@@ -32,14 +32,14 @@ fn serve<R: Source, W: Sink, K: Clock, C: Followed>(
 ) -> Result<Served, ServeFault>
     requires { length buffer.old ≡ BUFFER }
     ensures served { ServesConnection C.seen (R.remaining reader.old) (R.remaining reader.new)
-        (R.told reader.old) (R.told reader.new) (W.contents writer.old) (W.contents writer.new)
+        (R.calls reader.old) (R.calls reader.new) (W.contents writer.old) (W.contents writer.new)
         (K.readings clock.old) (K.readings clock.new) bank.old bank.new result }
     ensures why { IfErr result (λ fault. IfRefused fault (IsOfCall C.seen C.reason bank.old bank.new)) }
-    ensures ends { ServeFaultIsOfItsEnd result (R.told reader.old) (R.told reader.new)
-        (W.told writer.old) (W.told writer.new) }
-    ensures prompt { IsPrompt (R.remaining reader.old) (R.remaining reader.new) (R.told reader.old)
-        (R.told reader.new) (R.beside reader.old) (R.beside reader.new) (W.contents writer.old)
-        (W.told writer.old) (K.readings clock.old) (K.readings clock.new) (C.seen bank.old)
+    ensures ends { ServeFaultIsOfItsEnd result (R.calls reader.old) (R.calls reader.new)
+        (W.calls writer.old) (W.calls writer.new) }
+    ensures prompt { IsPrompt (R.remaining reader.old) (R.remaining reader.new) (R.calls reader.old)
+        (R.calls reader.new) (R.beside reader.old) (R.beside reader.new) (W.contents writer.old)
+        (W.calls writer.old) (K.readings clock.old) (K.readings clock.new) (C.seen bank.old)
         (C.seen bank.new) }
     ensures spares { C.spares bank.old bank.new }
 {
@@ -99,20 +99,20 @@ pub fn serve_connection<R: Source, W: Sink, K: Clock, C: Followed>(
     bank: &mut C,
 ) -> Result<Served, ServeFault>
     ensures served { ServesConnection C.seen (R.remaining reader.old) (R.remaining reader.new)
-        (R.told reader.old) (R.told reader.new) (W.contents writer.old) (W.contents writer.new)
+        (R.calls reader.old) (R.calls reader.new) (W.contents writer.old) (W.contents writer.new)
         (K.readings clock.old) (K.readings clock.new) bank.old bank.new result }
     ensures output { OutputsAnswers (R.remaining reader.old) (R.remaining reader.new)
-        (R.told reader.old) (R.told reader.new) (W.contents writer.old) (W.contents writer.new)
+        (R.calls reader.old) (R.calls reader.new) (W.contents writer.old) (W.contents writer.new)
         (K.readings clock.old) (K.readings clock.new) (C.seen bank.old) (C.seen bank.new) result }
     ensures survives { SurvivesServing (R.remaining reader.old) (R.remaining reader.new)
         (W.contents writer.old)
         (W.contents writer.new)
         (C.seen bank.old) (C.seen bank.new) }
-    ensures ends { ServeFaultIsOfItsEnd result (R.told reader.old) (R.told reader.new)
-        (W.told writer.old) (W.told writer.new) }
-    ensures prompt { IsPrompt (R.remaining reader.old) (R.remaining reader.new) (R.told reader.old)
-        (R.told reader.new) (R.beside reader.old) (R.beside reader.new) (W.contents writer.old)
-        (W.told writer.old) (K.readings clock.old) (K.readings clock.new) (C.seen bank.old)
+    ensures ends { ServeFaultIsOfItsEnd result (R.calls reader.old) (R.calls reader.new)
+        (W.calls writer.old) (W.calls writer.new) }
+    ensures prompt { IsPrompt (R.remaining reader.old) (R.remaining reader.new) (R.calls reader.old)
+        (R.calls reader.new) (R.beside reader.old) (R.beside reader.new) (W.contents writer.old)
+        (W.calls writer.old) (K.readings clock.old) (K.readings clock.new) (C.seen bank.old)
         (C.seen bank.new) }
     ensures why { IfErr result (λ fault. IfRefused fault (IsOfCall C.seen C.reason bank.old bank.new)) }
     ensures honest { (C.seen bank.new).honest → (C.seen bank.old).honest }

@@ -1,7 +1,7 @@
 //! The bytes of an answer, which leave in one write where they are few: a client then waits for one packet.
 ghost use Rattle.std.specs.Prelude.{◌≡◌, ◌++◌, ℕ, List, [], Option, length, take, OnOk};
 ghost use Rattle.std.specs.Io.KnownBytes.{Appends};
-ghost use Rattle.posting_core.specs.Told.{WriteTold};
+ghost use Rattle.posting_core.specs.EndCalls.{WriteCall};
 ghost use Rattle.counter_http.specs.believed.Answers.{answer_text};
 ghost use Rattle.counter_http.specs.Ends.{HasSent, HasTaken};
 ghost use Rattle.counter_http.specs.Telling.{IsWrittenOrHeld, said, first_lines, last_lines};
@@ -30,8 +30,8 @@ fn put<W: Sink>(writer: &mut W, held: &mut ArrayVec<u8, HELD>, going: bool, byte
     ensures text { (before : Option (List ℕ)) (text : List ℕ) → IsWrittenOrHeld before
         (W.contents writer.old) going held.old.items text
         → IsWrittenOrHeld before (W.contents writer.new) result held.new.items (text ++ bytes.now) }
-    ensures ends { (before : Option (List WriteTold)) → HasTaken going before (W.told writer.old)
-        → HasTaken result before (W.told writer.new) }
+    ensures ends { (before : Option (List WriteCall)) → HasTaken going before (W.calls writer.old)
+        → HasTaken result before (W.calls writer.new) }
 {
     if !going {
         return false;
@@ -56,7 +56,7 @@ fn put_first<W: Sink>(
     ensures text { IsWrittenOrHeld (W.contents writer.old) (W.contents writer.new) result held.new.items
         (first_lines
         (said response.now)) }
-    ensures ends { HasTaken result (W.told writer.old) (W.told writer.new) }
+    ensures ends { HasTaken result (W.calls writer.old) (W.calls writer.new) }
 {
     let going = put(writer, held, true, b"HTTP/1.1 ");
     let going = put(writer, held, going, response.status.as_str().as_bytes());
@@ -80,8 +80,8 @@ fn put_last<W: Sink>(
         (W.contents writer.old) going held.old.items text
         → IsWrittenOrHeld before (W.contents writer.new) result held.new.items (text
         ++ last_lines (said response.now) closes) }
-    ensures ends { (before : Option (List WriteTold)) → HasTaken going before (W.told writer.old)
-        → HasTaken result before (W.told writer.new) }
+    ensures ends { (before : Option (List WriteCall)) → HasTaken going before (W.calls writer.old)
+        → HasTaken result before (W.calls writer.new) }
 {
     let going = put(writer, held, going, b"\r\n");
     let going = match response.allow {
@@ -105,8 +105,8 @@ fn send<W: Sink>(writer: &mut W, held: &ArrayVec<u8, HELD>, going: bool) -> Resu
     ensures text { (before : Option (List ℕ)) (text : List ℕ) → IsWrittenOrHeld before
         (W.contents writer.old) going held.now.items text
         → (n : ℕ) × Appends before (W.contents writer.new) (take n text) × OnOk result (n ≡ length text) }
-    ensures ends { (before : Option (List WriteTold)) → HasTaken going before (W.told writer.old)
-        → HasSent result before (W.told writer.new) }
+    ensures ends { (before : Option (List WriteCall)) → HasTaken going before (W.calls writer.old)
+        → HasSent result before (W.calls writer.new) }
 {
     if !going {
         return Err(WriteFailed);
@@ -124,7 +124,7 @@ pub(crate) fn tell<W: Sink>(
     ensures written { (n : ℕ) × Appends (W.contents writer.old) (W.contents writer.new) (take n (answer_text
         (said response.now) shows_body closes))
         × OnOk result (n ≡ length (answer_text (said response.now) shows_body closes)) }
-    ensures ends { HasSent result (W.told writer.old) (W.told writer.new) }
+    ensures ends { HasSent result (W.calls writer.old) (W.calls writer.new) }
 {
     let mut held = ArrayVec::new();
     let going = put_first(writer, &mut held, response);

@@ -39,11 +39,11 @@ fn take_in<D: Clients>(
     here: &mut Vec<Client<D::Reader, D::Writer>>,
 ) -> Result<(), ListenFault>
     requires { came.old ≤ connections }
-    ensures come { HaveMoved ⊥ [] (record { told = D.told door.old; came = came.old; here = here.old.items })
-        (record { told = D.told door.new; came = came.new; here = here.new.items }) }
+    ensures come { HaveMoved ⊥ [] (record { told = D.calls door.old; came = came.old; here = here.old.items })
+        (record { told = D.calls door.new; came = came.new; here = here.new.items }) }
     ensures few { came.new ≤ connections }
     ensures fault { OnErr result (result ≡ Err ListenFault.Network) }
-    ensures refused { OnErr result (HasRefused (D.told door.old) (D.told door.new)) }
+    ensures refused { OnErr result (HasRefused (D.calls door.old) (D.calls door.new)) }
 {
     'openings: while *came < connections && here.len() < MOST_CLIENTS {
         match door.open(*came) {
@@ -64,7 +64,7 @@ fn take_in<D: Clients>(
 
 // Closes the connection of a client, for this cause, unless it is over.
 fn close<D: Clients>(door: &mut D, client: Client<D::Reader, D::Writer>, cause: Parting)
-    ensures { Closes (D.told door.old) (D.told door.new) client cause }
+    ensures { Closes (D.calls door.old) (D.calls door.new) client cause }
 {
     let number = client.number();
     let (reader, writer, _) = client.part(cause);
@@ -76,7 +76,7 @@ fn go_on_with<R: Source + Drop, W: Sink + Drop>(
     client: &mut Client<R, W>,
     readiness: Option<&Readiness>,
 )
-    ensures { GoesOn (known_ends R.remaining R.told R.beside W.contents W.told) client.old client.new }
+    ensures { GoesOn (known_ends R.remaining R.calls R.beside W.contents W.calls) client.old client.new }
 {
     match readiness {
         Some(Readiness::Waits | Readiness::GivenUp) => {}
@@ -89,7 +89,7 @@ fn go_on_with<R: Source + Drop, W: Sink + Drop>(
 
 // Goes on with each client.
 fn go_on<R: Source + Drop, W: Sink + Drop>(here: &mut [Client<R, W>], readiness: &[Readiness])
-    ensures { AllZip (GoesOn (known_ends R.remaining R.told R.beside W.contents W.told)) here.old here.new }
+    ensures { AllZip (GoesOn (known_ends R.remaining R.calls R.beside W.contents W.calls)) here.old here.new }
 {
     for (place, client) in here.iter_mut().enumerate() {
         go_on_with(client, readiness.get(place));
@@ -103,8 +103,8 @@ fn give_up<D: Clients>(
     readiness: &[Readiness],
 )
     ensures { (came : ℕ) → HaveMoved ⊥ (given_up (numbers here.old.items) readiness.now)
-        (record { told = D.told door.old; came = came; here = here.old.items })
-        (record { told = D.told door.new; came = came; here = here.new.items }) }
+        (record { told = D.calls door.old; came = came; here = here.old.items })
+        (record { told = D.calls door.new; came = came; here = here.new.items }) }
 {
     let mut place = 0;
     for found in readiness {
@@ -136,7 +136,7 @@ fn gather_at<R: Source + Drop, W: Sink + Drop, C: Followed>(
     requires others { AllDiffer (numbers here.old.items) }
     requires gives { IsBatchOf here.old.items batch.old }
     requires elsewhere { AllByRecursion (IsElsewhere place) batch.old.senders.items }
-    ensures gathers { Gathers C.seen C.reason (known_ends R.remaining R.told R.beside W.contents W.told)
+    ensures gathers { Gathers C.seen C.reason (known_ends R.remaining R.calls R.beside W.contents W.calls)
         figures.now bank.old bank.new here.old.items here.new.items batch.new result }
     ensures adds { MayAdd batch.old batch.new place }
     ensures looks { OnOk result (LooksAt here.old.items here.new.items place batch.new) }
@@ -170,7 +170,7 @@ fn gather<R: Source + Drop, W: Sink + Drop, C: Followed>(
     requires others { AllDiffer (numbers here.old.items) }
     requires gives { IsBatchOf here.old.items batch.old }
     requires beyond { AllByRecursion (IsFrom to) batch.old.senders.items }
-    ensures gathers { Gathers C.seen C.reason (known_ends R.remaining R.told R.beside W.contents W.told)
+    ensures gathers { Gathers C.seen C.reason (known_ends R.remaining R.calls R.beside W.contents W.calls)
         figures.now bank.old bank.new here.old.items here.new.items batch.new result }
     ensures places { OnOk result (AllByRecursion (IsFrom from) batch.new.senders.items) }
     ensures looks { OnOk result (LooksOver here.old.items here.new.items from to batch.old batch.new) }
@@ -196,7 +196,7 @@ fn answer<R: Source + Drop, W: Sink + Drop, K: Clock, C: Followed>(
     bank: &mut C,
 ) -> Result<Answered, Fault>
     requires others { AllDiffer (numbers here.old.items) }
-    ensures answers { AnswersRound C.seen C.reason (known_ends R.remaining R.told R.beside W.contents W.told)
+    ensures answers { AnswersRound C.seen C.reason (known_ends R.remaining R.calls R.beside W.contents W.calls)
         (K.readings clock.old) (K.readings clock.new) bank.old bank.new here.old.items here.new.items tally.old
         tally.new seconds result }
     ensures spares { C.spares bank.old bank.new }
@@ -220,8 +220,8 @@ fn answer<R: Source + Drop, W: Sink + Drop, K: Clock, C: Followed>(
 
 // Closes the connections of those for whom nothing more is done.
 fn part<D: Clients>(door: &mut D, here: &mut Vec<Client<D::Reader, D::Writer>>)
-    ensures { (came : ℕ) → HaveMoved ⊥ [] (record { told = D.told door.old; came = came; here = here.old.items })
-        (record { told = D.told door.new; came = came; here = here.new.items }) }
+    ensures { (came : ℕ) → HaveMoved ⊥ [] (record { told = D.calls door.old; came = came; here = here.old.items })
+        (record { told = D.calls door.new; came = came; here = here.new.items }) }
 {
     let mut place = 0;
     'clients: while place < here.len() {
@@ -236,8 +236,8 @@ fn part<D: Clients>(door: &mut D, here: &mut Vec<Client<D::Reader, D::Writer>>)
 
 // Closes the connections of all.
 fn part_from_all<D: Clients>(door: &mut D, here: &mut Vec<Client<D::Reader, D::Writer>>)
-    ensures leave { (came : ℕ) → HaveMoved (here.old.items ≢ []) [] (record { told = D.told door.old; came = came; here = here.old.items })
-        (record { told = D.told door.new; came = came; here = here.new.items }) }
+    ensures leave { (came : ℕ) → HaveMoved (here.old.items ≢ []) [] (record { told = D.calls door.old; came = came; here = here.old.items })
+        (record { told = D.calls door.new; came = came; here = here.new.items }) }
     ensures none { here.new.items ≡ [] }
 {
     'clients: while let Some(client) = here.pop() {
@@ -247,7 +247,7 @@ fn part_from_all<D: Clients>(door: &mut D, here: &mut Vec<Client<D::Reader, D::W
 
 // Writes answers as far as the clients take them.
 fn write<R: Source + Drop, W: Sink + Drop>(here: &mut [Client<R, W>])
-    ensures { AllZip (Writes (known_ends R.remaining R.told R.beside W.contents W.told)) here.old here.new }
+    ensures { AllZip (Writes (known_ends R.remaining R.calls R.beside W.contents W.calls)) here.old here.new }
 {
     for client in here.iter_mut() {
         client.write();
@@ -266,8 +266,8 @@ fn serve_rounds<D: Clients, K: Clock, C: Followed>(
 ) -> Result<(), ListenFault>
     requires { here.old.items ≡ [] }
     ensures serves { ServesRounds C.seen C.reason
-        (known_ends D.Reader.remaining D.Reader.told D.Reader.beside D.Writer.contents D.Writer.told)
-        (D.told door.old) (D.told door.new) (K.readings clock.old) (K.readings clock.new) bank.old bank.new
+        (known_ends D.Reader.remaining D.Reader.calls D.Reader.beside D.Writer.contents D.Writer.calls)
+        (D.calls door.old) (D.calls door.new) (K.readings clock.old) (K.readings clock.new) bank.old bank.new
         connections here.new.items result }
     ensures spares { C.spares bank.old bank.new }
 {
@@ -320,10 +320,10 @@ pub fn serve_together<D: Clients, K: Clock, C: Followed>(
     bank: &mut C,
 ) -> Result<(), ListenFault>
     ensures serves { ServesTogether C.seen C.reason
-        (known_ends D.Reader.remaining D.Reader.told D.Reader.beside D.Writer.contents D.Writer.told)
-        (D.told door.old) (D.told door.new) (K.readings clock.old) (K.readings clock.new) bank.old bank.new
+        (known_ends D.Reader.remaining D.Reader.calls D.Reader.beside D.Writer.contents D.Writer.calls)
+        (D.calls door.old) (D.calls door.new) (K.readings clock.old) (K.readings clock.new) bank.old bank.new
         connections result }
-    ensures come { OnOk result (HaveCome (D.told door.old) (D.told door.new) connections) }
+    ensures come { OnOk result (HaveCome (D.calls door.old) (D.calls door.new) connections) }
     ensures spares { C.spares bank.old bank.new }
 {
     let Ok(routes) = Routes::new(alloc) else {

@@ -11,7 +11,7 @@ use Rattle.posting_rules.specs.believed.Commands.{Command}
 use Rattle.posting_rules.specs.believed.Counter.{Seen, ShowsLog, StandsAt, LeavesOnly, ShowsPrefix, Takes, Refuses}
 use Rattle.posting_core.specs.believed.Batches.{joined}
 use Rattle.posting_core.specs.believed.Clock.{AreReadings}
-use Rattle.posting_core.specs.believed.Told.{ReadTold}
+use Rattle.posting_core.specs.believed.EndCalls.{ReadCall}
 use Rattle.counter_http.specs.declared.fault.ServeFault.{ServeFault}
 use Rattle.counter_http.specs.declared.fault.ServeFault.TheVariants.{Read, Write, Bank, Memory}
 use Rattle.counter_http.specs.believed.Ends.{HasEnded}
@@ -111,7 +111,7 @@ AnswersAreWritten _ written text = written ≡ text
 -- ---- what a call did, whatever its result
 
 pub record ServesConnection {C : Type 0} (seen : C → Seen) (r r' : Option (List ℕ))
-    (q q' : Option (List ReadTold))
+    (q q' : Option (List ReadCall))
     (w w' k k' : Option (List ℕ)) (old new : C) (result : Result ℕ ServeFault) : Type 0 where
   -- the messages that the bank took, the one that it refused, what was read after them, and the answer to
   -- what is no message or was refused

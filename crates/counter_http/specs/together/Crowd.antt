@@ -9,8 +9,8 @@ use Rattle.posting_rules.specs.believed.Commands.{Command}
 use Rattle.posting_rules.specs.believed.Counter.{Seen, ShowsLog, StandsAt, LeavesOnly, ShowsPrefix, Takes}
 use Rattle.posting_core.specs.Stream.{IsOfCall}
 use Rattle.posting_core.specs.believed.Clock.{AreReadings}
-use Rattle.posting_core.specs.believed.Told.{GrowsBy}
-use Rattle.counter_http.specs.Clients.{ClientsTold, Gave, Gave_up, Closed}
+use Rattle.posting_core.specs.believed.EndCalls.{GrowsBy}
+use Rattle.counter_http.specs.Clients.{ClientsCall, Gave, Gave_up, Closed}
 use Rattle.counter_http.specs.Connections.{Known}
 use Rattle.counter_http.specs.together.Order.{AreFigured, Step, Round, IsRound, steps_of, readings_of, submitted_by}
 use Rattle.counter_http.specs.together.Reading.{Reads}
@@ -46,7 +46,7 @@ MayPart stops given n _ = ⊥
 
 -- its connection was closed, for this cause if it wasn't over, where the calls of what gives clients had returned g before
 -- and g' after
-pub record Closes {R W : Type 0} (g g' : Option (List (ClientsTold (R × W)))) (client : Client R W) (cause : Parting)
+pub record Closes {R W : Type 0} (g g' : Option (List (ClientsCall (R × W)))) (client : Client R W) (cause : Parting)
     : Type 0 where
   pub left : R × W
   pub parting : Parting
@@ -57,7 +57,7 @@ pub record Closes {R W : Type 0} (g g' : Option (List (ClientsTold (R × W)))) (
 
 -- what the calls of what gives clients returned so far, how many clients came, and who is here
 pub record Scene (R W : Type 0) : Type 0 where
-  pub told : Option (List (ClientsTold (R × W)))
+  pub told : Option (List (ClientsCall (R × W)))
   pub came : ℕ
   pub here : List (Client R W)
 
@@ -82,7 +82,7 @@ pub record Leaves {R W : Type 0} (stops : Type 0) (given : List ℕ) (a b : Scen
 
 -- a call gave no client and closed no connection
 pub record Stays {R W : Type 0} (a b : Scene R W) : Type 0 where
-  pub calls : List (ClientsTold (R × W))
+  pub calls : List (ClientsCall (R × W))
   pub told : GrowsBy a.told b.told calls
   pub none_came : openings calls ≡ []
   pub none_left : closings calls ≡ []
@@ -103,7 +103,7 @@ pub record HaveMoved {R W : Type 0} (stops : Type 0) (given : List ℕ) (a b : S
 -- one that is here was given by an opening, stands by the messages that were answered, and was told that the bank
 -- refused what it refused of it
 pub record IsHere {R W : Type 0} (known : R × W → Known) (c c' : Seen) (steps : List Step) (fault : Option Fault)
-    (refused : List Step) (calls : List (ClientsTold (R × W))) (client : Client R W) : Type 0 where
+    (refused : List Step) (calls : List (ClientsCall (R × W))) (client : Client R W) : Type 0 where
   pub given : R × W
   pub came : Contains calls (Gave client.number given)
   pub stands : StandsHere known (known given) c c' steps client
@@ -118,12 +118,12 @@ WereRefused known c c' steps (Some fault) refused v =
     → ClientIsRefused v.number (known v.given) (known v.left) c c' steps fault s.turn v.parting) refused
 
 abbrev pub HasLeft : {E : Type 0} → (stops : Type 0) → (E → Known) → (c c' : Seen) → List Step → Option Fault → List Step
-    → List (ClientsTold E) → Visit E → Type 0
+    → List (ClientsCall E) → Visit E → Type 0
 HasLeft stops known c c' steps fault refused calls v =
     IsVisited known c c' steps calls v × WereRefused known c c' steps fault refused v × IsVisitWhy stops calls v
 
 -- a wait said to give these up, and the bank refused nothing yet
-abbrev pub AreGivenUp : {E : Type 0} → Option Fault → List (ClientsTold E) → List ℕ → Type 0
+abbrev pub AreGivenUp : {E : Type 0} → Option Fault → List (ClientsCall E) → List ℕ → Type 0
 AreGivenUp None calls given = AllByRecursion (λ n. Contains calls (Gave_up n)) given
 AreGivenUp (Some fault) calls given = given ≡ []
 
@@ -137,9 +137,9 @@ Differ (n ∷ ns) = AllByRecursion (λ m. n ≢ m) ns × Differ ns
 
 -- those who left were served, each once, and the others are here; the bank refused some messages at last, or none; these
 -- are to be given up, and clients may be stopped
-pub record IsCrowd {R W : Type 0} (stops : Type 0) (given : List ℕ) (known : R × W → Known) (g : Option (List (ClientsTold (R × W)))) (c c' : Seen)
+pub record IsCrowd {R W : Type 0} (stops : Type 0) (given : List ℕ) (known : R × W → Known) (g : Option (List (ClientsCall (R × W)))) (c c' : Seen)
     (steps : List Step) (fault : Option Fault) (refused : List Step) (a : Scene R W) : Type 0 where
-  pub calls : List (ClientsTold (R × W))
+  pub calls : List (ClientsCall (R × W))
   pub told : GrowsBy g a.told calls
   pub visits : List (Visit (R × W))
   pub closed : map closed_of visits ≡ closings calls
@@ -160,7 +160,7 @@ fault_of_bank _ = None
 
 -- rounds were served, until the connections were, or a fault came; some clients may be here still
 pub record ServesRounds {C R W : Type 0} (seen : C → Seen) (reason : Fault → C → C → Type 0) (known : R × W → Known)
-    (g g' : Option (List (ClientsTold (R × W)))) (k k' : Option (List ℕ)) (old new : C) (n : ℕ)
+    (g g' : Option (List (ClientsCall (R × W)))) (k k' : Option (List ℕ)) (old new : C) (n : ℕ)
     (here : List (Client R W)) (result : Result (Unit {0}) ListenFault) : Type 0 where
   pub rounds : List Round
   pub are_rounds : AllByRecursion IsRound rounds
@@ -186,7 +186,7 @@ pub record ServesRounds {C R W : Type 0} (seen : C → Seen) (reason : Fault →
       (record { told = g'; came = came; here = here })
 
 -- so many clients were given by openings
-pub record HaveCome {E : Type 0} (g g' : Option (List (ClientsTold E))) (n : ℕ) : Type 0 where
-  pub calls : List (ClientsTold E)
+pub record HaveCome {E : Type 0} (g g' : Option (List (ClientsCall E))) (n : ℕ) : Type 0 where
+  pub calls : List (ClientsCall E)
   pub told : GrowsBy g g' calls
   pub many : length (openings calls) ≡ n

@@ -3,8 +3,8 @@ use Rattle.std.specs.Prelude.{◌≡◌, ◌≢◌, ◌⊎◌, ℕ, List, [], �
 use Rattle.std.specs.Io.KnownBytes.{Consumes}
 use Rattle.std.specs.declared.io.Error.{Error}
 use Rattle.posting_core.specs.Stream.{given}
-use Rattle.posting_core.specs.Told.{Beside, IsReadFailure, read_told}
-use Rattle.posting_core.specs.believed.Told.{GrowsBy, IsEndOfInput, ReadTold}
+use Rattle.posting_core.specs.EndCalls.{Beside, IsReadFailure, read_call}
+use Rattle.posting_core.specs.believed.EndCalls.{GrowsBy, IsEndOfInput, ReadCall}
 use Rattle.std.specs.Io.KnownBytes.{IsAtEnd}
 use Rattle.counter_http.specs.Connections.{Known}
 use Rattle.counter_http.specs.together.Standing.{pending, unread}
@@ -20,15 +20,15 @@ pub record MakesRead {R W : Type 0} (known : R × W → Known) (old new : Client
   pub written : pending old ≡ []
   pub number : new.number ≡ old.number
   pub reader : Option (List ℕ)
-  pub reads : Option (List ReadTold)
+  pub reads : Option (List ReadCall)
   pub beside : Option (List Beside)
   pub ends : known (new.reader, new.writer)
       ≡ record (known (old.reader, old.writer)) { reader = reader; reads = reads; beside = beside }
   pub got : Consumes (known (old.reader, old.writer)).reader reader bytes
-  pub tells : GrowsBy (known (old.reader, old.writer)).reads reads (read_told told ∷ [])
+  pub tells : GrowsBy (known (old.reader, old.writer)).reads reads (read_call told ∷ [])
   pub sink : GrowsBy (known (old.reader, old.writer)).beside beside
       (record { contents = (known (old.reader, old.writer)).writer; told = (known (old.reader, old.writer)).writes } ∷ [])
-  pub long : given (read_told told ∷ []) ≡ length bytes
+  pub long : given (read_call told ∷ []) ≡ length bytes
 
 -- bytes came, or none for now
 pub record ReadsSome {R W : Type 0} (known : R × W → Known) (old new : Client R W) : Type 0 where
@@ -52,7 +52,7 @@ pub data SaysAtEnd {R W : Type 0} (old new : Client R W) : Type 0 where
 pub record ReadsEnd {R W : Type 0} (known : R × W → Known) (old new : Client R W) : Type 0 where
   pub told : Result ℕ Error
   pub made : MakesRead known old new told []
-  pub end : IsEndOfInput (read_told told)
+  pub end : IsEndOfInput (read_call told)
   pub none : IsAtEnd made.reader
   pub says : SaysAtEnd old new
 
@@ -60,7 +60,7 @@ pub record ReadsEnd {R W : Type 0} (known : R × W → Known) (old new : Client 
 pub record ReadsLast {R W : Type 0} (known : R × W → Known) (old new : Client R W) : Type 0 where
   pub told : Result ℕ Error
   pub made : MakesRead known old new told []
-  pub failed : IsReadFailure (read_told told)
+  pub failed : IsReadFailure (read_call told)
   pub none : pending new ≡ []
   pub parting : new.parting ≡ Some parting.Read
 

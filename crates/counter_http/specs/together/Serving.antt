@@ -13,9 +13,9 @@ use Rattle.posting_rules.specs.believed.Counter.{Seen, ShowsLog, StandsAt, Leave
 use Rattle.posting_core.specs.Stream.{given, IsOfCall}
 use Rattle.posting_core.specs.believed.Batches.{joined}
 use Rattle.posting_core.specs.believed.Clock.{AreReadings}
-use Rattle.posting_core.specs.believed.Told.{EndsWith, GrowsBy, ReadTold}
-use Rattle.posting_core.specs.Told.{Beside, HasWriteFailed, IsReadFailure, IsThrough, WriteTold, unknown}
-use Rattle.counter_http.specs.Clients.{ClientsTold, Gave, Gave_up, Refused, Closed}
+use Rattle.posting_core.specs.believed.EndCalls.{EndsWith, GrowsBy, ReadCall}
+use Rattle.posting_core.specs.EndCalls.{Beside, HasWriteFailed, IsReadFailure, IsThrough, WriteCall, unknown}
+use Rattle.counter_http.specs.Clients.{ClientsCall, Gave, Gave_up, Refused, Closed}
 use Rattle.counter_http.specs.Connections.{Known}
 use Rattle.counter_http.specs.declared.listen_fault.ListenFault.{ListenFault}
 use Rattle.counter_http.specs.declared.listen_fault.ListenFault.TheVariants.{Network, Bank}
@@ -61,7 +61,7 @@ IsWrittenAs (parting.Bank fault) written text = written ≡ text
 IsWrittenAs _ written text = written ≡ take (length written) text
 
 -- a fault of an end comes where that end failed, and all that was written was flushed elsewhere
-abbrev pub PartingIsOfItsEnd : Parting → (q q' : Option (List ReadTold)) → (v v' : Option (List WriteTold))
+abbrev pub PartingIsOfItsEnd : Parting → (q q' : Option (List ReadCall)) → (v v' : Option (List WriteCall))
     → Type 0
 PartingIsOfItsEnd parting.Served q q' v v' = IsThrough v v'
 PartingIsOfItsEnd parting.Read q q' v v' = EndsWith IsReadFailure q q' × IsThrough v v'
@@ -73,7 +73,7 @@ PartingIsOfItsEnd _ q q' v v' = ⊤
 
 -- as a read was made, the sink held the answers to all whole messages at the front of the input and no more: those
 -- that were answered then, before all others
-pub record HoldsOwnAnswers (i : ℕ) (w : Option (List ℕ)) (t : Option (List WriteTold)) (c c' : Seen)
+pub record HoldsOwnAnswers (i : ℕ) (w : Option (List ℕ)) (t : Option (List WriteCall)) (c c' : Seen)
     (steps : List Step) (input : List ℕ) (sink : Beside) : Type 0 where
   pub before : List Step
   pub after : List Step
@@ -86,10 +86,10 @@ pub record HoldsOwnAnswers (i : ℕ) (w : Option (List ℕ)) (t : Option (List W
   pub through : IsThrough t sink.told
 
 -- so it was at each of a client's reads
-pub record AnswersBeforeItsReads (i : ℕ) (q q' : Option (List ReadTold)) (b b' : Option (List Beside))
-    (w : Option (List ℕ)) (t : Option (List WriteTold)) (c c' : Seen) (steps : List Step) (input : List ℕ)
+pub record AnswersBeforeItsReads (i : ℕ) (q q' : Option (List ReadCall)) (b b' : Option (List Beside))
+    (w : Option (List ℕ)) (t : Option (List WriteCall)) (c c' : Seen) (steps : List Step) (input : List ℕ)
     : Type 0 where
-  pub reads : List ReadTold
+  pub reads : List ReadCall
   pub made : GrowsBy q q' reads
   pub long : given reads ≡ length input
   pub sinks : List Beside
@@ -157,14 +157,14 @@ abbrev pub OfOthers : {E : Type 0} → Visit E → Visit E → Type 0
 OfOthers v u = v.number ≢ u.number
 
 -- the openings among calls, and the closings
-abbrev pub openings : {E : Type 0} → List (ClientsTold E) → List (ℕ × E)
+abbrev pub openings : {E : Type 0} → List (ClientsCall E) → List (ℕ × E)
 openings [] = []
 openings (Gave n e ∷ cs) = (n, e) ∷ openings cs
 openings (Closed n e ∷ cs) = openings cs
 openings (Refused kind ∷ cs) = openings cs
 openings (Gave_up n ∷ cs) = openings cs
 
-abbrev pub closings : {E : Type 0} → List (ClientsTold E) → List (ℕ × E)
+abbrev pub closings : {E : Type 0} → List (ClientsCall E) → List (ℕ × E)
 closings [] = []
 closings (Gave n e ∷ cs) = closings cs
 closings (Closed n e ∷ cs) = (n, e) ∷ closings cs
@@ -172,19 +172,19 @@ closings (Refused kind ∷ cs) = closings cs
 closings (Gave_up n ∷ cs) = closings cs
 
 -- each was given by an opening, and was served so
-abbrev pub IsVisited : {E : Type 0} → (known : E → Known) → (c c' : Seen) → List Step → List (ClientsTold E)
+abbrev pub IsVisited : {E : Type 0} → (known : E → Known) → (c c' : Seen) → List Step → List (ClientsCall E)
     → Visit E → Type 0
 IsVisited known c c' steps calls v =
     Contains calls (Gave v.number v.given)
     × ClientIsServed v.number (known v.given) (known v.left) c c' steps v.parting
 
 -- a client was given up only where a wait said so, and stopped only where clients were
-abbrev pub IsWhyParted : {E : Type 0} → (stops : Type 0) → List (ClientsTold E) → ℕ → Parting → Type 0
+abbrev pub IsWhyParted : {E : Type 0} → (stops : Type 0) → List (ClientsCall E) → ℕ → Parting → Type 0
 IsWhyParted stops calls n parting.GivenUp = Contains calls (Gave_up n)
 IsWhyParted stops calls n parting.Stopped = stops
 IsWhyParted stops calls n _ = ⊤
 
-abbrev pub IsVisitWhy : {E : Type 0} → (stops : Type 0) → List (ClientsTold E) → Visit E → Type 0
+abbrev pub IsVisitWhy : {E : Type 0} → (stops : Type 0) → List (ClientsCall E) → Visit E → Type 0
 IsVisitWhy stops calls v = IsWhyParted stops calls v.number v.parting
 
 -- a message that the bank refused is of one of them, who was told so
@@ -214,19 +214,19 @@ abbrev pub IsWhyRefused : {C : Type 0} → (C → Seen) → (Fault → C → C �
 IsWhyRefused seen reason old new fault = IsOfCall seen reason old new fault ⊎ ((fault ≡ Memory) × (new ≡ old))
 
 -- an opening was refused, among the calls that were made since
-pub record HasRefused {E : Type 0} (g g' : Option (List (ClientsTold E))) : Type 0 where
-  pub calls : List (ClientsTold E)
+pub record HasRefused {E : Type 0} (g g' : Option (List (ClientsCall E))) : Type 0 where
+  pub calls : List (ClientsCall E)
   pub told : GrowsBy g g' calls
   pub kind : ErrorKind
   pub one : Contains calls (Refused kind)
 
 -- the network failed only where an opening was refused, or after 2 ^ 64 - 1 rounds
-abbrev pub IsCutOff : {E : Type 0} → (g g' : Option (List (ClientsTold E))) → Result (Unit {0}) ListenFault
+abbrev pub IsCutOff : {E : Type 0} → (g g' : Option (List (ClientsCall E))) → Result (Unit {0}) ListenFault
     → List Round → Type 0
 IsCutOff g g' result rounds = result ≡ Err Network → HasRefused g g' ⊎ (2 ^ 64 - 1 ≤ length rounds)
 
 pub record ServesTogether {C E : Type 0} (seen : C → Seen) (reason : Fault → C → C → Type 0) (known : E → Known)
-    (g g' : Option (List (ClientsTold E))) (k k' : Option (List ℕ)) (old new : C) (n : ℕ)
+    (g g' : Option (List (ClientsCall E))) (k k' : Option (List ℕ)) (old new : C) (n : ℕ)
     (result : Result (Unit {0}) ListenFault) : Type 0 where
   -- what the bank took, round by round, and what it refused last
   pub rounds : List Round
@@ -251,7 +251,7 @@ pub record ServesTogether {C E : Type 0} (seen : C → Seen) (reason : Fault →
   pub why : IfErr result (λ fault. IfBank fault (IsWhyRefused seen reason old new))
   pub network : IsCutOff g g' result rounds
   -- the clients, as their connections were closed: each one that was taken in, once
-  pub calls : List (ClientsTold E)
+  pub calls : List (ClientsCall E)
   pub told : GrowsBy g g' calls
   pub visits : List (Visit E)
   pub closed : map closed_of visits ≡ closings calls

@@ -9,8 +9,8 @@ use Rattle.posting_rules.specs.declared.fault.Fault.{Fault}
 use Rattle.posting_rules.specs.declared.fault.Fault.TheVariants as fault
 use Rattle.posting_rules.specs.believed.Commands.{Command}
 use Rattle.posting_rules.specs.believed.Counter.{Seen, ShowsLog, Takes}
-use Rattle.posting_core.specs.Told.{HasMore, HasWriteFailed, IsFlush, IsThrough, WriteTold}
-use Rattle.posting_core.specs.believed.Told.{EndsWith}
+use Rattle.posting_core.specs.EndCalls.{HasMore, HasWriteFailed, IsFlush, IsThrough, WriteCall}
+use Rattle.posting_core.specs.believed.EndCalls.{EndsWith}
 use Rattle.posting_core.specs.believed.Batches.{joined}
 use Rattle.counter_http.specs.Connections.{Known}
 use Rattle.counter_http.specs.Next.{IsUnfinished}
@@ -275,7 +275,7 @@ AnswersRecord old new head text =
 pub record WritesSome {R W : Type 0} (known : R × W → Known) (old new : Client R W) : Type 0 where
   pub count : ℕ
   pub contents : Option (List ℕ)
-  pub told : Option (List WriteTold)
+  pub told : Option (List WriteCall)
   pub ends : known (new.reader, new.writer)
       ≡ record (known (old.reader, old.writer)) { writer = contents; writes = told }
   pub wrote : Appends (known (old.reader, old.writer)).writer contents (take count (pending old))
@@ -293,7 +293,7 @@ pub record WritesSome {R W : Type 0} (known : R × W → Known) (old new : Clien
 pub record WritesLast {R W : Type 0} (known : R × W → Known) (old new : Client R W) : Type 0 where
   pub count : ℕ
   pub contents : Option (List ℕ)
-  pub told : Option (List WriteTold)
+  pub told : Option (List WriteCall)
   pub ends : known (new.reader, new.writer)
       ≡ record (known (old.reader, old.writer)) { writer = contents; writes = told }
   pub wrote : Appends (known (old.reader, old.writer)).writer contents (take count (pending old))

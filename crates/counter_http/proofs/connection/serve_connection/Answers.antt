@@ -15,7 +15,7 @@ returns-in_default-clause-output g c =
 
 pub returns-in_default-clause-survives : goal.returns-in_default-clause-survives
 returns-in_default-clause-survives g c =
-    survives_of g.C.Counter.seen {q = g.R.Source.told c.args.reader.now}
+    survives_of g.C.Counter.seen {q = g.R.Source.calls c.args.reader.now}
     {k = g.K.Clock.readings c.args.clock.now} c.args.bank.now c.args.bank.now (Err Memory)
     (untouched g.C.Counter.seen c.args.bank.now)
 
@@ -36,7 +36,7 @@ returns-in_default-vec-clause-output g c =
 
 pub returns-in_default-vec-clause-survives : goal.returns-in_default-vec-clause-survives
 returns-in_default-vec-clause-survives g c =
-    survives_of g.C.Counter.seen {q = g.R.Source.told c.args.reader.now}
+    survives_of g.C.Counter.seen {q = g.R.Source.calls c.args.reader.now}
     {k = g.K.Clock.readings c.args.clock.now} c.args.bank.now c.args.bank.now (Err Memory)
     (untouched g.C.Counter.seen c.args.bank.now)
 

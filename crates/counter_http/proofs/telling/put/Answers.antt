@@ -1,6 +1,6 @@
 use Rattle.std.proofs.Common.{◌≡◌, false, true, sym, ap, ◌∙◌}
 use Rattle.std.specs.Prelude.{not}
-use Rattle.posting_core.specs.Told.{IsWriteFailure}
+use Rattle.posting_core.specs.EndCalls.{IsWriteFailure}
 use Rattle.posting_core.proofs.Telling.{more_failed, more_more}
 use Rattle.counter_http.proofs.PartsWritten.{on_ok_true, on_err_true, told_failed, told_held, told_sent, told_more}
 use Rattle.counter_http.proofs.PartsWritten.{holding, telling}

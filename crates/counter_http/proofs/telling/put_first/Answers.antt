@@ -20,7 +20,7 @@ returns-clause-text g c =
 
 pub returns-clause-ends : goal.returns-clause-ends
 returns-clause-ends g c =
-    let w = g.W.Sink.told c.args.writer.now in
+    let w = g.W.Sink.calls c.args.writer.now in
     let a = c.put-going-2.ensures.ends w (c.put-going.ensures.ends w (more_none w)) in
     let b = c.put-going-4.ensures.ends w (c.put-going-3.ensures.ends w a) in
     c.put.ensures.ends w (c.put-going-6.ensures.ends w (c.put-going-5.ensures.ends w b))

@@ -42,14 +42,14 @@ returns-clause-text g c before text t =
 pub returns-clause-ends : goal.returns-clause-ends
 returns-clause-ends g c before h =
     let first = c.put-going.ensures.ends before h in
-    let second : HasTaken c.match-response.going before (g.W.Sink.told c.match-response.writer) =
+    let second : HasTaken c.match-response.going before (g.W.Sink.calls c.match-response.writer) =
     elim c.match-response.branch [
       | in-Some v ↦ rw (v.writer-is, v.going-is)
           (v.put-going-in-Some-3.ensures.ends before
           (v.put-going-in-Some-2.ensures.ends before (v.put-going-in-Some.ensures.ends before first)))
       | in-None v ↦ rw (v.writer-is, v.going-is) first
     ] in
-    let third : HasTaken c.if-closes.going before (g.W.Sink.told c.if-closes.writer) =
+    let third : HasTaken c.if-closes.going before (g.W.Sink.calls c.if-closes.writer) =
     elim c.if-closes.branch [
       | then-closes v ↦ rw (v.writer-is, v.going-is) (v.put-going-then-closes.ensures.ends before second)
       | else-closes v ↦ rw (v.writer-is, v.going-is) second

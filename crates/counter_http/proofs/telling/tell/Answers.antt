@@ -30,9 +30,9 @@ returns-clause-written g c =
 
 pub returns-clause-ends : goal.returns-clause-ends
 returns-clause-ends g c =
-    let w = g.W.Sink.told c.args.writer.now in
+    let w = g.W.Sink.calls c.args.writer.now in
     let front = c.put_last-going.ensures.ends w (c.put-going.ensures.ends w c.put_first-going.ensures.ends) in
-    let told : HasTaken c.if-shows_body.going w (g.W.Sink.told c.if-shows_body.writer) =
+    let told : HasTaken c.if-shows_body.going w (g.W.Sink.calls c.if-shows_body.writer) =
     elim c.if-shows_body.branch [
       | then-shows_body v ↦ rw (v.writer-is, v.going-is) (v.put-going-then-shows_body.ensures.ends w front)
       | else-shows_body v ↦ rw (v.writer-is, v.going-is) front

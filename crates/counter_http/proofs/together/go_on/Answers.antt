@@ -5,7 +5,7 @@ use Rattle.counter_http.proofs.together.go_on.Goals as goal
 
 pub loop-place-preserved : goal.loop-place-preserved
 loop-place-preserved g c =
-    paired_more (GoesOn (known_ends g.R.Source.remaining g.R.Source.told g.R.Source.beside g.W.Sink.contents
-    g.W.Sink.told))
+    paired_more (GoesOn (known_ends g.R.Source.remaining g.R.Source.calls g.R.Source.beside g.W.Sink.contents
+    g.W.Sink.calls))
     c.args.here.now c.loop-place.here c.loop-place.place c.index-here-place.result c.go_on_with.new.client
     c.loop-place-test.true c.index-here-place.is c.go_on_with.ensures c.loop-place.invariant

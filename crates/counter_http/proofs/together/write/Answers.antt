@@ -5,7 +5,7 @@ use Rattle.counter_http.proofs.together.write.Goals as goal
 
 pub loop-client-preserved : goal.loop-client-preserved
 loop-client-preserved g c =
-    paired_more (Writes (known_ends g.R.Source.remaining g.R.Source.told g.R.Source.beside g.W.Sink.contents
-    g.W.Sink.told))
+    paired_more (Writes (known_ends g.R.Source.remaining g.R.Source.calls g.R.Source.beside g.W.Sink.contents
+    g.W.Sink.calls))
     c.args.here.now c.loop-client.here c.loop-client.client-index c.client-item.result c.write.new.self
     c.loop-client-test.true c.client-item.is c.write.ensures c.loop-client.invariant

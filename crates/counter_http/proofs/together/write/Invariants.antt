@@ -6,5 +6,5 @@ use Rattle.counter_http.proofs.together.write.Given as goal
 -- the clients before the place were written to
 abbrev pub invariant-loop-client : goal.invariant-loop-client
 invariant-loop-client g l =
-    PairedUpTo (Writes (known_ends g.R.Source.remaining g.R.Source.told g.R.Source.beside g.W.Sink.contents g.W.Sink.told))
+    PairedUpTo (Writes (known_ends g.R.Source.remaining g.R.Source.calls g.R.Source.beside g.W.Sink.contents g.W.Sink.calls))
     l.fn.here l.here l.client-index

@@ -4,8 +4,8 @@ use Rattle.std.specs.Prelude.{◌≢◌, is_some}
 use Rattle.std.specs.{IoError.error_kind, declared.io.Error.Error, declared.io.ErrorKind.TheVariants.Interrupted}
 use Rattle.std.proofs.lemmas.{Bool.true≢false}
 use Rattle.std.proofs.lemmas.List.{length-take-le, with_items_is}
-use Rattle.posting_core.specs.Told.{IsReadFailure, read_told}
-use Rattle.posting_core.specs.believed.Told.{IsEndOfInput}
+use Rattle.posting_core.specs.EndCalls.{IsReadFailure, read_call}
+use Rattle.posting_core.specs.believed.EndCalls.{IsEndOfInput}
 use Rattle.posting_core.proofs.Telling.{other_kind}
 use Rattle.counter_http.proofs.Buffers.{none_at_end}
 use Rattle.counter_http.proofs.Prompts.{HasRead, has_failed, has_read}
@@ -22,11 +22,11 @@ some_read items filled within some e =
     let len = ap length e in
     some (omega (arith, len, length-take-le filled items within))
 
-is_end : (r : Result ℕ Error) (n : ℕ) → r ≡ Ok n → n ≡ 0 → IsEndOfInput (read_told r)
-is_end r n is none = subst (λ (x : Result ℕ Error). IsEndOfInput (read_told x)) (sym is) none
+is_end : (r : Result ℕ Error) (n : ℕ) → r ≡ Ok n → n ≡ 0 → IsEndOfInput (read_call r)
+is_end r n is none = subst (λ (x : Result ℕ Error). IsEndOfInput (read_call x)) (sym is) none
 
-is_failure : (r : Result ℕ Error) (e : Error) → r ≡ Err e → error_kind e ≢ Interrupted → IsReadFailure (read_told r)
-is_failure r e is kind = subst (λ (x : Result ℕ Error). IsReadFailure (read_told x)) (sym is) kind
+is_failure : (r : Result ℕ Error) (e : Error) → r ≡ Err e → error_kind e ≢ Interrupted → IsReadFailure (read_call r)
+is_failure r e is kind = subst (λ (x : Result ℕ Error). IsReadFailure (read_call x)) (sym is) kind
 
 -- bytes came
 pub returns-in-Ok : goal.returns-in-Ok
@@ -40,7 +40,7 @@ returns-in-Ok g c =
     inr (inl (record {
       told = fill.result;
       bytes = read.bytes;
-      made = made_read g.R.Source.remaining g.R.Source.told g.R.Source.beside g.W.Sink.contents g.W.Sink.told old _
+      made = made_read g.R.Source.remaining g.R.Source.calls g.R.Source.beside g.W.Sink.contents g.W.Sink.calls old _
           fill.new.reader fill.result read.bytes
           (none_if old.parting c.is_some.result c.is_some.ensures c.if-is_some.false) c.if-self.false
           (none_at_end old.output.items old.written c.if-not-is_written.ensures) refl refl refl read.got read.long
@@ -68,7 +68,7 @@ returns-then-eq g c =
     inr (inl (record {
       told = fill.result;
       bytes = [];
-      made = made_read g.R.Source.remaining g.R.Source.told g.R.Source.beside g.W.Sink.contents g.W.Sink.told old _
+      made = made_read g.R.Source.remaining g.R.Source.calls g.R.Source.beside g.W.Sink.contents g.W.Sink.calls old _
           fill.new.reader fill.result []
           (none_if old.parting c.is_some.result c.is_some.ensures c.if-is_some.false) c.if-self.false
           (none_at_end old.output.items old.written c.if-not-is_written.ensures) refl refl refl none.0 none.1
@@ -93,7 +93,7 @@ returns-else-eq g c =
     let none = none_failed _ _ fill.result c.in-Err.e read.bytes c.in-Err.is read.long read.got in
     inr (inr (inr (record {
       told = fill.result;
-      made = made_read g.R.Source.remaining g.R.Source.told g.R.Source.beside g.W.Sink.contents g.W.Sink.told old _
+      made = made_read g.R.Source.remaining g.R.Source.calls g.R.Source.beside g.W.Sink.contents g.W.Sink.calls old _
           fill.new.reader fill.result []
           (none_if old.parting c.is_some.result c.is_some.ensures c.if-is_some.false) c.if-self.false
           (none_at_end old.output.items old.written c.if-not-is_written.ensures) refl refl refl none.0 none.1
@@ -119,7 +119,7 @@ returns-then-self-eq0 g c =
     let empty : old.filled ≡ 0 = c.if-self-eq0.true in
     inr (inr (inl (record {
       told = fill.result;
-      made = made_read g.R.Source.remaining g.R.Source.told g.R.Source.beside g.W.Sink.contents g.W.Sink.told old _
+      made = made_read g.R.Source.remaining g.R.Source.calls g.R.Source.beside g.W.Sink.contents g.W.Sink.calls old _
           fill.new.reader fill.result []
           (none_if old.parting c.is_some.result c.is_some.ensures c.if-is_some.false) c.if-self.false
           (none_at_end old.output.items old.written c.if-not-is_written.ensures) refl refl refl none.0 none.1
@@ -146,7 +146,7 @@ returns-else-self-eq0 g c =
     let written = none_at_end old.output.items old.written c.if-not-is_written.ensures in
     inr (inr (inl (record {
       told = fill.result;
-      made = made_read g.R.Source.remaining g.R.Source.told g.R.Source.beside g.W.Sink.contents g.W.Sink.told old
+      made = made_read g.R.Source.remaining g.R.Source.calls g.R.Source.beside g.W.Sink.contents g.W.Sink.calls old
           c.end_with.new.self fill.new.reader fill.result []
           (none_if old.parting c.is_some.result c.is_some.ensures c.if-is_some.false) c.if-self.false
           written same.number same.reader same.writer none.0 none.1

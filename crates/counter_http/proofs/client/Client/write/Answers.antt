@@ -3,7 +3,7 @@ use Rattle.std.proofs.Common.{false}
 use Rattle.std.specs.{Prelude.is_err, declared.io.Error.Error}
 use Rattle.std.proofs.{lemmas.Bool.true≢false, Math.ListN.length-drop}
 use Rattle.std.proofs.lemmas.List.{drop-drop}
-use Rattle.posting_core.specs.Told.{IsFlush, IsWriteFailure, flush_told}
+use Rattle.posting_core.specs.EndCalls.{IsFlush, IsWriteFailure, flush_call}
 use Rattle.posting_core.proofs.Telling.{made_none, other_kind, write_empty, write_failed}
 use Rattle.counter_http.proofs.Buffers.{kept, kept_more, last_call, left_in, long_left, none_at_end, one_call}
 use Rattle.counter_http.proofs.Buffers.{one_more_call, some_left, took}
@@ -11,11 +11,11 @@ use Rattle.counter_http.specs.Connections.{known_ends}
 use Rattle.counter_http.proofs.Fronts.{ends_by}
 use Rattle.counter_http.proofs.client.Client.write.Goals as goal
 
-unflushed : (r : Result (Unit {0}) Error) → true ≡ is_err r → IsWriteFailure (flush_told r)
+unflushed : (r : Result (Unit {0}) Error) → true ≡ is_err r → IsWriteFailure (flush_call r)
 unflushed (Ok done) e = absurd (true≢false e)
 unflushed (Err fault) e = tt
 
-through : (r : Result (Unit {0}) Error) → false ≡ is_err r → IsFlush (flush_told r)
+through : (r : Result (Unit {0}) Error) → false ≡ is_err r → IsFlush (flush_call r)
 through (Ok done) e = tt
 through (Err fault) e = absurd (true≢false (sym e))
 
@@ -27,8 +27,8 @@ returns-in-Ok-eq0 g c =
     inr (inr (record {
       count = c.in-Ok-eq0.field-0;
       contents = g.W.Sink.contents c.take.new.self;
-      told = g.W.Sink.told c.take.new.self;
-      ends = ends_by (known_ends g.R.Source.remaining g.R.Source.told g.R.Source.beside g.W.Sink.contents g.W.Sink.told)
+      told = g.W.Sink.calls c.take.new.self;
+      ends = ends_by (known_ends g.R.Source.remaining g.R.Source.calls g.R.Source.beside g.W.Sink.contents g.W.Sink.calls)
           c.lose.ensures.reader c.lose.ensures.writer;
       wrote = took _ _ c.take.result c.in-Ok-eq0.field-0 _ _ left c.in-Ok-eq0.is c.take.ensures.bytes;
       failed = write_empty _ c.take.result c.in-Ok-eq0.field-0 (made_none _) c.take.ensures.tells c.in-Ok-eq0.is
@@ -46,7 +46,7 @@ returns-then-eq g c =
     inr (inl (record {
       count = 0;
       contents = g.W.Sink.contents c.take.new.self;
-      told = g.W.Sink.told c.take.new.self;
+      told = g.W.Sink.calls c.take.new.self;
       ends = refl;
       wrote = kept _ _ c.take.result c.in-Err.e _ c.in-Err.is c.take.ensures.bytes;
       more = one_call _ c.take.ensures.tells;
@@ -67,8 +67,8 @@ returns-in-Err g c =
     inr (inr (record {
       count = 0;
       contents = g.W.Sink.contents c.take.new.self;
-      told = g.W.Sink.told c.take.new.self;
-      ends = ends_by (known_ends g.R.Source.remaining g.R.Source.told g.R.Source.beside g.W.Sink.contents g.W.Sink.told)
+      told = g.W.Sink.calls c.take.new.self;
+      ends = ends_by (known_ends g.R.Source.remaining g.R.Source.calls g.R.Source.beside g.W.Sink.contents g.W.Sink.calls)
           lost.reader lost.writer;
       wrote = kept _ _ c.take.result c.in-Err.e _ c.in-Err.is c.take.ensures.bytes;
       failed = write_failed _ c.take.result c.in-Err.e (made_none _) c.take.ensures.tells c.in-Err.is
@@ -90,7 +90,7 @@ returns-then-not-is_written g c =
     inr (inl (record {
       count = n;
       contents = g.W.Sink.contents c.take.new.self;
-      told = g.W.Sink.told c.take.new.self;
+      told = g.W.Sink.calls c.take.new.self;
       ends = refl;
       wrote = took _ _ c.take.result n _ _ left c.in-Ok.is c.take.ensures.bytes;
       more = one_call _ c.take.ensures.tells;
@@ -114,8 +114,8 @@ returns-then-is_err g c =
     inr (inr (record {
       count = n;
       contents = g.W.Sink.contents c.send_on.new.self;
-      told = g.W.Sink.told c.send_on.new.self;
-      ends = ends_by (known_ends g.R.Source.remaining g.R.Source.told g.R.Source.beside g.W.Sink.contents g.W.Sink.told)
+      told = g.W.Sink.calls c.send_on.new.self;
+      ends = ends_by (known_ends g.R.Source.remaining g.R.Source.calls g.R.Source.beside g.W.Sink.contents g.W.Sink.calls)
           lost.reader lost.writer;
       wrote = kept_more _ _ _ _ (took _ _ c.take.result n _ _ left c.in-Ok.is c.take.ensures.bytes)
           c.send_on.ensures.bytes;
@@ -135,7 +135,7 @@ returns g c =
     inr (inl (record {
       count = n;
       contents = g.W.Sink.contents c.send_on.new.self;
-      told = g.W.Sink.told c.send_on.new.self;
+      told = g.W.Sink.calls c.send_on.new.self;
       ends = refl;
       wrote = kept_more _ _ _ _ (took _ _ c.take.result n _ _ left c.in-Ok.is c.take.ensures.bytes)
           c.send_on.ensures.bytes;
