@@ -5,7 +5,7 @@ use Rattle.std.specs.Prelude.{OnErr, ◌<◌}
 use Rattle.std.specs.Io.KnownBytes.{Appends}
 use Rattle.std.proofs.{KnownBytes.Appends-nil, KnownBytes.Appends-trans, Math.Seq.take-append-add, Math.Seq.take-length}
 use Rattle.std.proofs.lemmas.List.{take-append-le, take_more, take-append-drop, length-append, map-append}
-use Rattle.posting_core.specs.Told.{HasMore, HasWriteFailed, IsWriteFailure, WriteTold}
+use Rattle.posting_core.specs.EndCalls.{HasMore, HasWriteFailed, IsWriteFailure, WriteCall}
 use Rattle.posting_core.proofs.Telling.{more_failed}
 use Rattle.report_contents.specs.{Lines.text_of, Written.AppendsPart}
 use Rattle.report_contents.proofs.Joined.{text_of-snoc, text_of-append}
@@ -49,7 +49,7 @@ then_part old mid new a b h k = record {
 }
 
 -- a failure after what was written
-pub later_failed : {old mid new : Option (List WriteTold)} → HasMore old mid → HasWriteFailed mid new
+pub later_failed : {old mid new : Option (List WriteCall)} → HasMore old mid → HasWriteFailed mid new
     → HasWriteFailed old new
 later_failed h f = more_failed IsWriteFailure h f
 

@@ -1,8 +1,8 @@
 //! Writes an audit.
 ghost use Rattle.std.specs.Prelude.{◌≡◌, length, map, IfErr, OnErr, OnOk};
 ghost use Rattle.std.specs.Io.KnownBytes.{Appends};
-ghost use Rattle.posting_core.specs.believed.Told.{EndsWith};
-ghost use Rattle.posting_core.specs.Told.{HasMore, HasWriteFailed, IsFlush};
+ghost use Rattle.posting_core.specs.believed.EndCalls.{EndsWith};
+ghost use Rattle.posting_core.specs.EndCalls.{HasMore, HasWriteFailed, IsFlush};
 ghost use Rattle.report_contents.specs.Audit.{is_sound};
 ghost use Rattle.report_contents.specs.AuditText.{audit_text, branch_line, verdict_line};
 ghost use Rattle.report_contents.specs.Lines.{text_of};
@@ -43,8 +43,8 @@ impl From<WriteFailed> for WriteFault {
 pub fn put<W: Sink>(writer: &mut W, text: &str) -> Result<(), WriteFault>
     ensures ok { OnOk result (Appends (W.contents writer.old) (W.contents writer.new) text.now) }
     ensures err { OnErr result (AppendsPart (W.contents writer.old) (W.contents writer.new) text.now) }
-    ensures more { OnOk result (HasMore (W.told writer.old) (W.told writer.new)) }
-    ensures failed { OnErr result (HasWriteFailed (W.told writer.old) (W.told writer.new)) }
+    ensures more { OnOk result (HasMore (W.calls writer.old) (W.calls writer.new)) }
+    ensures failed { OnErr result (HasWriteFailed (W.calls writer.old) (W.calls writer.new)) }
 {
     match write_each(writer, text.as_bytes()) {
         Ok(()) => Ok(()),
@@ -61,8 +61,8 @@ pub fn put<W: Sink>(writer: &mut W, text: &str) -> Result<(), WriteFault>
 pub fn put_last<W: Sink>(writer: &mut W, text: &str) -> Result<(), WriteFault>
     ensures ok { OnOk result (Appends (W.contents writer.old) (W.contents writer.new) text.now) }
     ensures err { OnErr result (AppendsPart (W.contents writer.old) (W.contents writer.new) text.now) }
-    ensures flushed { OnOk result (EndsWith IsFlush (W.told writer.old) (W.told writer.new)) }
-    ensures failed { OnErr result (HasWriteFailed (W.told writer.old) (W.told writer.new)) }
+    ensures flushed { OnOk result (EndsWith IsFlush (W.calls writer.old) (W.calls writer.new)) }
+    ensures failed { OnErr result (HasWriteFailed (W.calls writer.old) (W.calls writer.new)) }
 {
     match write_out(writer, text.as_bytes()) {
         Ok(()) => Ok(()),
@@ -76,8 +76,8 @@ fn put_branches<W: Sink>(writer: &mut W, lines: &[BranchLine]) -> Result<(), Wri
         (Appends (W.contents writer.old) (W.contents writer.new) (text_of (map branch_line lines.now))) }
     ensures err { OnErr result
         (AppendsPart (W.contents writer.old) (W.contents writer.new) (text_of (map branch_line lines.now))) }
-    ensures more { OnOk result (HasMore (W.told writer.old) (W.told writer.new)) }
-    ensures failed { OnErr result (HasWriteFailed (W.told writer.old) (W.told writer.new)) }
+    ensures more { OnOk result (HasMore (W.calls writer.old) (W.calls writer.new)) }
+    ensures failed { OnErr result (HasWriteFailed (W.calls writer.old) (W.calls writer.new)) }
 {
     for line in lines {
         put(writer, branch_text(line).as_str())?;
@@ -107,9 +107,9 @@ pub fn write_audit<W: Sink>(audit: &Audit, writer: &mut W) -> Result<(), WriteFa
         (Appends (W.contents writer.old) (W.contents writer.new) (audit_text audit.now)) }
     ensures err { OnErr result
         (AppendsPart (W.contents writer.old) (W.contents writer.new) (audit_text audit.now)) }
-    ensures flushed { OnOk result (EndsWith IsFlush (W.told writer.old) (W.told writer.new)) }
+    ensures flushed { OnOk result (EndsWith IsFlush (W.calls writer.old) (W.calls writer.new)) }
     // The last write or flush failed, or it was asked too often.
-    ensures failed { OnErr result (HasWriteFailed (W.told writer.old) (W.told writer.new)) }
+    ensures failed { OnErr result (HasWriteFailed (W.calls writer.old) (W.calls writer.new)) }
 {
     put(writer, numbers_text(audit).as_str())?;
     put_branches(writer, audit.lines.as_slice())?;

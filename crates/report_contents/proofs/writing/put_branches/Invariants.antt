@@ -1,6 +1,6 @@
 use Rattle.std.proofs.Common.{map, take}
 use Rattle.std.specs.Io.KnownBytes.{Appends}
-use Rattle.posting_core.specs.Told.{HasMore}
+use Rattle.posting_core.specs.EndCalls.{HasMore}
 use Rattle.report_contents.specs.{AuditText.branch_line, Lines.text_of}
 use Rattle.report_contents.proofs.writing.put_branches.Given as goal
 
@@ -9,5 +9,5 @@ abbrev pub invariant-loop-line : goal.invariant-loop-line
 invariant-loop-line g l = record {
   wrote : Appends (g.W.Sink.contents l.fn.writer) (g.W.Sink.contents l.writer)
       (text_of (map branch_line (take l.line-index l.lines)));
-  more : HasMore (g.W.Sink.told l.fn.writer) (g.W.Sink.told l.writer);
+  more : HasMore (g.W.Sink.calls l.fn.writer) (g.W.Sink.calls l.writer);
 }

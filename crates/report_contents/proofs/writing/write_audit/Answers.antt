@@ -2,7 +2,7 @@
 use Rattle.std.proofs.Common.{◌≡◌, ℕ, List, [], ◌∷◌, ◌++◌, map, Option, sym, ap, ◌∙◌, append-nil}
 use Rattle.std.proofs.{lemmas.Result.on_err_weaker, lemmas.Result.on_ok_weaker, KnownBytes.Appends-trans}
 use Rattle.std.specs.Io.KnownBytes.{Appends}
-use Rattle.posting_core.specs.Told.{IsFlush}
+use Rattle.posting_core.specs.EndCalls.{IsFlush}
 use Rattle.posting_core.proofs.Telling.{more_more, more_last}
 use Rattle.report_contents.specs.declared.{audit.BranchLine.BranchLine, audit.Audit.Audit}
 use Rattle.report_contents.specs.{Audit.is_sound, Lines.text_of, Written.AppendsPart}
