@@ -9,8 +9,8 @@ use Rattle.posting_rules.specs.believed.Tables.{Tables}
 use Rattle.posting_rules.specs.declared.fault.Fault.{Fault}
 use Rattle.posting_rules.specs.declared.fault.Fault.TheVariants.{Damaged, Store}
 use Rattle.posting_rules.specs.declared.fault.Rule.{Rule}
-use Rattle.posting_core.specs.believed.Told.{EndsWith}
-use Rattle.posting_core.specs.Told.{HasWriteFailed, IsFlush, WriteTold}
+use Rattle.posting_core.specs.believed.EndCalls.{EndsWith}
+use Rattle.posting_core.specs.EndCalls.{HasWriteFailed, IsFlush, WriteCall}
 use Rattle.store_rows.specs.believed.BankTables.{history as history_table, reference as reference_table}
 use Rattle.store_rows.specs.believed.View.{history_entry, reference_entry}
 use Rattle.bank_transactions.specs.believed.Stored.{IsStoredBalance}
@@ -92,7 +92,7 @@ pub record RefusesBalance {S : Type 0} (g : Ghosts S) (old new : Bank S g)
       → database_of g new ≡ database_of g old
 
 -- what is left of the writer, of which it is known what its calls returned
-pub record LeavesWriter {W : Type 0} (calls : W → Option (List WriteTold)) (old new : W) (refused : Type 0)
+pub record LeavesWriter {W : Type 0} (calls : W → Option (List WriteCall)) (old new : W) (refused : Type 0)
     (told : Result (Unit {0}) ReportFault) : Type 0 where
   -- where the account isn't open, or its balance was refused, nothing was written
   pub silent : (told ≡ Err NoAccount) ⊎ refused → new ≡ old

@@ -1,7 +1,7 @@
 //! The line of one posting.
 ghost use Rattle.std.specs.Prelude.{◌≡◌, ◌<◌, ◌+ℤ◌, nat_abs, Err, IfNone, IfSome, OnOk};
 ghost use Rattle.message_records.specs.declared.limits.TheConstants.{MAX_BALANCE};
-ghost use Rattle.posting_core.specs.Told.{HasMore, HasWriteFailed};
+ghost use Rattle.posting_core.specs.EndCalls.{HasMore, HasWriteFailed};
 ghost use Rattle.bank_reports.specs.declared.fault.ReportFault.TheVariants.{Write};
 ghost use Rattle.bank_reports.specs.Postings.{WritesLine};
 
@@ -29,8 +29,8 @@ pub(crate) fn write_line<W: Sink>(
     writer: &mut W,
 ) -> Result<Cents, ReportFault>
     ensures written { WritesLine form.now row.now before (W.contents writer.old) (W.contents writer.new) result }
-    ensures more { OnOk result (HasMore (W.told writer.old) (W.told writer.new)) }
-    ensures failed { result ≡ Err Write → HasWriteFailed (W.told writer.old) (W.told writer.new) }
+    ensures more { OnOk result (HasMore (W.calls writer.old) (W.calls writer.new)) }
+    ensures failed { result ≡ Err Write → HasWriteFailed (W.calls writer.old) (W.calls writer.new) }
 {
     let Some(after) = with_delta(before, row.posting.delta) else {
         return Err(ReportFault::Bank(Fault::Damaged(Rule::Balance)));

@@ -1,8 +1,8 @@
 //! The statements of accounts whose postings are gathered, one after another.
 ghost use Rattle.std.specs.Prelude.{◌≡◌, ◌++◌, All, Err, OnOk};
 ghost use Rattle.std.specs.List.Sorted.{IsNonDecreasingBy};
-ghost use Rattle.posting_core.specs.believed.Told.{EndsWith};
-ghost use Rattle.posting_core.specs.Told.{HasMore, HasWriteFailed, IsFlush};
+ghost use Rattle.posting_core.specs.believed.EndCalls.{EndsWith};
+ghost use Rattle.posting_core.specs.EndCalls.{HasMore, HasWriteFailed, IsFlush};
 ghost use Rattle.report_contents.specs.AllStatements.{above_in};
 ghost use Rattle.report_contents.specs.StatementText.{heading_of, names_of};
 ghost use Rattle.bank_reports.specs.declared.fault.ReportFault.TheVariants.{Write};
@@ -25,8 +25,8 @@ fn write_each<W: Sink>(
     writer: &mut W,
 ) -> Result<(), ReportFault>
     ensures written { WritesLines form.now rows.now (W.contents writer.old) (W.contents writer.new) result }
-    ensures more { OnOk result (HasMore (W.told writer.old) (W.told writer.new)) }
-    ensures failed { result ≡ Err Write → HasWriteFailed (W.told writer.old) (W.told writer.new) }
+    ensures more { OnOk result (HasMore (W.calls writer.old) (W.calls writer.new)) }
+    ensures failed { result ≡ Err Write → HasWriteFailed (W.calls writer.old) (W.calls writer.new) }
 {
     let mut balance = Cents::zero();
     for row in rows {
@@ -40,8 +40,8 @@ fn write_each<W: Sink>(
 fn write_heading<W: Sink>(form: &Form, account: Account, writer: &mut W) -> Result<(), ReportFault>
     ensures written { WritesAbove (heading_of form.now account ++ names_of form.now) (W.contents writer.old)
         (W.contents writer.new) result }
-    ensures more { OnOk result (HasMore (W.told writer.old) (W.told writer.new)) }
-    ensures failed { result ≡ Err Write → HasWriteFailed (W.told writer.old) (W.told writer.new) }
+    ensures more { OnOk result (HasMore (W.calls writer.old) (W.calls writer.new)) }
+    ensures failed { result ≡ Err Write → HasWriteFailed (W.calls writer.old) (W.calls writer.new) }
 {
     put(writer, form.heading(account).as_str())?;
     put(writer, form.names().as_str())?;
@@ -57,8 +57,8 @@ fn write_above<W: Sink>(
 ) -> Result<(), ReportFault>
     ensures written { WritesAbove (above_in layout form.now account) (W.contents writer.old) (W.contents writer.new)
         result }
-    ensures more { OnOk result (HasMore (W.told writer.old) (W.told writer.new)) }
-    ensures failed { result ≡ Err Write → HasWriteFailed (W.told writer.old) (W.told writer.new) }
+    ensures more { OnOk result (HasMore (W.calls writer.old) (W.calls writer.new)) }
+    ensures failed { result ≡ Err Write → HasWriteFailed (W.calls writer.old) (W.calls writer.new) }
 {
     match layout {
         Layout::Sheet { .. } => Ok(()),
@@ -74,8 +74,8 @@ fn write_account<W: Sink>(
     writer: &mut W,
 ) -> Result<(), ReportFault>
     ensures written { WritesAccount query.now account rows.now (W.contents writer.old) (W.contents writer.new) result }
-    ensures more { OnOk result (HasMore (W.told writer.old) (W.told writer.new)) }
-    ensures failed { result ≡ Err Write → HasWriteFailed (W.told writer.old) (W.told writer.new) }
+    ensures more { OnOk result (HasMore (W.calls writer.old) (W.calls writer.new)) }
+    ensures failed { result ≡ Err Write → HasWriteFailed (W.calls writer.old) (W.calls writer.new) }
 {
     let form = Form::of_account(query, rows);
     write_above(query.layout, &form, account, writer)?;
@@ -92,8 +92,8 @@ fn write_listed<W: Sink>(
     writer: &mut W,
 ) -> Result<(), ReportFault>
     ensures written { WritesListed query.now account rows.now (W.contents writer.old) (W.contents writer.new) result }
-    ensures more { OnOk result (HasMore (W.told writer.old) (W.told writer.new)) }
-    ensures failed { result ≡ Err Write → HasWriteFailed (W.told writer.old) (W.told writer.new) }
+    ensures more { OnOk result (HasMore (W.calls writer.old) (W.calls writer.new)) }
+    ensures failed { result ≡ Err Write → HasWriteFailed (W.calls writer.old) (W.calls writer.new) }
 {
     if query.selection.has_any(rows) {
         write_account(account, rows, query, writer)
@@ -111,8 +111,8 @@ fn write_parts<W: Sink>(
     requires rise { IsNonDecreasingBy account_of rows.now }
     requires numbers { All IsOfAccount rows.now }
     ensures written { WritesParts query.now rows.now (W.contents writer.old) (W.contents writer.new) result }
-    ensures more { OnOk result (HasMore (W.told writer.old) (W.told writer.new)) }
-    ensures failed { result ≡ Err Write → HasWriteFailed (W.told writer.old) (W.told writer.new) }
+    ensures more { OnOk result (HasMore (W.calls writer.old) (W.calls writer.new)) }
+    ensures failed { result ≡ Err Write → HasWriteFailed (W.calls writer.old) (W.calls writer.new) }
 {
     let mut left = rows;
     'accounts: for _ in 0..rows.len() {
@@ -138,8 +138,8 @@ pub(crate) fn write_gathered<W: Sink>(
     requires { All IsOfAccount gathered.rows.items }
     ensures written { WritesGathered query gathered.rows.items (W.contents writer.old) (W.contents writer.new)
         result }
-    ensures flushed { OnOk result (EndsWith IsFlush (W.told writer.old) (W.told writer.new)) }
-    ensures failed { result ≡ Err Write → HasWriteFailed (W.told writer.old) (W.told writer.new) }
+    ensures flushed { OnOk result (EndsWith IsFlush (W.calls writer.old) (W.calls writer.new)) }
+    ensures failed { result ≡ Err Write → HasWriteFailed (W.calls writer.old) (W.calls writer.new) }
 {
     let rows = gathered.by_account()?;
     put(writer, query.layout.top().as_str())?;

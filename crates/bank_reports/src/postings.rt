@@ -2,7 +2,7 @@
 ghost use Rattle.std.specs.Prelude.{◌≡◌, [], List, Err, OnOk};
 ghost use Rattle.std.specs.Borrow.{sem, RestsIfErr};
 ghost use Rattle.sqlite.specs.State.{HasCleanDisk};
-ghost use Rattle.posting_core.specs.Told.{HasMore, HasWriteFailed};
+ghost use Rattle.posting_core.specs.EndCalls.{HasMore, HasWriteFailed};
 ghost use Rattle.store_rows.specs.believed.BankTables.{history as history_table, reference as reference_table};
 ghost use Rattle.walked_rows.specs.Pairs.{HasPairs, Pair, pair_key};
 ghost use Rattle.walked_rows.specs.Stored.{is_stated_of, stated_pair};
@@ -39,8 +39,8 @@ fn visit_rows<S: Alter, V: Visitor, W: Sink>(
     ensures ends { EndsVisits (V.Visited visitor.old) (V.Refused visitor.old) (W.contents writer.old) visitor.new
         (W.contents writer.new) result }
     ensures reads { ReadsRows S.Store V.TakesMemory (lent walk.old) (lent walk.new) result }
-    ensures more { OnOk result (HasMore (W.told writer.old) (W.told writer.new)) }
-    ensures failed { result ≡ Err Write → HasWriteFailed (W.told writer.old) (W.told writer.new) }
+    ensures more { OnOk result (HasMore (W.calls writer.old) (W.calls writer.new)) }
+    ensures failed { result ≡ Err Write → HasWriteFailed (W.calls writer.old) (W.calls writer.new) }
 {
     'rows: for _ in 0..u64::MAX {
         let Some(row) = walk.next()? else {
@@ -82,8 +82,8 @@ pub(crate) fn visit_postings<S: Alter, V: Visitor, W: Sink>(
     ensures ends { EndsVisits (V.Visited visitor.old) (V.Refused visitor.old) (W.contents writer.old) visitor.new
         (W.contents writer.new) result }
     ensures reads { ReadsRows S.Store V.TakesMemory bank.old bank.new result }
-    ensures more { OnOk result (HasMore (W.told writer.old) (W.told writer.new)) }
-    ensures failed { result ≡ Err Write → HasWriteFailed (W.told writer.old) (W.told writer.new) }
+    ensures more { OnOk result (HasMore (W.calls writer.old) (W.calls writer.new)) }
+    ensures failed { result ≡ Err Write → HasWriteFailed (W.calls writer.old) (W.calls writer.new) }
 {
     let mut walk = begin(bank, of)?;
     visit_rows(&mut walk, visitor, writer)

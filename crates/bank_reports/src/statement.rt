@@ -2,8 +2,8 @@
 ghost use Rattle.std.specs.Prelude.{◌≡◌, ◌≢◌, List, Err, OnOk, Some, filter};
 ghost use Rattle.sqlite.specs.State.{HasCleanDisk};
 ghost use Rattle.posting_rules.specs.declared.fault.Fault.TheVariants.{Down, Memory};
-ghost use Rattle.posting_core.specs.believed.Told.{EndsWith};
-ghost use Rattle.posting_core.specs.Told.{HasWriteFailed, IsFlush};
+ghost use Rattle.posting_core.specs.believed.EndCalls.{EndsWith};
+ghost use Rattle.posting_core.specs.EndCalls.{HasWriteFailed, IsFlush};
 ghost use Rattle.store_rows.specs.believed.BankTables.{history as history_table, reference as reference_table};
 ghost use Rattle.walked_rows.specs.Pairs.{HasPairs, Pair};
 ghost use Rattle.walked_rows.specs.Stored.{is_stated_of};
@@ -37,8 +37,8 @@ fn write_lines<S: Alter, W: Sink>(
         → WritesStatement account form.now (filter (is_stated_of (Some account)) rows) (W.contents writer.old)
         (W.contents writer.new) result }
     ensures reads { ReadsRows S.Store ⊥ bank.old bank.new result }
-    ensures flushed { OnOk result (EndsWith IsFlush (W.told writer.old) (W.told writer.new)) }
-    ensures failed { result ≡ Err Write → HasWriteFailed (W.told writer.old) (W.told writer.new) }
+    ensures flushed { OnOk result (EndsWith IsFlush (W.calls writer.old) (W.calls writer.new)) }
+    ensures failed { result ≡ Err Write → HasWriteFailed (W.calls writer.old) (W.calls writer.new) }
 {
     put(writer, form.heading(account).as_str())?;
     put(writer, form.names().as_str())?;
@@ -61,8 +61,8 @@ fn write_part<S: Alter, W: Sink>(
         → WritesPart account selection range (filter (is_stated_of (Some account)) rows) (W.contents writer.old)
         (W.contents writer.new) result }
     ensures reads { ReadsRows S.Store ⊥ bank.old bank.new result }
-    ensures flushed { OnOk result (EndsWith IsFlush (W.told writer.old) (W.told writer.new)) }
-    ensures failed { result ≡ Err Write → HasWriteFailed (W.told writer.old) (W.told writer.new) }
+    ensures flushed { OnOk result (EndsWith IsFlush (W.calls writer.old) (W.calls writer.new)) }
+    ensures failed { result ≡ Err Write → HasWriteFailed (W.calls writer.old) (W.calls writer.new) }
 {
     let mut sums = RangeSums::none(range);
     visit_postings(bank, Some(account), &mut sums, writer)?;
@@ -83,8 +83,8 @@ fn write_open<S: Alter, W: Sink>(
         → WritesSelected account balance query (filter (is_stated_of (Some account)) rows) (W.contents writer.old)
         (W.contents writer.new) result }
     ensures reads { ReadsRows S.Store ⊥ bank.old bank.new result }
-    ensures flushed { OnOk result (EndsWith IsFlush (W.told writer.old) (W.told writer.new)) }
-    ensures failed { result ≡ Err Write → HasWriteFailed (W.told writer.old) (W.told writer.new) }
+    ensures flushed { OnOk result (EndsWith IsFlush (W.calls writer.old) (W.calls writer.new)) }
+    ensures failed { result ≡ Err Write → HasWriteFailed (W.calls writer.old) (W.calls writer.new) }
 {
     let selection = query.selection;
     match query.layout {
@@ -130,7 +130,7 @@ pub fn write_statement<S: Alter + Drop, W: Sink>(
         result }
     ensures refused { (bank_seen S.Store bank.new).is_down
         → RefusesBalance S.Store bank.old bank.new result }
-    ensures writer { LeavesWriter W.told writer.old writer.new (bank_seen S.Store bank.new).is_down result }
+    ensures writer { LeavesWriter W.calls writer.old writer.new (bank_seen S.Store bank.new).is_down result }
     ensures frugal { result ≢ Err (OfBank Memory) }
     ensures down { TellsDown (bank_seen S.Store bank.old).is_down (result ≡ Err (OfBank Down))
         ((bank.new ≡ bank.old) × (writer.new ≡ writer.old)) }
@@ -160,7 +160,7 @@ pub fn write_selected<S: Alter + Drop, W: Sink>(
         result }
     ensures refused { (bank_seen S.Store bank.new).is_down
         → RefusesBalance S.Store bank.old bank.new result }
-    ensures writer { LeavesWriter W.told writer.old writer.new (bank_seen S.Store bank.new).is_down result }
+    ensures writer { LeavesWriter W.calls writer.old writer.new (bank_seen S.Store bank.new).is_down result }
     ensures frugal { result ≢ Err (OfBank Memory) }
     ensures down { TellsDown (bank_seen S.Store bank.old).is_down (result ≡ Err (OfBank Down))
         ((bank.new ≡ bank.old) × (writer.new ≡ writer.old)) }

@@ -44,7 +44,7 @@ pub fn write_statements<S: Alter + Drop, W: Sink>(
         (W.contents writer.old) (W.contents writer.new) result }
     ensures file { (bank_seen S.Store bank.new).honest → StatesAllOfFile S.Store bank.old bank.new query
         (W.contents writer.old) (W.contents writer.new) result }
-    ensures writer { LeavesWriter W.told writer.old writer.new (bank_seen S.Store bank.new).is_down result }
+    ensures writer { LeavesWriter W.calls writer.old writer.new (bank_seen S.Store bank.new).is_down result }
     ensures memory { result ≡ Err (OfBank Memory) → W.contents writer.new ≡ W.contents writer.old }
     ensures down { TellsDown (bank_seen S.Store bank.old).is_down (result ≡ Err (OfBank Down))
         ((bank.new ≡ bank.old) × (writer.new ≡ writer.old)) }

@@ -1,7 +1,7 @@
 //! What is done with the postings of an account, one after another.
 ghost use Rattle.std.specs.Prelude.{◌≡◌, ◌<◌, ◌-◌, ◌^◌, ◌++◌, ◌∷◌, [], ℕ, List, Option, Err, IfErr, MatchResult, OnOk};
 ghost use Rattle.std.specs.Prelude.{length, pos};
-ghost use Rattle.posting_core.specs.Told.{HasMore, HasWriteFailed};
+ghost use Rattle.posting_core.specs.EndCalls.{HasMore, HasWriteFailed};
 ghost use Rattle.walked_rows.specs.declared.stated.StatedPosting.{StatedPosting};
 ghost use Rattle.bank_reports.specs.declared.fault.ReportFault.{ReportFault};
 ghost use Rattle.bank_reports.specs.declared.fault.ReportFault.TheVariants.{Write};
@@ -35,8 +35,8 @@ pub(crate) trait Visitor {
             (λ _. Visited first bytes (given ++ row.now ∷ []) self.new (W.contents writer.new))
             (λ fault. Refused first bytes given row.now fault (W.contents writer.new)) }
         ensures faults { IfErr result (IsRefusal TakesMemory) }
-        ensures more { OnOk result (HasMore (W.told writer.old) (W.told writer.new)) }
-        ensures failed { result ≡ Err Write → HasWriteFailed (W.told writer.old) (W.told writer.new) };
+        ensures more { OnOk result (HasMore (W.calls writer.old) (W.calls writer.new)) }
+        ensures failed { result ≡ Err Write → HasWriteFailed (W.calls writer.old) (W.calls writer.new) };
 }
 
 /// It adds each to the sums of its range, and writes nothing.

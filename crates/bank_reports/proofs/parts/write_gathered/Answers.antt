@@ -1,6 +1,6 @@
 -- All statements of what was gathered.
 use Rattle.std.proofs.Common.{rules, ◌≡◌, Ok, Err, refl, sym, ap, subst, ◌∙◌}
-use Rattle.posting_core.specs.Told.{IsFlush}
+use Rattle.posting_core.specs.EndCalls.{IsFlush}
 use Rattle.posting_core.proofs.Telling.{more_last, more_more}
 use Rattle.report_contents.proofs.Written.{later_failed, same_all, same_part}
 use Rattle.bank_reports.specs.declared.fault.ReportFault.TheVariants.{Bank, Write}

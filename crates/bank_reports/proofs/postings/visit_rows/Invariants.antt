@@ -1,7 +1,7 @@
 -- The postings that the walk gave were visited.
 use Rattle.std.proofs.Common.{◌≡◌}
 use Rattle.sqlite.specs.{State.HasCleanDisk, State.Survives, Held.state}
-use Rattle.posting_core.specs.Told.{HasMore}
+use Rattle.posting_core.specs.EndCalls.{HasMore}
 use Rattle.bank_store.specs.{Walks.IsStill, Walking.HasToldFault, Walking.postings_to_come}
 use Rattle.bank_reports.proofs.Visited.{AreVisited}
 use Rattle.bank_reports.proofs.postings.visit_rows.Given as goal
@@ -16,7 +16,7 @@ invariant-rows g l =
       up : l.walk.bank.now.fault ≡ l.fn.walk.bank.now.fault;
       fresh : HasToldFault l.walk → ⊥;
       still : HasCleanDisk now → IsStill old now;
-      more : HasMore (g.W.Sink.told l.fn.writer) (g.W.Sink.told l.writer);
+      more : HasMore (g.W.Sink.calls l.fn.writer) (g.W.Sink.calls l.writer);
       visited : AreVisited g.V.Visitor.Visited l.fn.visitor (g.W.Sink.contents l.fn.writer) old.now
           (λ rows. postings_to_come rows l.fn.walk) (HasCleanDisk now) (λ rows. postings_to_come rows l.walk) l.visitor
           (g.W.Sink.contents l.writer) l.counter;

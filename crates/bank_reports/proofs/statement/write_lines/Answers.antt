@@ -2,7 +2,7 @@
 use Rattle.std.proofs.Common.{rules, ◌≡◌, Err, Some, filter, refl, sym, ◌∙◌}
 use Rattle.posting_rules.specs.declared.fault.Fault.TheVariants.{Down, Memory, Store}
 use Rattle.std.proofs.KnownBytes.{Appends-nil}
-use Rattle.posting_core.specs.Told.{IsFlush}
+use Rattle.posting_core.specs.EndCalls.{IsFlush}
 use Rattle.posting_core.proofs.Telling.{more_last, more_more}
 use Rattle.walked_rows.specs.Stored.{is_stated_of}
 use Rattle.report_contents.proofs.Written.{later_failed, same_all, same_part}

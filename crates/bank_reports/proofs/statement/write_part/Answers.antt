@@ -2,7 +2,7 @@
 use Rattle.std.proofs.Common.{rules, ◌≡◌, ℕ, [], List, Option, Err, Some, filter, refl, sym, subst, inl, inr, ◌∙◌}
 use Rattle.std.proofs.lemmas.Result.{on_ok_weaker}
 use Rattle.sqlite.specs.{State.HasCleanDisk, Held.state}
-use Rattle.posting_core.specs.Told.{IsFlush}
+use Rattle.posting_core.specs.EndCalls.{IsFlush}
 use Rattle.posting_core.proofs.Telling.{more_last}
 use Rattle.store_rows.specs.believed.BankTables.{history as history_table, reference as reference_table}
 use Rattle.walked_rows.specs.Stored.{is_stated_of}

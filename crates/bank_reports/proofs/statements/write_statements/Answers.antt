@@ -7,7 +7,7 @@ use Rattle.posting_rules.specs.{believed.Counter.ShowsLog}
 use Rattle.posting_core.proofs.Telling.{more_last}
 use Rattle.store_rows.specs.believed.BankTables.{history as history_table, reference as reference_table}
 use Rattle.walked_rows.specs.{Pairs.HasPairs, Pairs.Pair}
-use Rattle.posting_core.specs.Told.{IsFlush}
+use Rattle.posting_core.specs.EndCalls.{IsFlush}
 use Rattle.std.proofs.lemmas.Result.{on_ok_weaker}
 use Rattle.report_contents.specs.declared.query.Query.{Query}
 use Rattle.report_contents.proofs.Written.{later_failed}
