@@ -7,7 +7,7 @@ use Rattle.std.proofs.KnownBytes.{Appends-trans}
 use Rattle.std.proofs.lemmas.List.{map-append}
 use Rattle.report_contents.specs.Written.{AppendsPart}
 use Rattle.report_contents.proofs.Written.{later_failed, same_all, same_part, then_part}
-use Rattle.posting_core.specs.Told.{HasWriteFailed, WriteTold}
+use Rattle.posting_core.specs.EndCalls.{HasWriteFailed, WriteCall}
 use Rattle.posting_core.proofs.Telling.{more_more}
 use Rattle.posting_rules.specs.declared.fault.Fault.{Fault}
 use Rattle.posting_rules.specs.declared.fault.Fault.TheVariants.{Damaged, Down, Memory, Store}
@@ -32,7 +32,7 @@ record_of k = request_spelling (request_in k)
 -- ---- what is left of the writer, one row more
 
 module _ (after : ℕ) (rows : List KeptRequest) (row : KeptRequest) {old mid : Option (List ℕ)}
-    {t t' : Option (List WriteTold)} (visited : WroteRecords after (map kept_item rows) old mid t t') where
+    {t t' : Option (List WriteCall)} (visited : WroteRecords after (map kept_item rows) old mid t t') where
   each_more : IsExported after (kept_item row) → AllByRecursion (IsExported after) (map kept_item (rows ++ row ∷ []))
   each_more is =
       subst (AllByRecursion (IsExported after)) (sym (map-append kept_item rows (row ∷ [])))
@@ -49,7 +49,7 @@ module _ (after : ℕ) (rows : List KeptRequest) (row : KeptRequest) {old mid : 
   }
 
   module _ (is : is_after after (kept_item row) ≡ true) (request : IsRequestRow (kept_item row)) (bytes : List ℕ)
-      (same : bytes ≡ record_of (kept_item row)) {new : Option (List ℕ)} {t'' : Option (List WriteTold)} where
+      (same : bytes ≡ record_of (kept_item row)) {new : Option (List ℕ)} {t'' : Option (List WriteCall)} where
     -- it was written
     pub records_put : (result : Result (Unit {0}) ReplayFault) → Puts bytes mid new t' t'' result
         → OnOk result (WroteRecords after (map kept_item (rows ++ row ∷ [])) old new t t'')
@@ -88,7 +88,7 @@ module _ (after : ℕ) (rows : List KeptRequest) (row : KeptRequest) {old mid : 
 
 -- where the writer is said to have failed it did
 pub records_failed : {after : ℕ} {items next : List KeptItem} {old new : Option (List ℕ)}
-    {t t' : Option (List WriteTold)} (fault : ReplayFault) → WroteSomeRecords after items next old new t t' fault
+    {t t' : Option (List WriteCall)} (fault : ReplayFault) → WroteSomeRecords after items next old new t t' fault
     → fault ≡ Write → HasWriteFailed t t'
 records_failed Write some is = some.wrote.1
 records_failed (Bank fault) some is = absurd (not_write fault is)
@@ -115,7 +115,7 @@ no_more after Failed WasDown items coming (Damaged rule) many why =
 
 module _ (after : ℕ) (all : List KeptItem) where
   -- a fault came at the next of the rows, or at none of them
-  pub exports_part : (Failed WasDown : Type 0) {old new : Option (List ℕ)} {t t' : Option (List WriteTold)}
+  pub exports_part : (Failed WasDown : Type 0) {old new : Option (List ℕ)} {t t' : Option (List WriteCall)}
       (items next rest : List KeptItem) → items ++ (next ++ rest) ≡ all
       → (fault : ReplayFault) → WroteSomeRecords after items next old new t t' fault
       → Why (Bars kept_item BreaksKept (RefusesExport after)) Failed WasDown (next ++ rest) fault
@@ -137,7 +137,7 @@ module _ (after : ℕ) (all : List KeptItem) where
     why = no_more after Failed WasDown items (next ++ rest) fault part.many why;
   }
 
-  module _ {old mid new : Option (List ℕ)} {t t' : Option (List WriteTold)} (items : List KeptItem) (are : items ≡ all)
+  module _ {old mid new : Option (List ℕ)} {t t' : Option (List WriteCall)} (items : List KeptItem) (are : items ≡ all)
       (visited : WroteRecords after items old mid t t') where
     -- all were written, and what comes at the end couldn't be
     pub exports_end : AppendsPart mid new [] → ExportsRows after all old new (Err Write)

@@ -2,8 +2,8 @@
 use Rattle.std.proofs.Common.{◌≡◌, ◌++◌, ℕ, List, [], Option, Result, Ok, Err, append-nil}
 use Rattle.std.specs.{Prelude.IfErr, Prelude.OnOk, Io.KnownBytes.Appends}
 use Rattle.std.proofs.KnownBytes.{Appends-trans}
-use Rattle.posting_core.specs.believed.Told.{EndsWith}
-use Rattle.posting_core.specs.Told.{HasMore, HasWriteFailed, IsFlush, WriteTold}
+use Rattle.posting_core.specs.believed.EndCalls.{EndsWith}
+use Rattle.posting_core.specs.EndCalls.{HasMore, HasWriteFailed, IsFlush, WriteCall}
 use Rattle.posting_core.proofs.Telling.{more_last, more_more}
 use Rattle.posting_rules.specs.declared.{fault.Fault.Fault, fault.Rule.Rule}
 use Rattle.report_contents.specs.Written.{AppendsPart}
@@ -12,7 +12,7 @@ use Rattle.bank_replays.specs.Visiting.{IsRefusal}
 use Rattle.bank_replays.specs.Writing.{LeavesWriter, Puts, Wrote, WrotePart}
 use Rattle.bank_replays.specs.declared.fault.ReplayFault.{ReplayFault, TheVariants.Bank, TheVariants.Write}
 
-module _ (old mid new : Option (List ℕ)) {t t' t'' : Option (List WriteTold)} (a b text : List ℕ)
+module _ (old mid new : Option (List ℕ)) {t t' t'' : Option (List WriteCall)} (a b text : List ℕ)
     (wrote : Wrote a old mid t t') (same : a ++ b ≡ text) where
   -- bytes more
   pub puts_visited : (result : Result (Unit {0}) ReplayFault) → Puts b mid new t' t'' result
@@ -44,11 +44,11 @@ module _ (old mid new : Option (List ℕ)) (text : List ℕ) where
   pub end_part : Appends old mid text → AppendsPart mid new [] → AppendsPart old new text
   end_part one two = same_part old new (append-nil text) (then_part old mid new text [] one two)
 
-pub writer_ok : {t t' t'' : Option (List WriteTold)} → HasMore t t' → EndsWith IsFlush t' t''
+pub writer_ok : {t t' t'' : Option (List WriteCall)} → HasMore t t' → EndsWith IsFlush t' t''
     → LeavesWriter t t'' (Ok tt)
 writer_ok more ends = record { flushed = more_last IsFlush more ends; failed = λ is. absurd cc }
 
-pub writer_err : {t t' : Option (List WriteTold)} (fault : ReplayFault) → (fault ≡ Write → HasWriteFailed t t')
+pub writer_err : {t t' : Option (List WriteCall)} (fault : ReplayFault) → (fault ≡ Write → HasWriteFailed t t')
     → LeavesWriter t t' (Err fault)
 writer_err fault failed = record { flushed = tt; failed = λ is. failed (fault_is fault is) }
   where
@@ -56,5 +56,5 @@ writer_err fault failed = record { flushed = tt; failed = λ is. failed (fault_i
     fault_is f is = cc
 
 -- a fault of the bank isn't the writer's
-pub bank_err : {t t' : Option (List WriteTold)} (fault : Fault) → LeavesWriter t t' (Err (Bank fault))
+pub bank_err : {t t' : Option (List WriteCall)} (fault : Fault) → LeavesWriter t t' (Err (Bank fault))
 bank_err fault = record { flushed = tt; failed = λ is. absurd cc }

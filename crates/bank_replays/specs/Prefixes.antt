@@ -6,7 +6,7 @@ use Rattle.std.proofs.KnownBytes.{Appends-nil}
 use Rattle.std.proofs.lemmas.List.{length-map}
 use Rattle.sha2.specs.Hashers.{Holds256}
 use Rattle.sha2.specs.declared.Sha256.{Sha256}
-use Rattle.posting_core.specs.Told.{WriteTold}
+use Rattle.posting_core.specs.EndCalls.{WriteCall}
 use Rattle.posting_core.proofs.Telling.{more_none}
 use Rattle.posting_rules.specs.declared.fault.Fault.{Fault}
 use Rattle.posting_rules.specs.declared.fault.Fault.TheVariants.{Memory}
@@ -31,10 +31,10 @@ pub none_after : (d : Digest) → GoesOnBy d d []
 none_after d = record { requests = sym (zero-add d.requests); sha256 = refl; each = tt }
 
 -- nothing was written yet
-pub wrote_none : (w : Option (List ℕ)) (t : Option (List WriteTold)) → Wrote [] w w t t
+pub wrote_none : (w : Option (List ℕ)) (t : Option (List WriteCall)) → Wrote [] w w t t
 wrote_none w t = (Appends-nil w, more_none t)
 
-pub records_none : (after : ℕ) (w : Option (List ℕ)) (t : Option (List WriteTold)) → WroteRecords after [] w w t t
+pub records_none : (after : ℕ) (w : Option (List ℕ)) (t : Option (List WriteCall)) → WroteRecords after [] w w t t
 records_none after w t = record { wrote = wrote_none w t; each = tt }
 
 -- nothing was hashed yet
@@ -58,7 +58,7 @@ pub memory_is : (fault : Fault) → (let f : ReplayFault = Bank fault in f) ≡ 
 memory_is fault is = subst IsMemory (sym is) refl
 
 -- all of a text is a prefix of it and more
-pub all_part : (old new : Option (List ℕ)) (text more : List ℕ) {t t' : Option (List WriteTold)}
+pub all_part : (old new : Option (List ℕ)) (text more : List ℕ) {t t' : Option (List WriteCall)}
     → Wrote text old new t t' → (fault : Fault) → WrotePart (text ++ more) old new t t' (Bank fault)
 all_part old new text more wrote fault =
     (first_part old new text more (whole_part old new text wrote.0), λ is. absurd (not_write fault is))
@@ -90,7 +90,7 @@ digest_ends first rows fault many =
 mapped_many : (rows : List KeptRequest) → AreTooMany rows → AreTooMany (map kept_item rows)
 mapped_many rows many = subst (λ (n : ℕ). 2 ^ 64 - 1 ≤ n) (sym (length-map rows kept_item)) many
 
-pub records_end : (after : ℕ) (rows : List KeptRequest) {w w' : Option (List ℕ)} {t t' : Option (List WriteTold)}
+pub records_end : (after : ℕ) (rows : List KeptRequest) {w w' : Option (List ℕ)} {t t' : Option (List WriteCall)}
     (fault : Fault) → (fault ≡ Memory → AreTooMany rows) → WroteRecords after (map kept_item rows) w w' t t'
     → WroteSomeRecords after (map kept_item rows) [] w w' t t' (Bank fault)
 records_end after rows fault many visited = record {

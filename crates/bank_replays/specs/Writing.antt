@@ -5,8 +5,8 @@ use Rattle.std.specs.Fmt.{signed_decimal}
 use Rattle.std.specs.List.{AllByRecursion, flat_map}
 use Rattle.std.specs.Io.KnownBytes.{Appends}
 use Rattle.message_records.specs.believed.Spelling.{request_spelling}
-use Rattle.posting_core.specs.believed.Told.{EndsWith}
-use Rattle.posting_core.specs.Told.{HasMore, HasWriteFailed, IsFlush, WriteTold}
+use Rattle.posting_core.specs.believed.EndCalls.{EndsWith}
+use Rattle.posting_core.specs.EndCalls.{HasMore, HasWriteFailed, IsFlush, WriteCall}
 use Rattle.posting_rules.specs.declared.fault.Fault.TheVariants.{Damaged, Down, Memory, Store}
 use Rattle.posting_rules.specs.declared.fault.Rule.{Rule}
 use Rattle.posting_rules.specs.declared.fault.Rule.TheVariants.{Request}
@@ -30,7 +30,7 @@ WritesText text old new (Err fault) = AppendsPart old new text
 
 -- Bytes were written, and calls of the writer were made; or a prefix of them was, and its last call failed, or
 -- it was asked too often.
-pub record Puts (bytes : List ℕ) (old new : Option (List ℕ)) (t t' : Option (List WriteTold))
+pub record Puts (bytes : List ℕ) (old new : Option (List ℕ)) (t t' : Option (List WriteCall))
     (result : Result (Unit {0}) ReplayFault) : Type 0 where
   pub text : WritesText bytes old new result
   pub more : OnOk result (HasMore t t')
@@ -38,24 +38,24 @@ pub record Puts (bytes : List ℕ) (old new : Option (List ℕ)) (t t' : Option 
   pub only : IfErr result (λ fault. fault ≡ Write)
 
 -- a text was written, and calls of the writer were made
-abbrev pub Wrote : List ℕ → Option (List ℕ) → Option (List ℕ) → Option (List WriteTold)
-    → Option (List WriteTold) → Type 0
+abbrev pub Wrote : List ℕ → Option (List ℕ) → Option (List ℕ) → Option (List WriteCall)
+    → Option (List WriteCall) → Type 0
 Wrote text old new t t' = Appends old new text × HasMore t t'
 
 -- a prefix of it was, and where the writer is said to have failed it did
-abbrev pub WrotePart : List ℕ → Option (List ℕ) → Option (List ℕ) → Option (List WriteTold)
-    → Option (List WriteTold) → ReplayFault → Type 0
+abbrev pub WrotePart : List ℕ → Option (List ℕ) → Option (List ℕ) → Option (List WriteCall)
+    → Option (List WriteCall) → ReplayFault → Type 0
 WrotePart text old new t t' fault = AppendsPart old new text × (fault ≡ Write → HasWriteFailed t t')
 
 -- all of it was, and nothing more, before a fault of the bank; or a prefix of it and of more, where the writer failed
-abbrev pub WroteUpTo : (text more : List ℕ) → Option (List ℕ) → Option (List ℕ) → Option (List WriteTold)
-    → Option (List WriteTold) → ReplayFault → Type 0
+abbrev pub WroteUpTo : (text more : List ℕ) → Option (List ℕ) → Option (List ℕ) → Option (List WriteCall)
+    → Option (List WriteCall) → ReplayFault → Type 0
 WroteUpTo text more old new t t' Write = AppendsPart old new (text ++ more) × HasWriteFailed t t'
 WroteUpTo text more old new t t' (Bank fault) = Wrote text old new t t'
 
 -- what is left of the writer, by what its calls returned: after Ok all is flushed, and where it is said to have
 -- failed its last call did, or it was asked too often
-pub record LeavesWriter (old new : Option (List WriteTold)) (result : Result (Unit {0}) ReplayFault) : Type 0 where
+pub record LeavesWriter (old new : Option (List WriteCall)) (result : Result (Unit {0}) ReplayFault) : Type 0 where
   pub flushed : OnOk result (EndsWith IsFlush old new)
   pub failed : result ≡ Err Write → HasWriteFailed old new
 
@@ -74,14 +74,14 @@ abbrev pub IsExported : ℕ → KeptItem → Type 0
 IsExported after k = is_after after k ≡ true → IsRequestRow k
 
 -- the records of these rows were written
-pub record WroteRecords (after : ℕ) (items : List KeptItem) (old new : Option (List ℕ)) (t t' : Option (List WriteTold))
+pub record WroteRecords (after : ℕ) (items : List KeptItem) (old new : Option (List ℕ)) (t t' : Option (List WriteCall))
     : Type 0 where
   pub wrote : Wrote (records_after after items) old new t t'
   pub each : AllByRecursion (IsExported after) items
 
 -- and then this fault came, at the next row if there is one
 pub record WroteSomeRecords (after : ℕ) (items next : List KeptItem) (old new : Option (List ℕ))
-    (t t' : Option (List WriteTold)) (fault : ReplayFault) : Type 0 where
+    (t t' : Option (List WriteCall)) (fault : ReplayFault) : Type 0 where
   pub wrote : WroteUpTo (records_after after items) (records_after after next) old new t t' fault
   pub each : AllByRecursion (IsExported after) items
   -- so is the next, where the writer failed at it

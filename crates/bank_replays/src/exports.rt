@@ -48,14 +48,14 @@ impl<W: Sink> Visitor<KeptRequest, W> for After {
     ghost use Rattle.bank_replays.specs.Refusing.{RefusesExport};
 
     ghost Visited = { λ visitor first last rows. WroteRecords visitor.after (map kept_item rows)
-        (W.contents first) (W.contents last) (W.told first) (W.told last) };
+        (W.contents first) (W.contents last) (W.calls first) (W.calls last) };
 
     ghost Part = { λ visitor first last rows next fault. WroteSomeRecords visitor.after (map kept_item rows)
-        (refused_of kept_item next) (W.contents first) (W.contents last) (W.told first) (W.told last) fault };
+        (refused_of kept_item next) (W.contents first) (W.contents last) (W.calls first) (W.calls last) fault };
 
     ghost Refuses = { λ visitor. RefusesExport visitor.after };
 
-    ghost none_yet = { λ visitor writer. records_none visitor.after (W.contents writer) (W.told writer) };
+    ghost none_yet = { λ visitor writer. records_none visitor.after (W.contents writer) (W.calls writer) };
 
     ghost in_part = { λ visitor first last rows fault many visited. records_end visitor.after rows fault many visited };
 
@@ -83,7 +83,7 @@ fn export_records<S: Alter, W: Sink>(
     ensures rows { HasCleanDisk (file_of bank.new) → (all : List KeptItem)
         → HasKept (database_of S.Store bank.old) all
         → ExportsRows after all (W.contents writer.old) (W.contents writer.new) result }
-    ensures writer { LeavesWriter (W.told writer.old) (W.told writer.new) result }
+    ensures writer { LeavesWriter (W.calls writer.old) (W.calls writer.new) result }
     ensures why { TellsWhy S.Store fault_in bank.old bank.new result }
 {
     visit_all::<S, KeptRequest, W, After>(bank, &After { after }, writer)?;
@@ -117,7 +117,7 @@ pub fn export<S: Alter, W: Sink>(
     ensures log { (bank_seen S.Store bank.new).honest → (log : List Command)
         → ShowsLog (bank_seen S.Store bank.old) log → WritesSound (records_of after (answered_after log))
         (W.contents writer.old) (W.contents writer.new) result }
-    ensures writer { LeavesWriter (W.told writer.old) (W.told writer.new) result }
+    ensures writer { LeavesWriter (W.calls writer.old) (W.calls writer.new) result }
     ensures why { TellsWhy S.Store fault_in bank.old bank.new result }
     ensures bank { TakesNone (bank_seen S.Store bank.old) (bank_seen S.Store bank.new) (HasAnswered result) }
     ensures down { (bank_seen S.Store bank.old).is_down

@@ -47,15 +47,15 @@ impl<W: Sink> Visitor<KeptRequest, W> for EntriesAfter {
     ghost use Rattle.bank_replays.specs.Refusing.{RefusesAnswered};
 
     ghost Visited = { λ visitor first last rows. Wrote (entries_after visitor.after (map kept_item rows))
-        (W.contents first) (W.contents last) (W.told first) (W.told last) };
+        (W.contents first) (W.contents last) (W.calls first) (W.calls last) };
 
     ghost Part = { λ visitor first last rows next fault.
         WrotePart (entries_after visitor.after (map kept_item rows) ++ entries_after visitor.after (refused_of kept_item next))
-        (W.contents first) (W.contents last) (W.told first) (W.told last) fault };
+        (W.contents first) (W.contents last) (W.calls first) (W.calls last) fault };
 
     ghost Refuses = { λ visitor. RefusesAnswered };
 
-    ghost none_yet = { λ visitor writer. wrote_none (W.contents writer) (W.told writer) };
+    ghost none_yet = { λ visitor writer. wrote_none (W.contents writer) (W.calls writer) };
 
     ghost in_part = { λ visitor first last rows fault many visited.
         all_part (W.contents first) (W.contents last) _ _ visited fault };
@@ -83,7 +83,7 @@ fn write_entries<S: Alter, W: Sink>(
     ensures rows { HasCleanDisk (file_of bank.new) → (all : List KeptItem)
         → HasKept (database_of S.Store bank.old) all
         → LogsRows after all (W.contents writer.old) (W.contents writer.new) result }
-    ensures writer { LeavesWriter (W.told writer.old) (W.told writer.new) (without_count result) }
+    ensures writer { LeavesWriter (W.calls writer.old) (W.calls writer.new) (without_count result) }
     ensures why { TellsWhy S.Store fault_in bank.old bank.new result }
 {
     let visitor = EntriesAfter { after };
@@ -122,7 +122,7 @@ pub fn write_log<S: Alter, W: Sink>(
     ensures log { (bank_seen S.Store bank.new).honest → (log : List Command)
         → ShowsLog (bank_seen S.Store bank.old) log
         → LogsEntries after (log_entries log) (W.contents writer.old) (W.contents writer.new) result }
-    ensures writer { LeavesWriter (W.told writer.old) (W.told writer.new) (without_count result) }
+    ensures writer { LeavesWriter (W.calls writer.old) (W.calls writer.new) (without_count result) }
     ensures why { TellsWhy S.Store fault_in bank.old bank.new result }
     ensures bank { TakesNone (bank_seen S.Store bank.old) (bank_seen S.Store bank.new) (HasAnswered result) }
     ensures down { (bank_seen S.Store bank.old).is_down

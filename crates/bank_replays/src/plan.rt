@@ -114,14 +114,14 @@ impl<W: Sink> Visitor<StoredBranch, W> for Lines {
 
     ghost Visited = { λ visitor first last rows.
         Wrote (plan_lines (map floor_entry visitor.floors.items) (map branch_entry rows))
-        (W.contents first) (W.contents last) (W.told first) (W.told last) };
+        (W.contents first) (W.contents last) (W.calls first) (W.calls last) };
 
     ghost Part = { λ visitor first last rows next fault.
         WrotePart (plan_lines (map floor_entry visitor.floors.items) (map branch_entry rows)
         ++ plan_lines (map floor_entry visitor.floors.items) (refused_of branch_entry next))
-        (W.contents first) (W.contents last) (W.told first) (W.told last) fault };
+        (W.contents first) (W.contents last) (W.calls first) (W.calls last) fault };
 
-    ghost none_yet = { λ visitor writer. wrote_none (W.contents writer) (W.told writer) };
+    ghost none_yet = { λ visitor writer. wrote_none (W.contents writer) (W.calls writer) };
 
     ghost in_part = { λ visitor first last rows fault many visited.
         all_part (W.contents first) (W.contents last) _ _ visited fault };
@@ -156,7 +156,7 @@ fn write_branches<S: Alter, W: Sink>(bank: &mut Bank<S>, writer: &mut W) -> Resu
         → HasStoredRows (database_of S.Store bank.old) floor_table floors
         → HasStoredRows (database_of S.Store bank.old) branch_table branches
         → WritesText (plan_text floors branches) (W.contents writer.old) (W.contents writer.new) result }
-    ensures writer { LeavesWriter (W.told writer.old) (W.told writer.new) result }
+    ensures writer { LeavesWriter (W.calls writer.old) (W.calls writer.new) result }
     ensures why { TellsWhy S.Store fault_in bank.old bank.new result }
 {
     let lines = floors_of(bank)?;
@@ -188,7 +188,7 @@ pub fn write_plan<S: Alter, W: Sink>(bank: &mut Bank<S>, writer: &mut W) -> Resu
         → WritesText (plan_text floors branches) (W.contents writer.old) (W.contents writer.new) result }
     ensures sound { (bank_seen S.Store bank.new).honest → (log : List Command)
         → ShowsLog (bank_seen S.Store bank.old) log → (rule : Rule) → result ≢ Err (OfBank (Damaged rule)) }
-    ensures writer { LeavesWriter (W.told writer.old) (W.told writer.new) result }
+    ensures writer { LeavesWriter (W.calls writer.old) (W.calls writer.new) result }
     ensures why { TellsWhy S.Store fault_in bank.old bank.new result }
     ensures bank { TakesNone (bank_seen S.Store bank.old) (bank_seen S.Store bank.new) (HasAnswered result) }
     ensures down { (bank_seen S.Store bank.old).is_down

@@ -6,8 +6,8 @@ use posting_core::{Sink, write_each};
 
 /// Writes bytes.
 pub(crate) fn put_bytes<W: Sink>(writer: &mut W, bytes: &[u8]) -> Result<(), ReplayFault>
-    ensures { Puts bytes.now (W.contents writer.old) (W.contents writer.new) (W.told writer.old)
-        (W.told writer.new) result }
+    ensures { Puts bytes.now (W.contents writer.old) (W.contents writer.new) (W.calls writer.old)
+        (W.calls writer.new) result }
 {
     match write_each(writer, bytes) {
         Ok(()) => Ok(()),
