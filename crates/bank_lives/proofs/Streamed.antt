@@ -12,7 +12,7 @@ use Rattle.posting_rules.proofs.{Remaining.leaves_still, Remaining.leaves_weaker
 use Rattle.posting_rules.proofs.Sequence.{replies_to-append}
 use Rattle.posting_core.specs.believed.Batches.{joined, posts_in, posts_of}
 use Rattle.posting_core.specs.believed.Stream.{IfBank, IsRefusedAfterBatches, Streamed, acknowledged}
-use Rattle.posting_core.specs.believed.Told.{ReadTold}
+use Rattle.posting_core.specs.believed.EndCalls.{ReadCall}
 use Rattle.posting_core.specs.declared.stream.StreamFault.{StreamFault}
 use Rattle.posting_core.specs.declared.stream.StreamFault.TheVariants as stream
 use Rattle.posting_core.proofs.{Batched.all_posts, Output.few_acknowledged, Stops.at_least, Stops.stop_part}
@@ -179,7 +179,7 @@ module _ {C : Type 0} (seen : C → Seen) (E : Type 0) (old new : C) where
       (stood_is_stream (seen old) (seen old) [] (commands_of refused) up (λ h. h) (λ h log at. at)))
 
 -- a crash leaves all records of which a byte of the answer was written
-pub answered_left : {C : Type 0} (seen : C → Seen) {r r' : Option (List ℕ)} {q q' : Option (List ReadTold)}
+pub answered_left : {C : Type 0} (seen : C → Seen) {r r' : Option (List ℕ)} {q q' : Option (List ReadCall)}
     {w w' k k' : Option (List ℕ)} (old new : C) (result : Result ℕ ServeFault)
     (did : ServesConnection seen r r' q q' w w' k k' old new result) (log : List Command)
     → (seen new).honest → StandsAt (seen old) log

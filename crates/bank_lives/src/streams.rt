@@ -7,7 +7,7 @@ ghost use Rattle.posting_rules.specs.believed.Runs.{replies_to};
 ghost use Rattle.posting_rules.specs.declared.fault.Fault.{Fault as Told};
 ghost use Rattle.posting_core.specs.believed.Batches.{posts_of};
 ghost use Rattle.posting_core.specs.believed.Stream.{IfBank, IsRefusedAfterBatches, Streamed, acknowledged};
-ghost use Rattle.posting_core.specs.believed.Told.{ReadTold};
+ghost use Rattle.posting_core.specs.believed.EndCalls.{ReadCall};
 ghost use Rattle.posting_core.specs.declared.stream.StreamFault.{StreamFault};
 ghost use Rattle.counter_http.specs.believed.Outputs.{acknowledged_records};
 ghost use Rattle.counter_http.specs.believed.Serving.{ServesConnection};
@@ -39,12 +39,12 @@ pub fn streams_law<C: Counter>(_counter: &C)
         → (C.seen new).honest → (log : List Command) → ShowsLog (C.seen old) log
         → acknowledged (replies_to log (posts_of (did.taken ++ did.refused))) (length did.written)
         ≤ length (posts_of did.taken) }
-    ensures served { (r r' : Option (List ℕ)) (q q' : Option (List ReadTold))
+    ensures served { (r r' : Option (List ℕ)) (q q' : Option (List ReadCall))
         → (w w' k k' : Option (List ℕ)) (old new : _) (result : Result ℕ ServeFault)
         → (did : ServesConnection C.seen r r' q q' w w' k k' old new result)
         → ((C.seen old).is_down → ⊥)
         → IsStream (C.seen old) (C.seen new) (commands_of did.taken) (commands_of did.refused) }
-    ensures answered { (r r' : Option (List ℕ)) (q q' : Option (List ReadTold))
+    ensures answered { (r r' : Option (List ℕ)) (q q' : Option (List ReadCall))
         → (w w' k k' : Option (List ℕ)) (old new : _) (result : Result ℕ ServeFault)
         → (did : ServesConnection C.seen r r' q q' w w' k k' old new result)
         → (C.seen new).honest → (log : List Command) → StandsAt (C.seen old) log
