@@ -2,7 +2,7 @@
 use Rattle.std.proofs.Common.{◌≡◌, ℕ, List, Option, Result, Ok, Err, sym, subst}
 use Rattle.std.specs.{Prelude.OnErr, Result.IsErrOf}
 use Rattle.posting_rules.specs.{believed.Counter.Seen, declared.fault.Fault.Fault}
-use Rattle.posting_core.specs.{believed.LogEntries.AnsweredRequest, Told.WriteTold}
+use Rattle.posting_core.specs.{believed.LogEntries.AnsweredRequest, EndCalls.WriteCall}
 use Rattle.branch_loader.specs.{Followed.Did, believed.Plans.Rows, declared.follow_fault.FollowFault.FollowFault}
 use Rattle.branch_loader.specs.declared.follow_fault.FollowFault.TheVariants.{Bank, Differs, Memory, NoEntry, Read}
 use Rattle.branch_loader.specs.declared.follow_fault.FollowFault.TheVariants.{Truncated}
@@ -11,7 +11,7 @@ use Rattle.command_line.specs.declared.fault.CommandFault.{CommandFault, TheVari
 use Rattle.command_line.proofs.{LoadEnds.never_write, Printed.part_of}
 
 -- the line was printed, or a prefix of it
-pub followed_printed : (count : ℕ) (w w' : Option (List ℕ)) (t t' : Option (List WriteTold))
+pub followed_printed : (count : ℕ) (w w' : Option (List ℕ)) (t t' : Option (List WriteCall))
     (r : Result (Unit {0}) CommandFault) → PrintsLine (followed_line count) w w' t t' r → OnErr r (IsErrOf r Write)
     → TellsFollowed (Ok count) w w' r
 followed_printed count w w' t t' (Ok done) prints fault = prints.line

@@ -4,7 +4,7 @@ use Rattle.std.specs.{Prelude.IfErr, Prelude.IfOk, Result.IsErrOf, Io.KnownBytes
 use Rattle.std.proofs.KnownBytes.{Keeps-refl}
 use Rattle.posting_rules.specs.{declared.fault.Fault.Fault, believed.Counter.Seen}
 use Rattle.posting_rules.specs.declared.fault.Fault.TheVariants as bank
-use Rattle.posting_core.specs.{believed.Told.ReadTold, Told.HasWriteFailed, Told.WriteTold}
+use Rattle.posting_core.specs.{believed.EndCalls.ReadCall, EndCalls.HasWriteFailed, EndCalls.WriteCall}
 use Rattle.report_contents.specs.Written.{AppendsPart}
 use Rattle.branch_loader.specs.{believed.Plans.Rows, Plans.ReadsPlan, declared.loader.Loaded.Loaded}
 use Rattle.branch_loader.specs.declared.fault.PlanFault.{PlanFault}
@@ -27,7 +27,7 @@ never_write other e = cc e
 
 -- what load_from ensures
 pub record Ended {C : Type 0} (seen : C → Seen) (reason : Fault → C → C → Type 0) (r r' : Option (List ℕ))
-    (q q' : Option (List ReadTold)) (w w' : Option (List ℕ)) (t t' : Option (List WriteTold))
+    (q q' : Option (List ReadCall)) (w w' : Option (List ℕ)) (t t' : Option (List WriteCall))
     (result : Result Loaded CommandFault) (old new : C) : Type 0 where
   pub loads : LoadsFrom seen reason r r' q q' w w' (λ end. ended_by_load result ≡ end) old new
   pub line : IfOk result (λ loaded. Appends w w' (loaded_line loaded))
@@ -35,7 +35,7 @@ pub record Ended {C : Type 0} (seen : C → Seen) (reason : Fault → C → C �
   pub unprinted : IsErrOf result Write → HasWriteFailed t t'
 
 module _ {C : Type 0} (seen : C → Seen) (reason : Fault → C → C → Type 0) {r r' : Option (List ℕ)}
-    {q q' : Option (List ReadTold)} (w : Option (List ℕ)) (t : Option (List WriteTold)) (old : C) where
+    {q q' : Option (List ReadCall)} (w : Option (List ℕ)) (t : Option (List WriteCall)) (old : C) where
   -- it is none
   pub unread : (result : Result Loaded CommandFault) (fault : PlanFault) → result ≡ Err (fault_of_plan fault)
       → ReadsPlan r r' q q' (Err fault) → Ended seen reason r r' q q' w w t t result old old
@@ -59,7 +59,7 @@ module _ {C : Type 0} (seen : C → Seen) (reason : Fault → C → C → Type 0
   }
 
   -- the openings were answered, but a prefix of the line was printed
-  pub unprinted : (w' : Option (List ℕ)) (t' : Option (List WriteTold)) (new : C)
+  pub unprinted : (w' : Option (List ℕ)) (t' : Option (List WriteCall)) (new : C)
       (result : Result Loaded CommandFault) (rows : Rows)
       (loaded : Loaded) → result ≡ Err Write → ReadsPlan r r' q q' (Ok rows)
       → Loads rows (seen old) (seen new) loaded → AppendsPart w w' (loaded_line loaded)
@@ -72,7 +72,7 @@ module _ {C : Type 0} (seen : C → Seen) (reason : Fault → C → C → Type 0
   }
 
   -- they were, and it was printed
-  pub printed : (w' : Option (List ℕ)) (t' : Option (List WriteTold)) (new : C) (rows : Rows) (loaded : Loaded)
+  pub printed : (w' : Option (List ℕ)) (t' : Option (List WriteCall)) (new : C) (rows : Rows) (loaded : Loaded)
       → Appends w w' (loaded_line loaded) → ReadsPlan r r' q q' (Ok rows)
       → Loads rows (seen old) (seen new) loaded
       → Ended seen reason r r' q q' w w' t t' (Ok loaded) old new
@@ -87,7 +87,7 @@ module _ {C : Type 0} (seen : C → Seen) (reason : Fault → C → C → Type 0
 
 -- it wasn't opened
 pub unopened : {C P : Type 0} (seen : C → Seen) (reason : Fault → C → C → Type 0) (IsNamed : P → Type 0)
-    (known : P → Option (List ℕ) × Option (List ReadTold)) (w : Option (List ℕ)) (bank : C)
+    (known : P → Option (List ℕ) × Option (List ReadCall)) (w : Option (List ℕ)) (bank : C)
     (result : Result Loaded CommandFault) (told : CommandFault) → result ≡ Err told → IsOfPlanFile told
     → LoadsOver seen reason IsNamed known w w (λ end. ended_by_load result ≡ end) bank bank
 unopened seen reason IsNamed known w bank result told same is =

@@ -5,7 +5,7 @@ use Rattle.std.proofs.{lemmas.List.take_all, KnownBytes.Appends-nil, KnownBytes.
 use Rattle.std.specs.{Prelude.OnErr, Result.IsErrOf, Io.KnownBytes.Appends}
 use Rattle.posting_rules.specs.{believed.Counter.Seen, declared.fault.Fault.Fault}
 use Rattle.posting_core.proofs.Telling.{adds-none}
-use Rattle.posting_core.specs.{believed.Told.EndsWith, Told.HasWriteFailed, Told.IsFlush, Told.WriteTold}
+use Rattle.posting_core.specs.{believed.EndCalls.EndsWith, EndCalls.HasWriteFailed, EndCalls.IsFlush, EndCalls.WriteCall}
 use Rattle.report_contents.specs.Written.{AppendsPart}
 use Rattle.load_driver.specs.{believed.Drives.Drives, declared.drive.Driven.Driven}
 use Rattle.command_line.specs.Lines.{PrintsLine, WritesOut, driven_line}
@@ -31,7 +31,7 @@ told_driven seen old new k k' seed count before after (Err fault) driven drives 
 -- ---- what was written to standard error
 
 -- a text was written out, or a prefix of it
-pub written_out : {E : Type 0} (text : List ℕ) (w w' : Option (List ℕ)) (t t' : Option (List WriteTold))
+pub written_out : {E : Type 0} (text : List ℕ) (w w' : Option (List ℕ)) (t t' : Option (List WriteCall))
     (r : Result (Unit {0}) E)
     → (n : ℕ) × (n ≤ length text) × Appends w w' (take n text) × OnOk r (n ≡ length text)
     → OnOk r (EndsWith IsFlush t t') → OnErr r (HasWriteFailed t t') → WritesOut text w w' t t'
@@ -41,7 +41,7 @@ written_out text w w' t t' (Ok done) wrote flushed failed =
 written_out text w w' t t' (Err fault) wrote flushed failed = inr (part_of (wrote.0, wrote.1, wrote.2), failed)
 
 -- a whole text is a prefix of itself
-pub in_part : (text : List ℕ) (w w' : Option (List ℕ)) (t t' : Option (List WriteTold)) → WritesOut text w w' t t'
+pub in_part : (text : List ℕ) (w w' : Option (List ℕ)) (t t' : Option (List WriteCall)) → WritesOut text w w' t t'
     → AppendsPart w w' text
 in_part text w w' t t' (inl out) = record {
   count = length text;
@@ -51,14 +51,14 @@ in_part text w w' t t' (inl out) = record {
 in_part text w w' t t' (inr part) = part.0
 
 -- none was due
-pub none_due : (w : Option (List ℕ)) (t : Option (List WriteTold)) → WritesOut [] w w t t
+pub none_due : (w : Option (List ℕ)) (t : Option (List WriteCall)) → WritesOut [] w w t t
 none_due w t = inl (Appends-nil w, inl (adds-none t))
 
 -- ---- how a drive ends
 
 -- it was done, and its line was printed, or a prefix of it
 pub drive_printed : {C : Type 0} (seen : C → Seen) (reason : Fault → C → C → Type 0) (old new : C)
-    (k k' : Option (List ℕ)) (seed count : ℕ) (w w' : Option (List ℕ)) (t t' : Option (List WriteTold))
+    (k k' : Option (List ℕ)) (seed count : ℕ) (w w' : Option (List ℕ)) (t t' : Option (List WriteCall))
     (r : Result (Unit {0}) CommandFault) (driven : Driven) → Drives seen old new k k' seed count (Ok driven)
     → PrintsLine (driven_line count driven) w w' t t' r → OnErr r (IsErrOf r Write)
     → DrivesOver seen reason k k' w w' seed count (λ end. done_after r ≡ end) old new
@@ -70,7 +70,7 @@ drive_printed seen reason old new k k' seed count w w' t t' (Err told) driven dr
 -- ---- a text that was made in memory
 
 -- memory for it was refused
-pub text_unmade : (text : List ℕ) (w : Option (List ℕ)) (t : Option (List WriteTold))
+pub text_unmade : (text : List ℕ) (w : Option (List ℕ)) (t : Option (List WriteCall))
     → PrintsText text w w t t (Err Memory)
 text_unmade text w t = record {
   line = tt;
@@ -82,7 +82,7 @@ text_unmade text w t = record {
 }
 
 -- or it was printed as a line is
-pub text_printed : (text : List ℕ) (w w' : Option (List ℕ)) (t t' : Option (List WriteTold))
+pub text_printed : (text : List ℕ) (w w' : Option (List ℕ)) (t t' : Option (List WriteCall))
     (r : Result (Unit {0}) CommandFault) → PrintsLine text w w' t t' r → OnErr r (IsErrOf r Write)
     → OnErr r (HasWriteFailed t t') → PrintsText text w w' t t' r
 text_printed text w w' t t' (Ok done) prints fault failed = record {

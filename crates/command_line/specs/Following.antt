@@ -5,7 +5,7 @@ use Rattle.std.specs.Prelude.{◌≡◌, ◌⊎◌, ℕ, List, Option, Result, O
 use Rattle.std.specs.Io.KnownBytes.{Appends, Keeps}
 use Rattle.posting_rules.specs.believed.Counter.{Seen}
 use Rattle.posting_rules.specs.declared.fault.Fault.{Fault}
-use Rattle.posting_core.specs.believed.Told.{ReadTold}
+use Rattle.posting_core.specs.believed.EndCalls.{ReadCall}
 use Rattle.branch_loader.specs.Followed.{FollowsLog}
 use Rattle.branch_loader.specs.Plans.{ReadsPlan}
 use Rattle.branch_loader.specs.believed.Plans.{Rows}
@@ -26,7 +26,7 @@ TellsFollowed (Err cause) w w' result = (result ≡ Err (fault_of_following caus
 
 -- a log was followed by the rows of a plan, and how many entries it had was told
 pub record FollowsRead {C : Type 0} (seen : C → Seen) (spares : C → C → Type 0) (reason : Fault → C → C → Type 0)
-    (rows : Rows) (r r' : Option (List ℕ)) (q q' : Option (List ReadTold)) (w w' : Option (List ℕ)) (old new : C)
+    (rows : Rows) (r r' : Option (List ℕ)) (q q' : Option (List ReadCall)) (w w' : Option (List ℕ)) (old new : C)
     (result : Result (Unit {0}) CommandFault) : Type 0 where
   pub followed : Result ℕ FollowFault
   pub follows : FollowsLog seen spares reason rows r r' q q' old new followed
@@ -34,7 +34,7 @@ pub record FollowsRead {C : Type 0} (seen : C → Seen) (spares : C → C → Ty
 
 -- after the line of the requests; or a prefix of that was printed, and nothing was done
 abbrev pub FollowsBy : {C : Type 0} → (C → Seen) → (C → C → Type 0) → (Fault → C → C → Type 0) → Rows → ℕ
-    → (r r' : Option (List ℕ)) → (q q' : Option (List ReadTold)) → (w w' : Option (List ℕ)) → (old new : C)
+    → (r r' : Option (List ℕ)) → (q q' : Option (List ReadCall)) → (w w' : Option (List ℕ)) → (old new : C)
     → Result (Unit {0}) CommandFault → Type 0
 FollowsBy seen spares reason rows requests r r' q q' w w' old new result =
     ((result ≡ Err Write) × AppendsPart w w' (after_line requests) × (r' ≡ r) × (new ≡ old))
@@ -43,7 +43,7 @@ FollowsBy seen spares reason rows requests r r' q q' w w' old new result =
 
 -- by the plan that was answered; or it is none, and nothing was done
 abbrev pub FollowsAnswer : {C : Type 0} → (C → Seen) → (C → C → Type 0) → (Fault → C → C → Type 0)
-    → Result Rows PlanFault → ℕ → (r r' : Option (List ℕ)) → (q q' : Option (List ReadTold))
+    → Result Rows PlanFault → ℕ → (r r' : Option (List ℕ)) → (q q' : Option (List ReadCall))
     → (w w' : Option (List ℕ)) → (old new : C) → Result (Unit {0}) CommandFault → Type 0
 FollowsAnswer seen spares reason (Ok rows) requests r r' q q' w w' old new result =
     FollowsBy seen spares reason rows requests r r' q q' w w' old new result
@@ -53,8 +53,8 @@ FollowsAnswer seen spares reason (Err fault) requests r r' q q' w w' old new res
 -- by the plan of a name, as far as it was read; or it wasn't opened, and nothing was done. IsNamed says of a source that
 -- the name is its, and known what is known of one.
 abbrev pub FollowsOver : {C P : Type 0} → (C → Seen) → (C → C → Type 0) → (Fault → C → C → Type 0)
-    → (IsNamed : P → Type 0) → (known : P → Option (List ℕ) × Option (List ReadTold)) → ℕ
-    → (r r' : Option (List ℕ)) → (q q' : Option (List ReadTold)) → (w w' : Option (List ℕ)) → (old new : C)
+    → (IsNamed : P → Type 0) → (known : P → Option (List ℕ) × Option (List ReadCall)) → ℕ
+    → (r r' : Option (List ℕ)) → (q q' : Option (List ReadCall)) → (w w' : Option (List ℕ)) → (old new : C)
     → Result (Unit {0}) CommandFault → Type 0
 FollowsOver {P = P} seen spares reason IsNamed known requests r r' q q' w w' old new result =
     (IsErrAnd result IsOfPlanFile × Keeps w w' × (r' ≡ r) × (new ≡ old))

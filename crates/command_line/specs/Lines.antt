@@ -11,8 +11,8 @@ use Rattle.load_driver.specs.declared.drive.Driven.{Driven}
 use Rattle.branch_loader.specs.declared.loader.Loaded.{Loaded}
 use Rattle.clap.specs.declared.error.kind.ErrorKind.{ErrorKind}
 use Rattle.clap.specs.declared.error.kind.ErrorKind.TheVariants as kind
-use Rattle.posting_core.specs.believed.Told.{EndsWith}
-use Rattle.posting_core.specs.Told.{HasWriteFailed, IsFlush, IsThrough, WriteTold}
+use Rattle.posting_core.specs.believed.EndCalls.{EndsWith}
+use Rattle.posting_core.specs.EndCalls.{HasWriteFailed, IsFlush, IsThrough, WriteCall}
 use Rattle.report_contents.specs.Written.{AppendsPart}
 use Rattle.command_line.specs.CommandFaults.{fault_text}
 use Rattle.command_line.specs.declared.fault.CommandFault.{CommandFault}
@@ -75,7 +75,7 @@ no_words_line _ = line (codes "error: a word isn't UTF-8")
 
 -- A line is printed. w and w' are the known bytes of the output before and after, and t and t' what its calls
 -- are known to have returned.
-pub record PrintsLine (text : List ℕ) (w w' : Option (List ℕ)) (t t' : Option (List WriteTold))
+pub record PrintsLine (text : List ℕ) (w w' : Option (List ℕ)) (t t' : Option (List WriteCall))
     (told : Result (Unit {0}) CommandFault) : Type 0 where
   -- at Ok it is written
   pub line : OnOk told (Appends w w' text)
@@ -85,7 +85,7 @@ pub record PrintsLine (text : List ℕ) (w w' : Option (List ℕ)) (t t' : Optio
   pub part : OnErr told ((n : ℕ) × (n ≤ length text) × Appends w w' (take n text))
 
 -- A text is written and flushed, or none is due; or the output failed, and a prefix of it is written.
-abbrev pub WritesOut : List ℕ → (w w' : Option (List ℕ)) → (t t' : Option (List WriteTold)) → Type 0
+abbrev pub WritesOut : List ℕ → (w w' : Option (List ℕ)) → (t t' : Option (List WriteCall)) → Type 0
 WritesOut text w w' t t' = (Appends w w' text × IsThrough t t') ⊎ (AppendsPart w w' text × HasWriteFailed t t')
 
 -- help or the version was asked for

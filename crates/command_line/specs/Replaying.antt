@@ -5,8 +5,8 @@ use Rattle.std.specs.Result.{IsErrOf}
 use Rattle.std.specs.Fmt.{decimal}
 use Rattle.std.specs.Io.KnownBytes.{Appends, Keeps}
 use Rattle.hex.specs.Hex.{encode_lower}
-use Rattle.posting_core.specs.believed.Told.{EndsWith}
-use Rattle.posting_core.specs.Told.{HasWriteFailed, IsFlush, WriteTold}
+use Rattle.posting_core.specs.believed.EndCalls.{EndsWith}
+use Rattle.posting_core.specs.EndCalls.{HasWriteFailed, IsFlush, WriteCall}
 use Rattle.report_contents.specs.Lines.{right_in}
 use Rattle.report_contents.specs.Written.{AppendsPart}
 use Rattle.command_line.specs.declared.fault.CommandFault.{CommandFault}
@@ -35,7 +35,7 @@ differing_lines difference = difference ++ codes "\nDIFFERS\n"
 
 -- A text is printed, or memory for it was refused. w and w' are the known bytes of the output before and after, and t
 -- and t' what its calls are known to have returned.
-pub record PrintsText (text : List ℕ) (w w' : Option (List ℕ)) (t t' : Option (List WriteTold))
+pub record PrintsText (text : List ℕ) (w w' : Option (List ℕ)) (t t' : Option (List WriteCall))
     (told : Result (Unit {0}) CommandFault) : Type 0 where
   -- at Ok it is written, and flushed after all else
   pub line : OnOk told (Appends w w' text)

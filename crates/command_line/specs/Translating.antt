@@ -1,8 +1,8 @@
 -- What `encode` and `decode` read and write, and how they end.
 use Rattle.std.specs.Prelude.{◌≡◌, ◌⊎◌, ℕ, List, Option, None, Some, Result, Ok, Err}
 use Rattle.std.specs.Io.KnownBytes.{Keeps}
-use Rattle.posting_core.specs.believed.Told.{ReadTold}
-use Rattle.posting_core.specs.Told.{WriteTold}
+use Rattle.posting_core.specs.believed.EndCalls.{ReadCall}
+use Rattle.posting_core.specs.EndCalls.{WriteCall}
 use Rattle.posting_sheets.specs.Beside.{BesideFaultIsOfItsEnd, DecodesBeside}
 use Rattle.posting_sheets.specs.Encoding.{Encodes, SheetFaultIsOfItsEnd}
 use Rattle.posting_sheets.specs.Replies.{Decodes, RepliesFaultIsOfItsEnd}
@@ -28,8 +28,8 @@ ended_by_replies (Err fault) = Err (fault_of_replies fault)
 -- Records of a sheet were written, and the command ended as the sheet did. The known bytes of the input before and
 -- after are r and r', those of the output w and w'; what the calls of its ends are known to have returned is q and q'
 -- of the input, and t and t' of the output.
-pub record EncodesSheet (r r' : Option (List ℕ)) (q q' : Option (List ReadTold)) (w w' : Option (List ℕ))
-    (t t' : Option (List WriteTold)) (told : Result Status CommandFault) : Type 0 where
+pub record EncodesSheet (r r' : Option (List ℕ)) (q q' : Option (List ReadCall)) (w w' : Option (List ℕ))
+    (t t' : Option (List WriteCall)) (told : Result Status CommandFault) : Type 0 where
   pub sheet : Result ℕ SheetFault
   pub encodes : Encodes r r' w w' sheet
   -- the input was read to its end, or why not
@@ -37,8 +37,8 @@ pub record EncodesSheet (r r' : Option (List ℕ)) (q q' : Option (List ReadTold
   pub ended : told ≡ ended_by_sheet sheet
 
 -- A sheet of replies was written, with money written so, and the command ended as they did.
-pub record DecodesReplies (money : Money) (r r' : Option (List ℕ)) (q q' : Option (List ReadTold)) (w w' : Option (List ℕ))
-    (t t' : Option (List WriteTold)) (told : Result Status CommandFault) : Type 0 where
+pub record DecodesReplies (money : Money) (r r' : Option (List ℕ)) (q q' : Option (List ReadCall)) (w w' : Option (List ℕ))
+    (t t' : Option (List WriteCall)) (told : Result Status CommandFault) : Type 0 where
   pub replies : Result ℕ RepliesFault
   pub decodes : Decodes money r r' w w' replies
   -- the input was read to its end, or why not
@@ -48,8 +48,8 @@ pub record DecodesReplies (money : Money) (r r' : Option (List ℕ)) (q q' : Opt
 -- A sheet of replies was written with their rows of the sheet of postings that they answer, and the command ended as they
 -- did. The known bytes of that sheet before and after are s and s', and what its reads are known to have returned is p
 -- and p'.
-pub record DecodesPostings (money : Money) (s s' : Option (List ℕ)) (p p' : Option (List ReadTold))
-    (r r' : Option (List ℕ)) (q q' : Option (List ReadTold)) (w w' : Option (List ℕ)) (t t' : Option (List WriteTold))
+pub record DecodesPostings (money : Money) (s s' : Option (List ℕ)) (p p' : Option (List ReadCall))
+    (r r' : Option (List ℕ)) (q q' : Option (List ReadCall)) (w w' : Option (List ℕ)) (t t' : Option (List WriteCall))
     (told : Result Status CommandFault) : Type 0 where
   pub replies : Result ℕ RepliesFault
   pub decodes : DecodesBeside money s s' r r' w w' replies
@@ -68,8 +68,8 @@ pub record OpensNoSheet (r r' w w' : Option (List ℕ)) (told : Result Status Co
 -- the same of a sheet that was opened by its name; or none was. IsNamed says of a source that the name is its, and
 -- known what is known of one
 abbrev pub DecodesOver : {P : Type 0} → Money → (IsNamed : P → Type 0)
-    → (known : P → Option (List ℕ) × Option (List ReadTold)) → (r r' : Option (List ℕ)) → (q q' : Option (List ReadTold))
-    → (w w' : Option (List ℕ)) → (t t' : Option (List WriteTold)) → Result Status CommandFault → Type 0
+    → (known : P → Option (List ℕ) × Option (List ReadCall)) → (r r' : Option (List ℕ)) → (q q' : Option (List ReadCall))
+    → (w w' : Option (List ℕ)) → (t t' : Option (List WriteCall)) → Result Status CommandFault → Type 0
 DecodesOver {P = P} money IsNamed known r r' q q' w w' t t' told =
     OpensNoSheet r r' w w' told
     ⊎ ((sheet : P) × (left : P) × IsNamed sheet × DecodesPostings money (known sheet).0 (known left).0 (known sheet).1
@@ -77,8 +77,8 @@ DecodesOver {P = P} money IsNamed known r r' q q' w w' t t' told =
 
 -- beside the sheet of this name, or without one
 abbrev pub DecodesIn : {P : Type 0} → Money → Option (List ℕ) → (IsNamed : List ℕ → P → Type 0)
-    → (known : P → Option (List ℕ) × Option (List ReadTold)) → (r r' : Option (List ℕ)) → (q q' : Option (List ReadTold))
-    → (w w' : Option (List ℕ)) → (t t' : Option (List WriteTold)) → Result Status CommandFault → Type 0
+    → (known : P → Option (List ℕ) × Option (List ReadCall)) → (r r' : Option (List ℕ)) → (q q' : Option (List ReadCall))
+    → (w w' : Option (List ℕ)) → (t t' : Option (List WriteCall)) → Result Status CommandFault → Type 0
 DecodesIn money None IsNamed known r r' q q' w w' t t' told = DecodesReplies money r r' q q' w w' t t' told
 DecodesIn money (Some name) IsNamed known r r' q q' w w' t t' told =
     DecodesOver money (IsNamed name) known r r' q q' w w' t t' told

@@ -19,7 +19,7 @@ use Rattle.load_driver.specs.declared.drive_fault.DriveFault.{DriveFault}
 use Rattle.counter_http.specs.together.Listening.{ServesListener}
 use Rattle.counter_http.specs.declared.listen_fault.ListenFault.{ListenFault}
 use Rattle.posting_core.specs.Stream.{IsOfCall}
-use Rattle.posting_core.specs.believed.Told.{ReadTold}
+use Rattle.posting_core.specs.believed.EndCalls.{ReadCall}
 use Rattle.report_contents.specs.Written.{AppendsPart}
 use Rattle.command_line.specs.CommandFaults.{fault_of_bank, fault_of_drive, fault_of_plan, fault_of_serving}
 use Rattle.command_line.specs.Lines.{driven_line, listening_line, loaded_line}
@@ -117,21 +117,21 @@ LoadsAnswer seen reason w w' Ends (Err fault) old new = EndsSilently Ends w w' (
 -- that of a source: its known bytes before and after are r and r', and what its reads are known to have
 -- returned q and q'
 pub record LoadsFrom {C : Type 0} (seen : C → Seen) (reason : Fault → C → C → Type 0)
-    (r r' : Option (List ℕ)) (q q' : Option (List ReadTold)) (w w' : Option (List ℕ))
+    (r r' : Option (List ℕ)) (q q' : Option (List ReadCall)) (w w' : Option (List ℕ))
     (Ends : Result Status CommandFault → Type 0) (old new : C) : Type 0 where
   pub answer : Result Rows PlanFault
   pub reads : ReadsPlan r r' q q' answer
   pub does : LoadsAnswer seen reason w w' Ends answer old new
 
 -- what is known of a source: its bytes, and what its reads returned
-abbrev pub known_source : {P : Type 0} → (P → Option (List ℕ)) → (P → Option (List ReadTold)) → P
-    → Option (List ℕ) × Option (List ReadTold)
+abbrev pub known_source : {P : Type 0} → (P → Option (List ℕ)) → (P → Option (List ReadCall)) → P
+    → Option (List ℕ) × Option (List ReadCall)
 known_source remaining told plan = (remaining plan, told plan)
 
 -- that of a plan that was opened by its name, as far as it was read; or none was, and the bank was left as it was.
 -- IsNamed says of a source that the name is its, and known what is known of one
 abbrev pub LoadsOver : {C P : Type 0} → (C → Seen) → (reason : Fault → C → C → Type 0) → (IsNamed : P → Type 0)
-    → (known : P → Option (List ℕ) × Option (List ReadTold)) → (w w' : Option (List ℕ))
+    → (known : P → Option (List ℕ) × Option (List ReadCall)) → (w w' : Option (List ℕ))
     → (Ends : Result Status CommandFault → Type 0) → (old new : C) → Type 0
 LoadsOver {P = P} seen reason IsNamed known w w' Ends old new =
     (EndsInFault IsOfPlanFile Ends × Keeps w w' × (new ≡ old))

@@ -1,7 +1,7 @@
 //! How an audit ends.
 ghost use Rattle.std.specs.Prelude.{◌≡◌, ◌⊎◌, IfOk};
 ghost use Rattle.std.specs.Result.{IsErrOf};
-ghost use Rattle.posting_core.specs.Told.{HasWriteFailed};
+ghost use Rattle.posting_core.specs.EndCalls.{HasWriteFailed};
 ghost use Rattle.command_line.specs.Auditing.{Prints, status_of_audit};
 
 use crate::{CommandFault, Status};
@@ -15,7 +15,7 @@ pub fn print_audit<W: Sink>(
 ) -> Result<Status, CommandFault>
     ensures prints { Prints told (W.contents output.old) (W.contents output.new) result }
     ensures unprinted { IsErrOf result CommandFault.Write
-        → HasWriteFailed (W.told output.old) (W.told output.new) }
+        → HasWriteFailed (W.calls output.old) (W.calls output.new) }
     ensures ends { IfOk result (λ status. (status ≡ Status.Done) ⊎ (status ≡ Status.Inconsistent)) }
 {
     let found = match told {

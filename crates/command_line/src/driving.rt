@@ -27,7 +27,7 @@
 ghost use Rattle.std.specs.Prelude.{◌≡◌, ◌≢◌, ◌≤◌, IfErr, OnOk};
 ghost use Rattle.std.specs.Result.{IsErrOf};
 ghost use Rattle.std.specs.Io.KnownBytes.{Keeps};
-ghost use Rattle.posting_core.specs.Told.{HasWriteFailed};
+ghost use Rattle.posting_core.specs.EndCalls.{HasWriteFailed};
 ghost use Rattle.command_line.specs.Working.{DrivesOver, TellsDriven, done_after};
 
 use crate::{CommandFault, print_driven};
@@ -54,7 +54,7 @@ pub fn drive_into<C: Counter, W: Sink, K: Clock>(
     ensures silent { IfErr result
         (λ fault. fault ≢ CommandFault.Write → Keeps (W.contents output.old) (W.contents output.new)) }
     ensures unprinted { IsErrOf result CommandFault.Write
-        → HasWriteFailed (W.told output.old) (W.told output.new) }
+        → HasWriteFailed (W.calls output.old) (W.calls output.new) }
     ensures spares { C.spares bank.old bank.new }
 {
     let driven = drive_records(alloc, bank, clock, seed, count)?;

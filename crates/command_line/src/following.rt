@@ -1,6 +1,6 @@
 //! What `follow` does with a bank.
 ghost use Rattle.std.specs.Result.{IsErrOf};
-ghost use Rattle.posting_core.specs.Told.{HasWriteFailed};
+ghost use Rattle.posting_core.specs.EndCalls.{HasWriteFailed};
 ghost use Rattle.command_line.specs.Following.{FollowsBy, FollowsOver, FollowsRead};
 ghost use Rattle.command_line.specs.Working.{known_source};
 
@@ -23,11 +23,11 @@ pub fn follow_into<P: Plans, R: Source, C: Counter, W: Sink, T: FollowWatch>(
     watch: &mut T,
 ) -> Result<(), CommandFault>
     ensures follows { FollowsOver C.seen C.spares C.reason (P.is_named plans.now name.now)
-        (known_source P.Plan.remaining P.Plan.told) requests (R.remaining input.old) (R.remaining input.new)
-        (R.told input.old) (R.told input.new) (W.contents output.old) (W.contents output.new)
+        (known_source P.Plan.remaining P.Plan.calls) requests (R.remaining input.old) (R.remaining input.new)
+        (R.calls input.old) (R.calls input.new) (W.contents output.old) (W.contents output.new)
         bank.old bank.new result }
     ensures unprinted { IsErrOf result CommandFault.Write
-        → HasWriteFailed (W.told output.old) (W.told output.new) }
+        → HasWriteFailed (W.calls output.old) (W.calls output.new) }
     ensures spares { C.spares bank.old bank.new }
 {
     let mut source = plans.open_plan(name)?;
@@ -46,10 +46,10 @@ fn follow_by<R: Source, C: Counter, W: Sink, T: FollowWatch>(
     watch: &mut T,
 ) -> Result<(), CommandFault>
     ensures follows { FollowsBy C.seen C.spares C.reason plan.now requests (R.remaining input.old)
-        (R.remaining input.new) (R.told input.old) (R.told input.new) (W.contents output.old)
+        (R.remaining input.new) (R.calls input.old) (R.calls input.new) (W.contents output.old)
         (W.contents output.new) bank.old bank.new result }
     ensures unprinted { IsErrOf result CommandFault.Write
-        → HasWriteFailed (W.told output.old) (W.told output.new) }
+        → HasWriteFailed (W.calls output.old) (W.calls output.new) }
     ensures spares { C.spares bank.old bank.new }
 {
     print_after(requests, output)?;
@@ -66,10 +66,10 @@ fn follow_log<R: Source, C: Counter, W: Sink, T: FollowWatch>(
     watch: &mut T,
 ) -> Result<(), CommandFault>
     ensures follows { FollowsRead C.seen C.spares C.reason plan.now (R.remaining input.old) (R.remaining input.new)
-        (R.told input.old) (R.told input.new) (W.contents output.old) (W.contents output.new)
+        (R.calls input.old) (R.calls input.new) (W.contents output.old) (W.contents output.new)
         bank.old bank.new result }
     ensures unprinted { IsErrOf result CommandFault.Write
-        → HasWriteFailed (W.told output.old) (W.told output.new) }
+        → HasWriteFailed (W.calls output.old) (W.calls output.new) }
     ensures spares { C.spares bank.old bank.new }
 {
     let followed = follow(alloc, plan, input, bank, watch)?;

@@ -3,8 +3,8 @@ ghost use Rattle.std.specs.Prelude.{◌≡◌, ◌⊎◌, [], IfSome, IsErr, IsE
 ghost use Rattle.std.specs.Io.KnownBytes.{Keeps};
 ghost use Rattle.std.specs.IoError.{error_kind};
 ghost use Rattle.clap.specs.Words.{kind_of};
-ghost use Rattle.posting_core.specs.believed.Told.{EndsWith};
-ghost use Rattle.posting_core.specs.Told.{HasWriteFailed, IsFlush};
+ghost use Rattle.posting_core.specs.believed.EndCalls.{EndsWith};
+ghost use Rattle.posting_core.specs.EndCalls.{HasWriteFailed, IsFlush};
 ghost use Rattle.command_line.specs.CommandFaults.{status_of};
 ghost use Rattle.command_line.specs.Lines.{IsHelpOrVersion, IsShown, PrintsLine, WritesOut, already_line};
 ghost use Rattle.command_line.specs.Lines.{after_line, created_line, driven_line, fault_line, followed_line};
@@ -37,9 +37,9 @@ const LINE: usize = 160;
 /// be out.
 pub fn print_created<W: Sink>(output: &mut W) -> Result<(), CommandFault>
     ensures prints { PrintsLine created_line (W.contents output.old) (W.contents output.new)
-        (W.told output.old) (W.told output.new) result }
+        (W.calls output.old) (W.calls output.new) result }
     ensures fault { OnErr result (IsErrOf result CommandFault.Write) }
-    ensures failed { OnErr result (HasWriteFailed (W.told output.old) (W.told output.new)) }
+    ensures failed { OnErr result (HasWriteFailed (W.calls output.old) (W.calls output.new)) }
 {
     print_line("created\n", output)
 }
@@ -47,9 +47,9 @@ pub fn print_created<W: Sink>(output: &mut W) -> Result<(), CommandFault>
 /// Prints `nothing is wrong`.
 pub fn print_usable<W: Sink>(output: &mut W) -> Result<(), CommandFault>
     ensures prints { PrintsLine usable_line (W.contents output.old) (W.contents output.new)
-        (W.told output.old) (W.told output.new) result }
+        (W.calls output.old) (W.calls output.new) result }
     ensures fault { OnErr result (IsErrOf result CommandFault.Write) }
-    ensures failed { OnErr result (HasWriteFailed (W.told output.old) (W.told output.new)) }
+    ensures failed { OnErr result (HasWriteFailed (W.calls output.old) (W.calls output.new)) }
 {
     print_line("nothing is wrong\n", output)
 }
@@ -57,9 +57,9 @@ pub fn print_usable<W: Sink>(output: &mut W) -> Result<(), CommandFault>
 /// Prints how many branches of a plan got each answer, as `opened 2 already 0 differs 0`.
 pub fn print_loaded<W: Sink>(loaded: Loaded, output: &mut W) -> Result<(), CommandFault>
     ensures prints { PrintsLine (loaded_line loaded) (W.contents output.old) (W.contents output.new)
-        (W.told output.old) (W.told output.new) result }
+        (W.calls output.old) (W.calls output.new) result }
     ensures fault { OnErr result (IsErrOf result CommandFault.Write) }
-    ensures failed { OnErr result (HasWriteFailed (W.told output.old) (W.told output.new)) }
+    ensures failed { OnErr result (HasWriteFailed (W.calls output.old) (W.calls output.new)) }
 {
     print_line(loaded_text(loaded).as_str(), output)
 }
@@ -68,9 +68,9 @@ pub fn print_loaded<W: Sink>(loaded: Loaded, output: &mut W) -> Result<(), Comma
 /// `records 1000 posted 990 refused 10`.
 pub fn print_driven<W: Sink>(count: u64, driven: Driven, output: &mut W) -> Result<(), CommandFault>
     ensures prints { PrintsLine (driven_line count driven) (W.contents output.old) (W.contents output.new)
-        (W.told output.old) (W.told output.new) result }
+        (W.calls output.old) (W.calls output.new) result }
     ensures fault { OnErr result (IsErrOf result CommandFault.Write) }
-    ensures failed { OnErr result (HasWriteFailed (W.told output.old) (W.told output.new)) }
+    ensures failed { OnErr result (HasWriteFailed (W.calls output.old) (W.calls output.new)) }
 {
     print_line(driven_text(count, driven).as_str(), output)
 }
@@ -78,9 +78,9 @@ pub fn print_driven<W: Sink>(count: u64, driven: Driven, output: &mut W) -> Resu
 /// Prints how many requests a bank has that is to follow another one, as `after 1000`.
 pub fn print_after<W: Sink>(requests: u64, output: &mut W) -> Result<(), CommandFault>
     ensures prints { PrintsLine (after_line requests) (W.contents output.old) (W.contents output.new)
-        (W.told output.old) (W.told output.new) result }
+        (W.calls output.old) (W.calls output.new) result }
     ensures fault { OnErr result (IsErrOf result CommandFault.Write) }
-    ensures failed { OnErr result (HasWriteFailed (W.told output.old) (W.told output.new)) }
+    ensures failed { OnErr result (HasWriteFailed (W.calls output.old) (W.calls output.new)) }
 {
     print_line(after_text(requests).as_str(), output)
 }
@@ -88,9 +88,9 @@ pub fn print_after<W: Sink>(requests: u64, output: &mut W) -> Result<(), Command
 /// Prints how many entries were followed, as `followed 1000`.
 pub fn print_followed<W: Sink>(entries: Count, output: &mut W) -> Result<(), CommandFault>
     ensures prints { PrintsLine (followed_line entries) (W.contents output.old) (W.contents output.new)
-        (W.told output.old) (W.told output.new) result }
+        (W.calls output.old) (W.calls output.new) result }
     ensures fault { OnErr result (IsErrOf result CommandFault.Write) }
-    ensures failed { OnErr result (HasWriteFailed (W.told output.old) (W.told output.new)) }
+    ensures failed { OnErr result (HasWriteFailed (W.calls output.old) (W.calls output.new)) }
 {
     print_line(followed_text(entries).as_str(), output)
 }
@@ -98,9 +98,9 @@ pub fn print_followed<W: Sink>(entries: Count, output: &mut W) -> Result<(), Com
 /// Prints from which version to which a bank was carried over, as `migrated 1 to 3`.
 pub fn print_migrated<W: Sink>(from: i64, to: i64, output: &mut W) -> Result<(), CommandFault>
     ensures prints { PrintsLine (migrated_line from to) (W.contents output.old) (W.contents output.new)
-        (W.told output.old) (W.told output.new) result }
+        (W.calls output.old) (W.calls output.new) result }
     ensures fault { OnErr result (IsErrOf result CommandFault.Write) }
-    ensures failed { OnErr result (HasWriteFailed (W.told output.old) (W.told output.new)) }
+    ensures failed { OnErr result (HasWriteFailed (W.calls output.old) (W.calls output.new)) }
 {
     print_line(migrated_text(from, to).as_str(), output)
 }
@@ -108,9 +108,9 @@ pub fn print_migrated<W: Sink>(from: i64, to: i64, output: &mut W) -> Result<(),
 /// Prints which version a bank had already, as `already version 3`.
 pub fn print_already<W: Sink>(version: i64, output: &mut W) -> Result<(), CommandFault>
     ensures prints { PrintsLine (already_line version) (W.contents output.old) (W.contents output.new)
-        (W.told output.old) (W.told output.new) result }
+        (W.calls output.old) (W.calls output.new) result }
     ensures fault { OnErr result (IsErrOf result CommandFault.Write) }
-    ensures failed { OnErr result (HasWriteFailed (W.told output.old) (W.told output.new)) }
+    ensures failed { OnErr result (HasWriteFailed (W.calls output.old) (W.calls output.new)) }
 {
     print_line(already_text(version).as_str(), output)
 }
@@ -118,9 +118,9 @@ pub fn print_already<W: Sink>(version: i64, output: &mut W) -> Result<(), Comman
 /// Prints the address with its port at which the counter listens, as `listening 127.0.0.1:8080`.
 pub fn print_listening<W: Sink>(line: &ListeningLine, output: &mut W) -> Result<(), CommandFault>
     ensures prints { PrintsLine (listening_line line.now) (W.contents output.old) (W.contents output.new)
-        (W.told output.old) (W.told output.new) result }
+        (W.calls output.old) (W.calls output.new) result }
     ensures fault { OnErr result (IsErrOf result CommandFault.Write) }
-    ensures failed { OnErr result (HasWriteFailed (W.told output.old) (W.told output.new)) }
+    ensures failed { OnErr result (HasWriteFailed (W.calls output.old) (W.calls output.new)) }
 {
     print_line(line.text.as_str(), output)
 }
@@ -252,9 +252,9 @@ fn listening_text(address: SocketAddr) -> Option<ArrayString<LINE>>
 /// Writes a line, and flushes it.
 pub(crate) fn print_line<W: Sink>(line: &str, output: &mut W) -> Result<(), CommandFault>
     ensures prints { PrintsLine line.now (W.contents output.old) (W.contents output.new)
-        (W.told output.old) (W.told output.new) result }
+        (W.calls output.old) (W.calls output.new) result }
     ensures fault { OnErr result (IsErrOf result CommandFault.Write) }
-    ensures failed { OnErr result (HasWriteFailed (W.told output.old) (W.told output.new)) }
+    ensures failed { OnErr result (HasWriteFailed (W.calls output.old) (W.calls output.new)) }
 {
     match write_out(output, line.as_bytes()) {
         Ok(()) => Ok(()),
@@ -266,9 +266,9 @@ pub(crate) fn print_line<W: Sink>(line: &str, output: &mut W) -> Result<(), Comm
 fn finish<W: Sink>(written: io::Result<()>, output: &mut W) -> Result<(), CommandFault>
     ensures stays { Keeps (W.contents output.old) (W.contents output.new) }
     ensures done { OnOk result (IsOk written) }
-    ensures flushed { OnOk result (EndsWith IsFlush (W.told output.old) (W.told output.new)) }
+    ensures flushed { OnOk result (EndsWith IsFlush (W.calls output.old) (W.calls output.new)) }
     ensures fault { OnErr result (IsErrOf result CommandFault.Write) }
-    ensures failed { OnErr result (IsErr written ⊎ HasWriteFailed (W.told output.old) (W.told output.new)) }
+    ensures failed { OnErr result (IsErr written ⊎ HasWriteFailed (W.calls output.old) (W.calls output.new)) }
 {
     if written.is_err() {
         return Err(CommandFault::Write);
@@ -292,7 +292,7 @@ pub fn tell<E: Sink>(fault: CommandFault, faults: &mut E) -> Status
 /// Writes a line to standard error, and flushes it. One that can't be written is given up.
 pub(crate) fn say<E: Sink>(line: &str, faults: &mut E)
     ensures { WritesOut line.now (E.contents faults.old) (E.contents faults.new)
-        (E.told faults.old) (E.told faults.new) }
+        (E.calls faults.old) (E.calls faults.new) }
 {
     let _ = write_out(faults, line.as_bytes());
 }

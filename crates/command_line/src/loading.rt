@@ -4,7 +4,7 @@ ghost use Rattle.std.specs.Result.{IsErrOf};
 ghost use Rattle.std.specs.Io.KnownBytes.{Appends, Keeps};
 ghost use Rattle.command_line.specs.Lines.{loaded_line};
 ghost use Rattle.command_line.specs.Looking.{IsOfPlanFile};
-ghost use Rattle.posting_core.specs.Told.{HasWriteFailed};
+ghost use Rattle.posting_core.specs.EndCalls.{HasWriteFailed};
 ghost use Rattle.command_line.specs.Working.{LoadsFrom, LoadsOver, ended_by_load, known_source};
 
 use crate::{CommandFault, print_loaded};
@@ -40,14 +40,14 @@ pub fn load_into<P: Plans, C: Counter, W: Sink>(
     output: &mut W,
 ) -> Result<Loaded, CommandFault>
     ensures loads { LoadsOver C.seen C.reason (P.is_named plans.now name.now)
-        (known_source P.Plan.remaining P.Plan.told) (W.contents output.old) (W.contents output.new)
+        (known_source P.Plan.remaining P.Plan.calls) (W.contents output.old) (W.contents output.new)
         (λ end. ended_by_load result ≡ end) bank.old bank.new }
     ensures line { IfOk result
         (λ loaded. Appends (W.contents output.old) (W.contents output.new) (loaded_line loaded)) }
     ensures silent { IfErr result
         (λ fault. fault ≢ CommandFault.Write → Keeps (W.contents output.old) (W.contents output.new)) }
     ensures unprinted { IsErrOf result CommandFault.Write
-        → HasWriteFailed (W.told output.old) (W.told output.new) }
+        → HasWriteFailed (W.calls output.old) (W.calls output.new) }
     ensures honest { (C.seen bank.new).honest → (C.seen bank.old).honest }
     ensures spares { C.spares bank.old bank.new }
 {
@@ -63,14 +63,14 @@ pub fn load_from<R: Source, C: Counter, W: Sink>(
     output: &mut W,
 ) -> Result<Loaded, CommandFault>
     ensures loads { LoadsFrom C.seen C.reason (R.remaining source.old) (R.remaining source.new)
-        (R.told source.old) (R.told source.new) (W.contents output.old) (W.contents output.new)
+        (R.calls source.old) (R.calls source.new) (W.contents output.old) (W.contents output.new)
         (λ end. ended_by_load result ≡ end) bank.old bank.new }
     ensures line { IfOk result
         (λ loaded. Appends (W.contents output.old) (W.contents output.new) (loaded_line loaded)) }
     ensures silent { IfErr result
         (λ fault. fault ≢ CommandFault.Write → Keeps (W.contents output.old) (W.contents output.new)) }
     ensures unprinted { IsErrOf result CommandFault.Write
-        → HasWriteFailed (W.told output.old) (W.told output.new) }
+        → HasWriteFailed (W.calls output.old) (W.calls output.new) }
     ensures honest { (C.seen bank.new).honest → (C.seen bank.old).honest }
     ensures spares { C.spares bank.old bank.new }
 {

@@ -11,7 +11,7 @@ use posting_core::Sink;
 /// written is given up.
 pub fn prompt<E: Sink>(command: &Command<'_>, typed: bool, faults: &mut E)
     ensures { WritesOut (prompt_line typed command.now) (E.contents faults.old) (E.contents faults.new)
-        (E.told faults.old) (E.told faults.new) }
+        (E.calls faults.old) (E.calls faults.new) }
 {
     if typed {
         say(prompt_text(command), faults);

@@ -22,7 +22,7 @@ pub fn print_digest<W: Sink>(
     output: &mut W,
 ) -> Result<(), CommandFault>
     ensures { PrintsText (digest_lines requests sha256.now) (W.contents output.old) (W.contents output.new)
-        (W.told output.old) (W.told output.new) result }
+        (W.calls output.old) (W.calls output.new) result }
 {
     let Ok(text) = digest_text(alloc, requests, sha256) else {
         return Err(CommandFault::Memory);
@@ -39,7 +39,7 @@ pub fn print_agreeing<W: Sink>(
     output: &mut W,
 ) -> Result<(), CommandFault>
     ensures { PrintsText (agreeing_lines requests sha256.now plan.now) (W.contents output.old) (W.contents output.new)
-        (W.told output.old) (W.told output.new) result }
+        (W.calls output.old) (W.calls output.new) result }
 {
     let Ok(text) = agreeing_text(alloc, requests, sha256, plan) else {
         return Err(CommandFault::Memory);
@@ -55,7 +55,7 @@ pub fn print_differing<D: Display + Drop, W: Sink>(
 ) -> Result<(), CommandFault>
     ensures { (text : List ℕ) × IsTextOf (D.output difference) text
         × PrintsText (differing_lines text) (W.contents output.old) (W.contents output.new)
-        (W.told output.old) (W.told output.new) result }
+        (W.calls output.old) (W.calls output.new) result }
 {
     let Ok(text) = differing_text(alloc, difference) else {
         return Err(CommandFault::Memory);

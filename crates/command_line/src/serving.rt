@@ -2,7 +2,7 @@
 ghost use Rattle.std.specs.Prelude.{◌≡◌, IfErr};
 ghost use Rattle.std.specs.Result.{IsErrOf};
 ghost use Rattle.command_line.specs.Working.{ServesAt, ServesOver, done_after};
-ghost use Rattle.posting_core.specs.Told.{HasWriteFailed};
+ghost use Rattle.posting_core.specs.EndCalls.{HasWriteFailed};
 
 use crate::{CommandFault, ListeningLine, print_listening};
 use counter_http::{ServeWatch, serve_watched};
@@ -40,7 +40,7 @@ pub fn listen<N: Network, V: ServeWatch + Drop, C: Followed, W: Sink, K: Clock>(
         (W.contents output.old) (W.contents output.new) connections (λ end. done_after result ≡ end)
         bank.old bank.new }
     ensures unprinted { IsErrOf result CommandFault.Write
-        → HasWriteFailed (W.told output.old) (W.told output.new) }
+        → HasWriteFailed (W.calls output.old) (W.calls output.new) }
     ensures spares { C.spares bank.old bank.new }
 {
     let (listener, line) = bind(network, address)?;
@@ -91,7 +91,7 @@ fn serve_at<N: Network, V: ServeWatch + Drop, C: Followed, W: Sink, K: Clock>(
         (W.contents output.old) (W.contents output.new) connections (λ end. done_after result ≡ end)
         bank.old bank.new }
     ensures unprinted { IsErrOf result CommandFault.Write
-        → HasWriteFailed (W.told output.old) (W.told output.new) }
+        → HasWriteFailed (W.calls output.old) (W.calls output.new) }
     ensures spares { C.spares bank.old bank.new }
 {
     print_listening(line, output)?;

@@ -16,8 +16,8 @@ pub fn translate_sheet<R: Source, W: Sink>(
     input: &mut R,
     output: &mut W,
 ) -> Result<Status, CommandFault>
-    ensures { EncodesSheet (R.remaining input.old) (R.remaining input.new) (R.told input.old) (R.told input.new)
-        (W.contents output.old) (W.contents output.new) (W.told output.old) (W.told output.new) result }
+    ensures { EncodesSheet (R.remaining input.old) (R.remaining input.new) (R.calls input.old) (R.calls input.new)
+        (W.contents output.old) (W.contents output.new) (W.calls output.old) (W.calls output.new) result }
 {
     match encode_sheet(alloc, input, output) {
         Ok(_) => Ok(Status::Done),
@@ -32,8 +32,8 @@ fn translate_alone<R: Source, W: Sink>(
     input: &mut R,
     output: &mut W,
 ) -> Result<Status, CommandFault>
-    ensures { DecodesReplies money (R.remaining input.old) (R.remaining input.new) (R.told input.old) (R.told input.new)
-        (W.contents output.old) (W.contents output.new) (W.told output.old) (W.told output.new) result }
+    ensures { DecodesReplies money (R.remaining input.old) (R.remaining input.new) (R.calls input.old) (R.calls input.new)
+        (W.contents output.old) (W.contents output.new) (W.calls output.old) (W.calls output.new) result }
 {
     match decode_replies(alloc, money, input, output) {
         Ok(_) => Ok(Status::Done),
@@ -50,9 +50,9 @@ fn translate_beside<P: Plans, R: Source, W: Sink>(
     input: &mut R,
     output: &mut W,
 ) -> Result<Status, CommandFault>
-    ensures { DecodesOver money (P.is_named plans.now sheet.now) (known_source P.Plan.remaining P.Plan.told)
-        (R.remaining input.old) (R.remaining input.new) (R.told input.old) (R.told input.new)
-        (W.contents output.old) (W.contents output.new) (W.told output.old) (W.told output.new) result }
+    ensures { DecodesOver money (P.is_named plans.now sheet.now) (known_source P.Plan.remaining P.Plan.calls)
+        (R.remaining input.old) (R.remaining input.new) (R.calls input.old) (R.calls input.new)
+        (W.contents output.old) (W.contents output.new) (W.calls output.old) (W.calls output.new) result }
 {
     let mut postings = match plans.open_plan(sheet) {
         Ok(postings) => postings,
@@ -75,9 +75,9 @@ pub fn translate_replies<P: Plans, R: Source, W: Sink>(
     output: &mut W,
 ) -> Result<Status, CommandFault>
     ensures { DecodesIn money (option_map (λ s. s.now) sheet.entry) (P.is_named plans.now)
-        (known_source P.Plan.remaining P.Plan.told) (R.remaining input.old) (R.remaining input.new)
-        (R.told input.old) (R.told input.new) (W.contents output.old) (W.contents output.new)
-        (W.told output.old) (W.told output.new) result }
+        (known_source P.Plan.remaining P.Plan.calls) (R.remaining input.old) (R.remaining input.new)
+        (R.calls input.old) (R.calls input.new) (W.contents output.old) (W.contents output.new)
+        (W.calls output.old) (W.calls output.new) result }
 {
     match sheet {
         None => translate_alone(alloc, money, input, output),

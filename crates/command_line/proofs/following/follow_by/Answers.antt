@@ -1,6 +1,6 @@
 -- Where the line of the requests can't be printed, nothing is done.
 use Rattle.std.proofs.Common.{rules, ◌≡◌, Err, inl, inr, refl}
-use Rattle.posting_core.specs.Told.{IsFlush}
+use Rattle.posting_core.specs.EndCalls.{IsFlush}
 use Rattle.posting_core.proofs.Telling.{last_some}
 use Rattle.report_contents.proofs.Written.{later_failed}
 use Rattle.command_line.specs.declared.fault.CommandFault.TheVariants.{Write}

@@ -11,7 +11,7 @@ returns-in_err-plan g c =
     let fault = c.in_err-plan.field-0.0 in
     let same : c.from_residual.result ≡ Err (fault_of_plan fault) = search rules in
     let it = unread g.C.Counter.seen g.C.Counter.reason (g.W.Sink.contents c.args.output.now)
-    (g.W.Sink.told c.args.output.now) c.args.bank.now _ fault same
+    (g.W.Sink.calls c.args.output.now) c.args.bank.now _ fault same
     c.in_err-plan.ensures in
     record {
       loads = it.loads;
@@ -28,7 +28,7 @@ returns-in_err-loaded g c =
     let told = c.in_err-loaded.ensures.fault in
     let same : c.from_residual-in_err-loaded.result ≡ Err (fault_of_bank fault) = search rules in
     let it = refused g.C.Counter.seen g.C.Counter.reason (g.W.Sink.contents c.args.output.now)
-    (g.W.Sink.told c.args.output.now) c.args.bank.now
+    (g.W.Sink.calls c.args.output.now) c.args.bank.now
     c.load.new.counter _ _ fault same c.in_ok-plan.ensures
     (record { answered = told.0; after = told.1; why = c.in_err-loaded.ensures.why }) in
     record {
@@ -48,8 +48,8 @@ returns-in_err-print_loaded g c =
     (g.C.Counter.seen c.load.new.counter) c.in_ok-loaded.loaded =
     record { takes = says.done.takes; all = says.all; counts = says.counts } in
     let it = unprinted g.C.Counter.seen g.C.Counter.reason (g.W.Sink.contents c.args.output.now)
-    (g.W.Sink.told c.args.output.now) c.args.bank.now
-    (g.W.Sink.contents c.print_loaded.new.output) (g.W.Sink.told c.print_loaded.new.output) c.load.new.counter
+    (g.W.Sink.calls c.args.output.now) c.args.bank.now
+    (g.W.Sink.contents c.print_loaded.new.output) (g.W.Sink.calls c.print_loaded.new.output) c.load.new.counter
     _ _ _ same c.in_ok-plan.ensures did (part_of c.in_err-print_loaded.ensures.prints.part)
     c.in_err-print_loaded.ensures.failed in
     record {
@@ -68,8 +68,8 @@ returns g c =
     (g.C.Counter.seen c.load.new.counter) c.in_ok-loaded.loaded =
     record { takes = says.done.takes; all = says.all; counts = says.counts } in
     let it = printed g.C.Counter.seen g.C.Counter.reason (g.W.Sink.contents c.args.output.now)
-    (g.W.Sink.told c.args.output.now) c.args.bank.now
-    (g.W.Sink.contents c.print_loaded.new.output) (g.W.Sink.told c.print_loaded.new.output) c.load.new.counter
+    (g.W.Sink.calls c.args.output.now) c.args.bank.now
+    (g.W.Sink.contents c.print_loaded.new.output) (g.W.Sink.calls c.print_loaded.new.output) c.load.new.counter
     _ _ c.in_ok-print_loaded.ensures.prints.line c.in_ok-plan.ensures did in
     record {
       loads = it.loads;

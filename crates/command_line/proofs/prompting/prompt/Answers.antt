@@ -11,4 +11,4 @@ returns-then-typed g c =
 
 pub returns-else-typed : goal.returns-else-typed
 returns-else-typed g c =
-    rw c.if-typed.false (none_due (g.E.Sink.contents c.args.faults.now) (g.E.Sink.told c.args.faults.now))
+    rw c.if-typed.false (none_due (g.E.Sink.contents c.args.faults.now) (g.E.Sink.calls c.args.faults.now))
