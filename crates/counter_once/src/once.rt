@@ -4,8 +4,8 @@ ghost use Rattle.std.specs.Result.{IsErrOf};
 ghost use Rattle.posting_rules.specs.declared.fault.Fault.TheVariants.{Memory};
 ghost use Rattle.posting_rules.specs.believed.Tables.{AreTablesOf};
 ghost use Rattle.posting_core.specs.Plain.{plain_tables};
-ghost use Rattle.posting_core.specs.believed.Told.{EndsWith, IsEndOfInput};
-ghost use Rattle.posting_core.specs.Told.{HasReadFailed, HasWriteFailed, IsFlush};
+ghost use Rattle.posting_core.specs.believed.EndCalls.{EndsWith, IsEndOfInput};
+ghost use Rattle.posting_core.specs.EndCalls.{HasReadFailed, HasWriteFailed, IsFlush};
 ghost use Rattle.counter_once.specs.First.{two_branches, FirstIsAnswered, FirstLeaves};
 
 use message_records::{Branch, Moment};
@@ -45,11 +45,11 @@ pub fn answer_first<R: Source, W: Sink>(
     ensures fault { IfErr result (λ fault. FirstLeaves fault (R.remaining reader.old) (R.remaining reader.new)
         (W.contents writer.old) (W.contents writer.new)) }
     ensures ended { IsErrOf result OnceFault.Short
-        → EndsWith IsEndOfInput (R.told reader.old) (R.told reader.new) }
-    ensures unread { IsErrOf result OnceFault.Read → HasReadFailed (R.told reader.old) (R.told reader.new) }
+        → EndsWith IsEndOfInput (R.calls reader.old) (R.calls reader.new) }
+    ensures unread { IsErrOf result OnceFault.Read → HasReadFailed (R.calls reader.old) (R.calls reader.new) }
     ensures unwritten { IsErrOf result OnceFault.Write
-        → HasWriteFailed (W.told writer.old) (W.told writer.new) }
-    ensures flushed { OnOk result (EndsWith IsFlush (W.told writer.old) (W.told writer.new)) }
+        → HasWriteFailed (W.calls writer.old) (W.calls writer.new) }
+    ensures flushed { OnOk result (EndsWith IsFlush (W.calls writer.old) (W.calls writer.new)) }
 {
     let mut bank = match two_branches(alloc) {
         Ok(bank) => bank,
