@@ -304,9 +304,7 @@ fn is_as_made(schema: &Schema, table: BankTable) -> bool
     let Some(found) = find_table(schema, made_of(table).name) else {
         return false;
     };
-    if !is_made(found, table) {
-        return false;
-    }
+    // The one that was found is among them.
     are_made(schema.tables.as_slice(), found.tree, table)
         && count_on(schema.indexes.as_slice(), found.tree) == count_uniques(table)
 }
