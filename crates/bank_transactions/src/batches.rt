@@ -189,6 +189,9 @@ pub fn post_all<S: Alter>(
     }
     match try_new(conn, memory, moment, batch, is_new)? {
         Tried::Answered(replies) => Ok(replies),
-        Tried::Again(batch) => post_looked_up(conn, memory, moment, batch),
+        Tried::Again(batch) => {
+            memory.expect_repeat(&batch.overlay.kept);
+            post_looked_up(conn, memory, moment, batch)
+        }
     }
 }

@@ -20,6 +20,9 @@ const TELLER_BITS: u32 = 10;
 
 const ACCOUNT_BITS: u32 = 14;
 
+// What stands for the highest number of a teller whose request was tried in vain: above it no number is likely new.
+const SENT_AGAIN: u64 = u64::MAX;
+
 // A table of so many places. Where no memory is to be had, nothing is ever known.
 fn table<V: Copy>(alloc: Global, bits: u32) -> Known<V>
     requires { bits < 64 }
@@ -203,8 +206,17 @@ impl Memory {
     {
         let number = slot.number.get();
         match self.numbers.get(slot.teller.get()) {
-            Some(highest) if number <= highest => {}
+            Some(highest) if number <= highest && highest != SENT_AGAIN => {}
             _ => self.numbers.put(slot.teller.get(), number),
+        }
+    }
+
+    /// After a single request that was tried in vain: the next one of its teller is looked up first.
+    pub(crate) fn expect_repeat(&mut self, slots: &[RequestSlot])
+        ensures { (db : Database) → Fits db self.old → Fits db self.new }
+    {
+        if let [slot] = slots {
+            self.numbers.put(slot.teller.get(), SENT_AGAIN);
         }
     }
 

@@ -18,6 +18,11 @@ try_new-requires-clause-remembers g c =
     still_fits g.S.Store c.args.conn.now c.args.memory.now c.note_requests-is_new.new.self
     c.note_requests-is_new.ensures.fits c.requires.remembers
 
+pub post_looked_up-requires-in-Again-clause-remembers : goal.post_looked_up-requires-in-Again-clause-remembers
+post_looked_up-requires-in-Again-clause-remembers g c =
+    still_fits g.S.Store c.try_new.new.conn c.try_new.new.memory c.expect_repeat.new.self c.expect_repeat.ensures
+    c.in_ok-replies.ensures.remembers
+
 pub returns-then-not-is_tried-clause-stored : goal.returns-then-not-is_tried-clause-stored
 returns-then-not-is_tried-clause-stored g c = c.post_looked_up.ensures.wrote
 
