@@ -3,7 +3,8 @@ use crate::plans::{LINE_ENDS, write};
 use failing_ends::{CutReader, CutWriter};
 use message_records::{BadReply, REPLY_BYTES, REQUEST_BYTES};
 use posting_sheets::{
-    BadRow, Money, RepliesFault, SheetFault, decode_beside, decode_replies, encode_sheet,
+    BadRow, Column, FieldStart, Money, RepliesFault, SheetFault, decode_beside, decode_replies,
+    encode_sheet,
 };
 use std::alloc::{Alloc, Global};
 use std::io::{ErrorKind, Read};
@@ -19,174 +20,190 @@ fn encoded<R: Read>(
     (end, records)
 }
 
+// How a sheet ends: after all its rows, at its header, or at a row with this in a column.
+enum End {
+    All(u64),
+    Header,
+    Row(u64, Column, &'static [u8]),
+}
+
+impl End {
+    fn ended(&self) -> Result<u64, SheetFault> {
+        match *self {
+            End::All(count) => Ok(count),
+            End::Header => Err(SheetFault::Header),
+            End::Row(row, column, found) => {
+                let found = FieldStart::of(found);
+                Err(SheetFault::Row(row, BadRow { column, found }))
+            }
+        }
+    }
+}
+
 // A sheet, how many rows are written of it, and how it ends.
-const SHEETS: [(&[u8], usize, Result<u64, SheetFault>); 39] = [
-    (b"", 0, Err(SheetFault::Header)),
-    (b"account,teller,number\n", 0, Err(SheetFault::Header)),
-    (
-        b"account,teller,number,sum\n1,1,1,5\n",
-        0,
-        Err(SheetFault::Header),
-    ),
+const SHEETS: [(&[u8], usize, End); 39] = [
+    (b"", 0, End::Header),
+    (b"account,teller,number\n", 0, End::Header),
+    (b"account,teller,number,sum\n1,1,1,5\n", 0, End::Header),
     (
         b"account,teller,number,delta,reference,branch\n",
         0,
-        Err(SheetFault::Header),
+        End::Header,
     ),
+    (b"account,teller,number,delta,\n", 0, End::Header),
+    (b"1,1,1,500\n", 0, End::Header),
+    (b"account,teller,number,delta", 0, End::All(0)),
+    (b"account,teller,number,delta,branch\n", 0, End::All(0)),
+    (b"account,teller,number,delta,reference\n", 0, End::All(0)),
     (
-        b"account,teller,number,delta,\n",
+        b"account,teller,number,delta,branch,reference\n",
         0,
-        Err(SheetFault::Header),
+        End::All(0),
     ),
-    (b"1,1,1,500\n", 0, Err(SheetFault::Header)),
-    (b"account,teller,number,delta", 0, Ok(0)),
-    (b"account,teller,number,delta,branch\n", 0, Ok(0)),
-    (b"account,teller,number,delta,reference\n", 0, Ok(0)),
-    (b"account,teller,number,delta,branch,reference\n", 0, Ok(0)),
     (
         b"account,teller,number,delta\n1,1,1,5\n2,1,2\n",
         1,
-        Err(SheetFault::Row(2, BadRow::Columns)),
+        End::Row(2, Column::Columns, b""),
     ),
     (
         b"account,teller,number,delta\n1,1,1,5,1\n",
         0,
-        Err(SheetFault::Row(1, BadRow::Columns)),
+        End::Row(1, Column::Columns, b""),
     ),
     (
         b"account,teller,number,delta\n1,1,1,5\n0,1,2,5\n",
         1,
-        Err(SheetFault::Row(2, BadRow::Account)),
+        End::Row(2, Column::Account, b"0"),
     ),
     (
         b"account,teller,number,delta\n+1,1,1,5\n",
         0,
-        Err(SheetFault::Row(1, BadRow::Account)),
+        End::Row(1, Column::Account, b"+1"),
     ),
     (
         b"account,teller,number,delta\n1000000000000,1,1,5\n",
         0,
-        Err(SheetFault::Row(1, BadRow::Account)),
+        End::Row(1, Column::Account, b"1000000000000"),
     ),
     (
         b"account,teller,number,delta\n1,,1,5\n",
         0,
-        Err(SheetFault::Row(1, BadRow::Teller)),
+        End::Row(1, Column::Teller, b""),
     ),
     (
         b"account,teller,number,delta\n1,100000000,1,5\n",
         0,
-        Err(SheetFault::Row(1, BadRow::Teller)),
+        End::Row(1, Column::Teller, b"100000000"),
     ),
     (
         b"account,teller,number,delta\n1,1,1,5\n1,1,x,y\n",
         1,
-        Err(SheetFault::Row(2, BadRow::Number)),
+        End::Row(2, Column::Number, b"x"),
     ),
     (
         b"account,teller,number,delta\n1,1,10000000000,5\n",
         0,
-        Err(SheetFault::Row(1, BadRow::Number)),
+        End::Row(1, Column::Number, b"10000000000"),
     ),
     (
         b"account,teller,number,delta\n1,1,1,5\n1,1,2,5\n1,1,3,1.50\n",
         2,
-        Err(SheetFault::Row(3, BadRow::Delta)),
+        End::Row(3, Column::Delta, b"1.50"),
     ),
     (
         b"account,teller,number,delta\n1,1,1,-\n",
         0,
-        Err(SheetFault::Row(1, BadRow::Delta)),
+        End::Row(1, Column::Delta, b"-"),
     ),
     (
         b"account,teller,number,delta\n1,1,1,\n",
         0,
-        Err(SheetFault::Row(1, BadRow::Delta)),
+        End::Row(1, Column::Delta, b""),
     ),
     (
         b"account,teller,number,delta\n1,1,1,10000000000\n",
         0,
-        Err(SheetFault::Row(1, BadRow::Delta)),
+        End::Row(1, Column::Delta, b"10000000000"),
     ),
     (
         b"account,teller,number,amount\n1,1,1,12.34\n1,1,2,-7.00\n1,1,3,12\n1,1,4,+99999999.99\n1,1,5,1.5\n",
         4,
-        Err(SheetFault::Row(5, BadRow::Delta)),
+        End::Row(5, Column::Delta, b"1.5"),
     ),
     (
         b"account,teller,number,amount\n1,1,1,1.500\n",
         0,
-        Err(SheetFault::Row(1, BadRow::Delta)),
+        End::Row(1, Column::Delta, b"1.500"),
     ),
     (
         b"account,teller,number,amount\n1,1,1,.50\n",
         0,
-        Err(SheetFault::Row(1, BadRow::Delta)),
+        End::Row(1, Column::Delta, b".50"),
     ),
     (
         b"account,teller,number,amount\n1,1,1,5\n1,1,2,\"1,000.00\"\n",
         1,
-        Err(SheetFault::Row(2, BadRow::Delta)),
+        End::Row(2, Column::Delta, b"1,000.00"),
     ),
     (
         b"account,teller,number,amount\n1,1,1,100000000\n",
         0,
-        Err(SheetFault::Row(1, BadRow::Delta)),
+        End::Row(1, Column::Delta, b"100000000"),
     ),
     (
         b"account,teller,number,amount\n1,1,1,100000000.00\n",
         0,
-        Err(SheetFault::Row(1, BadRow::Delta)),
+        End::Row(1, Column::Delta, b"100000000.00"),
     ),
     (
         b"account,teller,number,amount,reference\n1,1,1,-.-1,\n",
         0,
-        Err(SheetFault::Row(1, BadRow::Delta)),
+        End::Row(1, Column::Delta, b"-.-1"),
     ),
     (
         b"account,teller,number,delta,branch\n1,1,1,5,0\n",
         0,
-        Err(SheetFault::Row(1, BadRow::Branch)),
+        End::Row(1, Column::Branch, b"0"),
     ),
     (
         b"account,teller,number,delta\n1,9999991,1,5\n",
         0,
-        Err(SheetFault::Row(1, BadRow::Branch)),
+        End::Row(1, Column::Branch, b""),
     ),
     (
         b"account,teller,number,delta,reference\n1,1,1,5,rent\n1,1,2,5,R\xC3\xA9\n",
         1,
-        Err(SheetFault::Row(2, BadRow::Reference)),
+        End::Row(2, Column::Reference, b"R\xC3\xA9"),
     ),
     (
         b"account,teller,number,delta,reference\n1,1,1,5,123456789012345678901\n",
         0,
-        Err(SheetFault::Row(1, BadRow::Reference)),
+        End::Row(1, Column::Reference, b"123456789012345678901"),
     ),
     (
         b"account,teller,number,delta,reference\n1,1,1,5,12345678901234567890\n",
         1,
-        Ok(1),
+        End::All(1),
     ),
     (
         b"account,teller,number,delta\n\"1\",\"1\",1,+0000000005\n\n2,1,2,-9999999999\n3,1,3,-0",
         3,
-        Ok(3),
+        End::All(3),
     ),
     (
         b"account,teller,number,delta,branch\n1,1,1,5,\n999999999999,99999999,9999999999,0,999999\n",
         2,
-        Ok(2),
+        End::All(2),
     ),
     (
         b"account,teller,number,delta,branch,reference\n1,1,1,5,1,\"a,\"\"b\"\n1,1,2,5,,\n",
         2,
-        Ok(2),
+        End::All(2),
     ),
     (
         b"account,teller,number,delta,branch,reference\n1,1,1,5,x,\xFF\n",
         0,
-        Err(SheetFault::Row(1, BadRow::Branch)),
+        End::Row(1, Column::Branch, b"x"),
     ),
 ];
 
@@ -197,7 +214,7 @@ fn sheets(rt: HostRuntime) {
             let mut text = Vec::new(rt.alloc());
             write(&mut text, *rows != 1, line_end, sheet).expect(&rt, "memory");
             let (end, records) = encoded(&rt, &mut text.as_slice());
-            assert_eq!(rt; end, *want);
+            assert_eq!(rt; end, want.ended());
             assert_eq!(rt; Some(records.len()), rows.checked_mul(REQUEST_BYTES));
         }
     }

@@ -4,7 +4,7 @@ use Rattle.std.specs.Io.KnownBytes.{Consumes, IsAtEnd}
 use Rattle.std.proofs.KnownBytes.{Appends-nil, Consumes-nil}
 use Rattle.std.proofs.lemmas.List.{Elements.All-nil}
 use Rattle.message_records.specs.{Records.IsReply}
-use Rattle.posting_core.specs.{believed.Told.EndsWith, believed.Told.IsEndOfInput, believed.Told.ReadTold, Told.WriteTold}
+use Rattle.posting_core.specs.{believed.EndCalls.EndsWith, believed.EndCalls.IsEndOfInput, believed.EndCalls.ReadCall, EndCalls.WriteCall}
 use Rattle.posting_core.proofs.Telling.{adds-none}
 use Rattle.posting_sheets.specs.Beside.{BesideFaultIsOfItsEnd, DecodesBeside, IsDecodedBeside, RowsFaultIsOfItsEnd}
 use Rattle.posting_sheets.specs.Beside.{rows_sheet}
@@ -64,8 +64,8 @@ begun-fault money postings r w (Fault.Row row bad) h = absurd h
 begun-fault money postings r w (Fault.OtherPosting row) h = absurd h
 begun-fault money postings r w Fault.MoreReplies h = absurd h
 
-pub begun-ends : (postings : Sheet) (fault : RepliesFault) (r' : Option (List ℕ)) (q q' : Option (List ReadTold))
-    (u : Option (List WriteTold)) → IsNotBegun postings fault → RowsFaultIsOfItsEnd (Err fault) r' q q' u u
+pub begun-ends : (postings : Sheet) (fault : RepliesFault) (r' : Option (List ℕ)) (q q' : Option (List ReadCall))
+    (u : Option (List WriteCall)) → IsNotBegun postings fault → RowsFaultIsOfItsEnd (Err fault) r' q q' u u
 begun-ends postings Fault.Header r' q q' u h = adds-none u
 begun-ends postings Fault.Memory r' q q' u h = inl (adds-none u)
 begun-ends postings (Fault.Truncated n) r' q q' u h = absurd h
@@ -78,8 +78,8 @@ begun-ends postings (Fault.OtherPosting row) r' q q' u h = absurd h
 begun-ends postings Fault.MoreReplies r' q q' u h = absurd h
 
 -- how a walk ends, with rows too
-pub rows-ends : (result : Result ℕ RepliesFault) (r' : Option (List ℕ)) (q q' : Option (List ReadTold))
-    (u u' : Option (List WriteTold)) → RepliesFaultIsOfItsEnd result r' q q' u u'
+pub rows-ends : (result : Result ℕ RepliesFault) (r' : Option (List ℕ)) (q q' : Option (List ReadCall))
+    (u u' : Option (List WriteCall)) → RepliesFaultIsOfItsEnd result r' q q' u u'
     → RowsFaultIsOfItsEnd result r' q q' u u'
 rows-ends (Ok count) r' q q' u u' e = e
 rows-ends (Err (Fault.Truncated n)) r' q q' u u' e = e
@@ -93,8 +93,8 @@ rows-ends (Err (Fault.Row row bad)) r' q q' u u' e = e
 rows-ends (Err (Fault.OtherPosting row)) r' q q' u u' e = e
 rows-ends (Err Fault.MoreReplies) r' q q' u u' e = e
 
-pub beside-ends : (result : Result ℕ RepliesFault) (s' : Option (List ℕ)) (p p' : Option (List ReadTold))
-    (r' : Option (List ℕ)) (q q' : Option (List ReadTold)) (u u' : Option (List WriteTold)) → IsAtEnd s'
+pub beside-ends : (result : Result ℕ RepliesFault) (s' : Option (List ℕ)) (p p' : Option (List ReadCall))
+    (r' : Option (List ℕ)) (q q' : Option (List ReadCall)) (u u' : Option (List WriteCall)) → IsAtEnd s'
     → EndsWith IsEndOfInput p p' → RowsFaultIsOfItsEnd result r' q q' u u'
     → BesideFaultIsOfItsEnd result s' p p' r' q q' u u'
 beside-ends (Ok count) s' p p' r' q q' u u' end ended e = (end, ended, e)

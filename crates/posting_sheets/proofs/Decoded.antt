@@ -9,8 +9,8 @@ use Rattle.std.proofs.Math.Seq.{take-length}
 use Rattle.std.proofs.lemmas.List.{length_push, Concat.flat_map-append, Elements.All-nil, Elements.All-push}
 use Rattle.message_records.specs.{believed.Records.ReplyFields, Records.IsReply, believed.Spelling.reply_spelling}
 use Rattle.message_records.specs.{declared.limits.TheConstants.REPLY_BYTES}
-use Rattle.posting_core.specs.believed.Told.{EndsWith, ReadTold}
-use Rattle.posting_core.specs.Told.{IsFlush, WriteTold, IsWriteFailure}
+use Rattle.posting_core.specs.believed.EndCalls.{EndsWith, ReadCall}
+use Rattle.posting_core.specs.EndCalls.{IsFlush, WriteCall, IsWriteFailure}
 use Rattle.posting_core.proofs.Telling.{last_some, more_failed}
 use Rattle.posting_sheets.specs.{Encoding.IsPrefixOf, declared.fault.RepliesFault.RepliesFault}
 use Rattle.branch_loader.specs.Records.{Records}
@@ -328,7 +328,7 @@ decoded-broken w'' beside bytes (Fault.Truncated n) len d l =
 
 -- a reply without a row asks nothing of the sink
 pub untold : (beside : Option Sheet) (before : ℕ) (r : ReplyFields) (fault : RepliesFault)
-    (u : Option (List WriteTold)) → IsNoRowIn beside before r fault → IsLineTold u u (Err fault)
+    (u : Option (List WriteCall)) → IsNoRowIn beside before r fault → IsLineTold u u (Err fault)
 untold beside before r Fault.Write u l = absurd (no_row beside before r Fault.Write (λ postings before r e. e) l)
 untold beside before r Fault.Memory u l = refl
 untold beside before r (Fault.Reply place bad) u l = refl
@@ -341,8 +341,8 @@ untold beside before r Fault.Read u l = refl
 untold beside before r (Fault.Truncated n) u l = refl
 
 -- what the sink's calls returned then, after a flush
-pub broken-ends : (money : Money) (beside : Option Sheet) (w w' : Option (List ℕ)) (u u' u'' : Option (List WriteTold))
-    (count : ℕ) (bytes : List ℕ) (fault : RepliesFault) (r' : Option (List ℕ)) (q q' : Option (List ReadTold))
+pub broken-ends : (money : Money) (beside : Option Sheet) (w w' : Option (List ℕ)) (u u' u'' : Option (List WriteCall))
+    (count : ℕ) (bytes : List ℕ) (fault : RepliesFault) (r' : Option (List ℕ)) (q q' : Option (List ReadCall))
     → EndsWith IsFlush u u' → IsLineSo money beside bytes count w w' (Err fault) → IsLineTold u' u'' (Err fault)
     → RepliesFaultIsOfItsEnd (Err fault) r' q q' u u''
 broken-ends money beside w w' u u' u'' count bytes Fault.Write r' q q' f l t =

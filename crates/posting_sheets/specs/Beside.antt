@@ -7,8 +7,8 @@ use Rattle.message_records.specs.believed.Records.{ReplyFields, RequestFields, u
 use Rattle.message_records.specs.Records.{IsReply}
 use Rattle.message_records.specs.believed.Spelling.{reply_spelling}
 use Rattle.message_records.specs.declared.limits.TheConstants.{REPLY_BYTES}
-use Rattle.posting_core.specs.believed.Told.{EndsWith, GrowsBy, IsEndOfInput, ReadTold}
-use Rattle.posting_core.specs.Told.{HasReadFailed, IsThrough, WriteTold}
+use Rattle.posting_core.specs.believed.EndCalls.{EndsWith, GrowsBy, IsEndOfInput, ReadCall}
+use Rattle.posting_core.specs.EndCalls.{HasReadFailed, IsThrough, WriteCall}
 use Rattle.posting_sheets.specs.Encoding.{IsPrefixOf}
 use Rattle.posting_sheets.specs.References.{reference_field}
 use Rattle.posting_sheets.specs.Replies.{IsDecodedSo, RepliesFaultIsOfItsEnd, replies_spelling, reply_text}
@@ -113,8 +113,8 @@ pub record DecodesBeside (money : Money) (s s' r r' w w' : Option (List ℕ))
   pub decoded : IsDecodedBeside money (sheet_of text) replies rest result written
 
 -- what was read of the replies, and flushed, where a text is the sheet of postings
-abbrev pub RowsFaultIsOfItsEnd : Result ℕ RepliesFault → Option (List ℕ) → Option (List ReadTold)
-    → Option (List ReadTold) → Option (List WriteTold) → Option (List WriteTold) → Type 0
+abbrev pub RowsFaultIsOfItsEnd : Result ℕ RepliesFault → Option (List ℕ) → Option (List ReadCall)
+    → Option (List ReadCall) → Option (List WriteCall) → Option (List WriteCall) → Type 0
 RowsFaultIsOfItsEnd (Err faults.Header) r' q q' u u' = GrowsBy u u' []
 RowsFaultIsOfItsEnd (Err faults.Memory) r' q q' u u' = IsThrough u u'
 RowsFaultIsOfItsEnd result r' q q' u u' = RepliesFaultIsOfItsEnd result r' q q' u u'
@@ -122,9 +122,9 @@ RowsFaultIsOfItsEnd result r' q q' u u' = RepliesFaultIsOfItsEnd result r' q q' 
 -- The sheet of postings was read to its end, unless that failed or memory was refused, and the replies as far as their
 -- faults say. What was written was flushed unless the writer failed. The calls of the sheet's source are known as p and
 -- p', the replies' as q and q', the sink's as u and u'.
-abbrev pub BesideFaultIsOfItsEnd : Result ℕ RepliesFault → Option (List ℕ) → Option (List ReadTold)
-    → Option (List ReadTold) → Option (List ℕ) → Option (List ReadTold) → Option (List ReadTold)
-    → Option (List WriteTold) → Option (List WriteTold) → Type 0
+abbrev pub BesideFaultIsOfItsEnd : Result ℕ RepliesFault → Option (List ℕ) → Option (List ReadCall)
+    → Option (List ReadCall) → Option (List ℕ) → Option (List ReadCall) → Option (List ReadCall)
+    → Option (List WriteCall) → Option (List WriteCall) → Type 0
 BesideFaultIsOfItsEnd (Err faults.Sheet) s' p p' r' q q' u u' = HasReadFailed p p' × GrowsBy u u' []
 BesideFaultIsOfItsEnd (Err faults.Memory) s' p p' r' q q' u u' = IsThrough u u'
 BesideFaultIsOfItsEnd result s' p p' r' q q' u u' =

@@ -4,10 +4,10 @@ use Rattle.std.specs.List.{flat_map}
 use Rattle.std.specs.Io.KnownBytes.{Appends, Consumes, IsAtEnd}
 use Rattle.message_records.specs.believed.Records.{RequestFields}
 use Rattle.message_records.specs.believed.Spelling.{request_spelling}
-use Rattle.posting_core.specs.believed.Told.{EndsWith, GrowsBy, IsEndOfInput}
-use Rattle.posting_core.specs.Told.{HasReadFailed, HasWriteFailed, IsFlush}
-use Rattle.posting_core.specs.believed.Told.{ReadTold}
-use Rattle.posting_core.specs.Told.{IsThrough, WriteTold}
+use Rattle.posting_core.specs.believed.EndCalls.{EndsWith, GrowsBy, IsEndOfInput}
+use Rattle.posting_core.specs.EndCalls.{HasReadFailed, HasWriteFailed, IsFlush}
+use Rattle.posting_core.specs.believed.EndCalls.{ReadCall}
+use Rattle.posting_core.specs.EndCalls.{IsThrough, WriteCall}
 use Rattle.posting_sheets.specs.declared.fault.SheetFault.{SheetFault}
 use Rattle.posting_sheets.specs.declared.fault.SheetFault.TheVariants.{Header, Row, Read, Write, Memory}
 use Rattle.posting_sheets.specs.Sheets.{Sheet, sheet_of}
@@ -48,8 +48,8 @@ pub record Encodes (r r' w w' : Option (List ℕ)) (result : Result ℕ SheetFau
 -- A fault of an end comes where that end failed, and any other answer but Memory where the input was read to its
 -- end. What was written was flushed unless the writer failed. The source's calls are known as q and q', the sink's
 -- as u and u'.
-abbrev pub SheetFaultIsOfItsEnd : Result ℕ SheetFault → Option (List ℕ) → Option (List ReadTold)
-    → Option (List ReadTold) → Option (List WriteTold) → Option (List WriteTold) → Type 0
+abbrev pub SheetFaultIsOfItsEnd : Result ℕ SheetFault → Option (List ℕ) → Option (List ReadCall)
+    → Option (List ReadCall) → Option (List WriteCall) → Option (List WriteCall) → Type 0
 SheetFaultIsOfItsEnd (Err Read) r' q q' u u' = HasReadFailed q q' × GrowsBy u u' []
 SheetFaultIsOfItsEnd (Err Write) r' q q' u u' = HasWriteFailed u u'
 SheetFaultIsOfItsEnd (Err Memory) r' q q' u u' = IsThrough u u'

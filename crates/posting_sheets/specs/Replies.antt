@@ -11,9 +11,9 @@ use Rattle.message_records.specs.believed.Records.{ReplyFields, RequestFields}
 use Rattle.message_records.specs.Records.{IsReply}
 use Rattle.message_records.specs.believed.Spelling.{reply_spelling}
 use Rattle.message_records.specs.declared.limits.TheConstants.{REPLY_BYTES}
-use Rattle.posting_core.specs.believed.Told.{EndsWith, IsEndOfInput, ReadTold}
-use Rattle.posting_core.specs.Told.{HasReadFailed, HasWriteFailed, IsFlush}
-use Rattle.posting_core.specs.Told.{WriteTold}
+use Rattle.posting_core.specs.believed.EndCalls.{EndsWith, IsEndOfInput, ReadCall}
+use Rattle.posting_core.specs.EndCalls.{HasReadFailed, HasWriteFailed, IsFlush}
+use Rattle.posting_core.specs.EndCalls.{WriteCall}
 use Rattle.posting_sheets.specs.Encoding.{IsPrefixOf}
 use Rattle.posting_sheets.specs.declared.money.Money.{Money}
 use Rattle.posting_sheets.specs.declared.money.Money.TheVariants.{Cents, Decimals}
@@ -92,8 +92,8 @@ pub record Decodes (money : Money) (r r' w w' : Option (List ℕ)) (result : Res
 
 -- A fault of an end comes where that end failed, and the other ends of the input where it was read to its end. What
 -- was written was flushed unless the writer failed. The source's calls are known as q and q', the sink's as u and u'.
-abbrev pub RepliesFaultIsOfItsEnd : Result ℕ RepliesFault → Option (List ℕ) → Option (List ReadTold)
-    → Option (List ReadTold) → Option (List WriteTold) → Option (List WriteTold) → Type 0
+abbrev pub RepliesFaultIsOfItsEnd : Result ℕ RepliesFault → Option (List ℕ) → Option (List ReadCall)
+    → Option (List ReadCall) → Option (List WriteCall) → Option (List WriteCall) → Type 0
 RepliesFaultIsOfItsEnd (Ok count) r' q q' u u' =
     IsAtEnd r' × EndsWith IsEndOfInput q q' × EndsWith IsFlush u u'
 RepliesFaultIsOfItsEnd (Err (Truncated n)) r' q q' u u' =

@@ -13,12 +13,13 @@ use Rattle.message_records.specs.declared.limits.TheConstants.{MAX_ACCOUNT, MAX_
 use Rattle.message_records.specs.declared.limits.TheConstants.{REFERENCE_BYTES}
 use Rattle.posting_rules.specs.believed.Numbering.{branch_of_teller}
 use Rattle.branch_loader.specs.Records.{Fields, Records}
+use Rattle.posting_sheets.specs.SheetFaults.{faulty_at}
 use Rattle.posting_sheets.specs.declared.form.Form.{Form}
 use Rattle.posting_sheets.specs.declared.money.Money.{Money}
 use Rattle.posting_sheets.specs.declared.money.Money.TheVariants.{Cents, Decimals}
 use Rattle.posting_sheets.specs.declared.fault.BadRow.{BadRow}
-use Rattle.posting_sheets.specs.declared.fault.BadRow.TheVariants.{Columns, Account, Teller, Number, Delta}
-use Rattle.posting_sheets.specs.declared.fault.BadRow.TheVariants.{Branch, Reference}
+use Rattle.posting_sheets.specs.declared.fault.Column.TheVariants.{Columns, Account, Teller, Number, Delta}
+use Rattle.posting_sheets.specs.declared.fault.Column.TheVariants.{Branch, Reference}
 use Rattle.posting_sheets.specs.declared.fault.SheetFault.{SheetFault}
 use Rattle.posting_sheets.specs.declared.fault.SheetFault.TheVariants.{Header, Row}
 
@@ -130,12 +131,13 @@ reference_of (c ∷ cs) =
 -- the request that the fields of a row state, or the first that is wrong
 unfoldable pub request_of_fields : Form → Fields → Result RequestFields BadRow
 request_of_fields form fields = do
-  account ← ok_or (number_within MAX_ACCOUNT (field 0 fields)) Account
-  teller ← ok_or (number_within MAX_TELLER (field 1 fields)) Teller
-  number ← ok_or (number_within MAX_NUMBER (field 2 fields)) Number
-  delta ← ok_or (delta_of form.money (field 3 fields)) Delta
-  branch ← ok_or (branch_of teller (field form.branch fields)) Branch
-  reference ← ok_or (reference_of (field form.reference fields)) Reference
+  account ← ok_or (number_within MAX_ACCOUNT (field 0 fields)) (faulty_at Account (field 0 fields))
+  teller ← ok_or (number_within MAX_TELLER (field 1 fields)) (faulty_at Teller (field 1 fields))
+  number ← ok_or (number_within MAX_NUMBER (field 2 fields)) (faulty_at Number (field 2 fields))
+  delta ← ok_or (delta_of form.money (field 3 fields)) (faulty_at Delta (field 3 fields))
+  branch ← ok_or (branch_of teller (field form.branch fields)) (faulty_at Branch (field form.branch fields))
+  reference ←
+      ok_or (reference_of (field form.reference fields)) (faulty_at Reference (field form.reference fields))
   Ok (record {
     account = account;
     teller = teller;
@@ -148,7 +150,7 @@ request_of_fields form fields = do
 -- the request that a row states
 abbrev pub request_of_row : Form → Fields → Result RequestFields BadRow
 request_of_row form fields =
-    if nat_eq (length fields) form.columns then request_of_fields form fields else Err Columns
+    if nat_eq (length fields) form.columns then request_of_fields form fields else Err (faulty_at Columns [])
 
 -- ---- the sheet
 

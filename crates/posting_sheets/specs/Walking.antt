@@ -6,8 +6,8 @@ use Rattle.message_records.specs.Reading.{reply_of}
 use Rattle.message_records.specs.believed.Records.{ReplyFields, RequestFields}
 use Rattle.message_records.specs.Records.{IsReply}
 use Rattle.message_records.specs.believed.Spelling.{reply_spelling}
-use Rattle.posting_core.specs.believed.Told.{EndsWith}
-use Rattle.posting_core.specs.Told.{HasWriteFailed, IsFlush, WriteTold}
+use Rattle.posting_core.specs.believed.EndCalls.{EndsWith}
+use Rattle.posting_core.specs.EndCalls.{HasWriteFailed, IsFlush, WriteCall}
 use Rattle.branch_loader.specs.Records.{Records}
 use Rattle.posting_sheets.specs.Beside.{AnswerPostings, AnswersPosting, IsDecodedBeside, IsRowFault, row_line, row_of}
 use Rattle.posting_sheets.specs.Beside.{rows_heading, rows_sheet}
@@ -118,7 +118,7 @@ IsLineSo money beside bytes before w w' (Err fault) =
     (r : ReplyFields) × IsReply r × (bytes ≡ reply_spelling r) × IsNoRowIn beside before r fault × Keeps w w'
 
 -- what the sink's calls returned then
-abbrev pub IsLineTold : (u u' : Option (List WriteTold)) → Result (Unit {0}) RepliesFault → Type 0
+abbrev pub IsLineTold : (u u' : Option (List WriteCall)) → Result (Unit {0}) RepliesFault → Type 0
 IsLineTold u u' (Ok done) = EndsWith IsFlush u u'
 IsLineTold u u' (Err faults.Write) = HasWriteFailed u u'
 IsLineTold u u' (Err fault) = u' ≡ u

@@ -73,7 +73,7 @@ fn write_line<S: RecordSource, W: Sink>(
         → IsLineSo money beside bytes.now before (W.contents writer.old) (W.contents writer.new) result
         × OnOk result (AreAfter S.has_left rows.new beside (before + 1)) }
     ensures told { (beside : Option Sheet) → AreAfter S.has_left rows.old beside before
-        → IsLineTold (W.told writer.old) (W.told writer.new) result }
+        → IsLineTold (W.calls writer.old) (W.calls writer.new) result }
     ensures plain { OnOk result (IfSome rows.new (λ rows. S.is_plain rows.source)) }
 {
     let reply = match decode_reply(bytes) {
@@ -103,8 +103,8 @@ fn decode_lines<S: RecordSource, R: Source, W: Sink>(
         → DecodesIn money beside (R.remaining reader.old) (R.remaining reader.new)
         (W.contents writer.old) (W.contents writer.new) result }
     ensures ends { (beside : Option Sheet) → AreAfter S.has_left rows.old beside 0
-        → RepliesFaultIsOfItsEnd result (R.remaining reader.new) (R.told reader.old) (R.told reader.new)
-        (W.told writer.old) (W.told writer.new) }
+        → RepliesFaultIsOfItsEnd result (R.remaining reader.new) (R.calls reader.old) (R.calls reader.new)
+        (W.calls writer.old) (W.calls writer.new) }
 {
     if write_out(writer, heading_with(rows.is_some(), money)).is_err() {
         return Err(RepliesFault::Write);
@@ -149,8 +149,8 @@ pub fn decode_replies<R: Source, W: Sink>(
 ) -> Result<u64, RepliesFault>
     ensures decodes { Decodes money (R.remaining reader.old) (R.remaining reader.new)
         (W.contents writer.old) (W.contents writer.new) result }
-    ensures ends { RepliesFaultIsOfItsEnd result (R.remaining reader.new) (R.told reader.old) (R.told reader.new)
-        (W.told writer.old) (W.told writer.new) }
+    ensures ends { RepliesFaultIsOfItsEnd result (R.remaining reader.new) (R.calls reader.old) (R.calls reader.new)
+        (W.calls writer.old) (W.calls writer.new) }
 {
     let mut none: Option<Rows<Reader<&[u8]>>> = None;
     decode_lines(alloc, money, &mut none, reader, writer)
@@ -166,8 +166,8 @@ fn decode_beside_text<R: Source, W: Sink>(
 ) -> Result<u64, RepliesFault>
     ensures decodes { DecodesIn money (Some (sheet_of text.now)) (R.remaining reader.old) (R.remaining reader.new)
         (W.contents writer.old) (W.contents writer.new) result }
-    ensures ends { RowsFaultIsOfItsEnd result (R.remaining reader.new) (R.told reader.old) (R.told reader.new)
-        (W.told writer.old) (W.told writer.new) }
+    ensures ends { RowsFaultIsOfItsEnd result (R.remaining reader.new) (R.calls reader.old) (R.calls reader.new)
+        (W.calls writer.old) (W.calls writer.new) }
 {
     let source = ReaderBuilder::new()
         .has_headers(false)
@@ -201,8 +201,8 @@ pub fn decode_beside<P: Source, R: Source, W: Sink>(
 ) -> Result<u64, RepliesFault>
     ensures decodes { DecodesBeside money (P.remaining postings.old) (P.remaining postings.new)
         (R.remaining reader.old) (R.remaining reader.new) (W.contents writer.old) (W.contents writer.new) result }
-    ensures ends { BesideFaultIsOfItsEnd result (P.remaining postings.new) (P.told postings.old) (P.told postings.new)
-        (R.remaining reader.new) (R.told reader.old) (R.told reader.new) (W.told writer.old) (W.told writer.new) }
+    ensures ends { BesideFaultIsOfItsEnd result (P.remaining postings.new) (P.calls postings.old) (P.calls postings.new)
+        (R.remaining reader.new) (R.calls reader.old) (R.calls reader.new) (W.calls writer.old) (W.calls writer.new) }
 {
     let text = match read_text(alloc, postings) {
         Ok(text) => text,

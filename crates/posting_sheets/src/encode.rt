@@ -87,8 +87,8 @@ pub fn encode_sheet<R: Source, W: Sink>(
 ) -> Result<u64, SheetFault>
     ensures encodes { Encodes (R.remaining reader.old) (R.remaining reader.new)
         (W.contents writer.old) (W.contents writer.new) result }
-    ensures ends { SheetFaultIsOfItsEnd result (R.remaining reader.new) (R.told reader.old) (R.told reader.new)
-        (W.told writer.old) (W.told writer.new) }
+    ensures ends { SheetFaultIsOfItsEnd result (R.remaining reader.new) (R.calls reader.old) (R.calls reader.new)
+        (W.calls writer.old) (W.calls writer.new) }
 {
     let text = match read_text(alloc, reader) {
         Ok(text) => text,

@@ -1,10 +1,14 @@
 //! Why a sheet has no more records, and why replies have no more lines.
+ghost use Rattle.std.specs.Prelude.{◌≡◌};
+ghost use Rattle.posting_sheets.specs.SheetFaults.{faulty_at};
+
+use crate::field::FieldStart;
 use message_records::BadReply;
 use std::fmt;
 
-/// What is wrong with a row: it hasn't as many fields as the header, or the first faulty one from the left.
+/// Where a row is wrong: it hasn't as many fields as the header, or the first faulty one from the left.
 #[derive(Clone, Copy, Debug, PartialEq, Eq)]
-pub enum BadRow {
+pub enum Column {
     /// The row hasn't as many fields as the header.
     Columns,
     /// The account isn't 1 to 12 digits with a value of 1..=`MAX_ACCOUNT`.
@@ -24,22 +28,55 @@ pub enum BadRow {
 }
 
 /// The column's name, or `columns`.
-impl fmt::Display for BadRow {
+impl fmt::Display for Column {
     ghost use Rattle.std.specs.Prelude.{Some};
-    ghost use Rattle.posting_sheets.specs.SheetFaults.{row_text};
+    ghost use Rattle.posting_sheets.specs.SheetFaults.{column_text};
 
-    ghost output = { λ bad. Some (row_text bad) };
+    ghost output = { λ column. Some (column_text column) };
 
     fn fmt<W: fmt::Write>(&self, f: &mut fmt::Formatter<W>) -> fmt::Result {
         match self {
-            BadRow::Columns => write!(f, "columns"),
-            BadRow::Account => write!(f, "account"),
-            BadRow::Teller => write!(f, "teller"),
-            BadRow::Number => write!(f, "number"),
-            BadRow::Delta => write!(f, "delta"),
-            BadRow::Branch => write!(f, "branch"),
-            BadRow::Reference => write!(f, "reference"),
+            Column::Columns => write!(f, "columns"),
+            Column::Account => write!(f, "account"),
+            Column::Teller => write!(f, "teller"),
+            Column::Number => write!(f, "number"),
+            Column::Delta => write!(f, "delta"),
+            Column::Branch => write!(f, "branch"),
+            Column::Reference => write!(f, "reference"),
         }
+    }
+}
+
+/// What is wrong with a row.
+#[derive(Clone, Copy, Debug, PartialEq, Eq)]
+pub struct BadRow {
+    /// Where.
+    pub column: Column,
+    /// What stands there, or how it begins; nothing where the row hasn't as many fields as the header.
+    pub found: FieldStart,
+}
+
+impl BadRow {
+    // This is what is found in a column.
+    pub(crate) fn at(column: Column, field: &[u8]) -> BadRow
+        ensures { result ≡ faulty_at column field.now }
+    {
+        BadRow {
+            column,
+            found: FieldStart::of(field),
+        }
+    }
+}
+
+/// The column's name, or `columns`.
+impl fmt::Display for BadRow {
+    ghost use Rattle.std.specs.Prelude.{Some};
+    ghost use Rattle.posting_sheets.specs.SheetFaults.{column_text};
+
+    ghost output = { λ bad. Some (column_text bad.column) };
+
+    fn fmt<W: fmt::Write>(&self, f: &mut fmt::Formatter<W>) -> fmt::Result {
+        write!(f, "{}", self.column)
     }
 }
 

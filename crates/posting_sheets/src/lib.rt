@@ -21,7 +21,7 @@
 //! `-7.00` ([`Money`]); a column `branch`, a column `reference`, or the one and then the other may follow. Where a branch
 //! is left out, it is the teller's.
 //! [`SheetFault`] says why a sheet has no more records: its header, or a row, counted from 1, and which column of it is
-//! wrong ([`BadRow`]); or that an end failed, or that memory was refused. The rows before it are written.
+//! wrong, and what stands there ([`BadRow`]); or that an end failed, or that memory was refused. The rows before it are written.
 //! [`RepliesFault`] says the same of replies.
 //!
 //! Read next: [`encode_sheet`] and [`decode_replies`]; `specs/Sheets`, which says what a sheet states, `specs/Replies`,
@@ -31,6 +31,7 @@
 mod decode;
 mod encode;
 mod fault;
+mod field;
 mod form;
 mod line;
 mod money;
@@ -40,7 +41,8 @@ mod rows;
 
 pub use decode::{decode_beside, decode_replies};
 pub use encode::encode_sheet;
-pub use fault::{BadRow, RepliesFault, SheetFault};
+pub use fault::{BadRow, Column, RepliesFault, SheetFault};
+pub use field::FieldStart;
 pub use money::Money;
 pub use quoting::{REFERENCE_FIELD, ReferenceField, push_text, reference_field};
 pub use row::reference_of;

@@ -1,11 +1,13 @@
 //! The request that a row of a sheet states.
 ghost use Rattle.std.specs.Prelude.{◌≡◌, ◌≤◌, ◌<◌, ◌^◌, nat_abs, length, IfSome};
+ghost use Rattle.std.specs.Option.{ok_or};
 ghost use Rattle.csv.specs.Records.{fields_of};
-ghost use Rattle.message_records.specs.believed.Spelling.{filled};
 ghost use Rattle.posting_sheets.specs.Sheets.{branch_of, cents_of, cents_written, delta_of, number_up_to};
 ghost use Rattle.posting_sheets.specs.Sheets.{number_within, reference_of, request_of_fields, request_of_row};
+ghost use Rattle.posting_sheets.specs.SheetFaults.{faulty_at};
 
-use crate::fault::BadRow;
+use crate::fault::{BadRow, Column};
+use crate::field::filled;
 use crate::form::{Form, field};
 use crate::money::Money;
 use csv::ByteRecord;
@@ -83,16 +85,6 @@ fn branch_of(teller: Teller, text: &[u8]) -> Option<Branch>
     }
 }
 
-// The text, filled with spaces.
-fn filled(text: &[u8]) -> [u8; REFERENCE_BYTES]
-    requires { length text.now ≤ REFERENCE_BYTES }
-    ensures { result ≡ filled REFERENCE_BYTES text.now }
-{
-    let mut bytes = [b' '; REFERENCE_BYTES];
-    bytes[..text.len()].copy_from_slice(text);
-    bytes
-}
-
 /// The reference that a text is, filled with spaces, and `Some(None)` where it is empty; none where it is too long or
 /// has a byte that isn't printable.
 #[must_use]
@@ -108,19 +100,39 @@ pub fn reference_of(text: &[u8]) -> Option<Option<Reference>>
     Some(Some(Reference::new(&filled(text))?))
 }
 
+// What a field states, or which one is wrong.
+fn stated<T>(value: Option<T>, column: Column, field: &[u8]) -> Result<T, BadRow>
+    ensures { result ≡ ok_or value (faulty_at column field.now) }
+{
+    match value {
+        Some(value) => Ok(value),
+        None => Err(BadRow::at(column, field)),
+    }
+}
+
 // Field by field from the left, up to the first that is wrong.
 #[tactic(auto, unfolding(crate::specs::Sheets::request_of_fields))]
 fn request_of_fields(form: Form, fields: &ByteRecord) -> Result<Request, BadRow>
     ensures { result ≡ request_of_fields form (fields_of fields.now) }
 {
-    let account = number_within(field(fields, 0)).ok_or(BadRow::Account)?;
-    let teller = number_within(field(fields, 1)).ok_or(BadRow::Teller)?;
-    let number = number_within(field(fields, 2)).ok_or(BadRow::Number)?;
-    let delta = delta_of(form.money, field(fields, 3)).ok_or(BadRow::Delta)?;
-    let branch = branch_of(teller, field(fields, form.branch)).ok_or(BadRow::Branch)?;
-    let reference = reference_of(field(fields, form.reference)).ok_or(BadRow::Reference)?;
+    let text = field(fields, 0);
+    let account = stated(number_within(text), Column::Account, text)?;
+    let text = field(fields, 1);
+    let teller = stated(number_within(text), Column::Teller, text)?;
+    let text = field(fields, 2);
+    let number = stated(number_within(text), Column::Number, text)?;
+    let money = field(fields, 3);
+    let delta = stated(delta_of(form.money, money), Column::Delta, money)?;
+    let text = field(fields, form.branch);
+    let branch = stated(branch_of(teller, text), Column::Branch, text)?;
+    let text = field(fields, form.reference);
+    let reference = stated(reference_of(text), Column::Reference, text)?;
     // Ten digits are within the limit.
-    Request::new(account, teller, branch, number, delta, reference).ok_or(BadRow::Delta)
+    stated(
+        Request::new(account, teller, branch, number, delta, reference),
+        Column::Delta,
+        money,
+    )
 }
 
 /// The request that a row states.
@@ -128,7 +140,7 @@ pub(crate) fn request_of_row(form: Form, fields: &ByteRecord) -> Result<Request,
     ensures { result ≡ request_of_row form (fields_of fields.now) }
 {
     if fields.len() != form.columns {
-        return Err(BadRow::Columns);
+        return Err(BadRow::at(Column::Columns, b""));
     }
     request_of_fields(form, fields)
 }

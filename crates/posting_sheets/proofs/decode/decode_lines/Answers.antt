@@ -2,7 +2,7 @@ use Rattle.std.proofs.Common.{◌≡◌, ◌≤◌, ◌+◌, ◌∙◌, Option, 
 use Rattle.std.specs.Result.{is_err}
 use Rattle.std.proofs.lemmas.{List.length-take-le, Result.err_from_is_err_and}
 use Rattle.message_records.specs.declared.limits.TheConstants.{REPLY_BYTES}
-use Rattle.posting_core.specs.Told.{IsFlush}
+use Rattle.posting_core.specs.EndCalls.{IsFlush}
 use Rattle.posting_core.proofs.{Streaming.at_ok, Telling.last_some, Telling.made_many, Telling.made_none, Telling.made_one}
 use Rattle.posting_core.proofs.{Telling.more_last, Telling.other_kind, Telling.read_ended, Telling.read_failed}
 use Rattle.posting_sheets.specs.{Sheets.Sheet, Walking.AreAfter}
@@ -111,9 +111,9 @@ returns-in_err-write_line-clause-ends g c beside at =
     let told = err_from_is_err_and c.from_residual.result c.from_residual.ensures.1 in
     rw (told.1, told.2)
     (broken-ends c.args.money beside (g.W.Sink.contents c.reads.writer) (g.W.Sink.contents c.write_line.new.writer)
-    (g.W.Sink.told c.args.writer.now) (g.W.Sink.told c.reads.writer) (g.W.Sink.told c.write_line.new.writer)
+    (g.W.Sink.calls c.args.writer.now) (g.W.Sink.calls c.reads.writer) (g.W.Sink.calls c.write_line.new.writer)
     c.reads.count c.fill_buffer.new.buffer c.in_err-write_line.field-0.0 (g.R.Source.remaining c.fill_buffer.new.reader)
-    (g.R.Source.told c.args.reader.now) (g.R.Source.told c.fill_buffer.new.reader) (c.reads.invariant.flushed beside at)
+    (g.R.Source.calls c.args.reader.now) (g.R.Source.calls c.fill_buffer.new.reader) (c.reads.invariant.flushed beside at)
     (c.in_err-write_line.ensures.line beside (c.reads.invariant.after beside at)).0 (c.in_err-write_line.ensures.told beside (c.reads.invariant.after beside at)))
 
 -- too many reads

@@ -1,7 +1,7 @@
 use Rattle.std.proofs.Common.{◌≡◌, ◌<◌, ◌≤◌, Option, length, take}
 use Rattle.std.specs.Prelude.{IfSome}
 use Rattle.message_records.specs.declared.limits.TheConstants.{REPLY_BYTES}
-use Rattle.posting_core.specs.{believed.Told.EndsWith, Told.IsFlush}
+use Rattle.posting_core.specs.{believed.EndCalls.EndsWith, EndCalls.IsFlush}
 use Rattle.posting_core.proofs.Telling.{HasMade}
 use Rattle.posting_sheets.proofs.Decoded.{IsDecodedUpTo}
 use Rattle.posting_sheets.specs.{Sheets.Sheet, Walking.AreAfter}
@@ -20,7 +20,7 @@ invariant-reads g l = record {
   decoded : (beside : Option Sheet) → AreAfter g.S.RecordSource.has_left l.fn.rows beside 0
       → IsDecodedUpTo l.fn.money beside (g.R.Source.remaining l.fn.reader) (g.R.Source.remaining l.reader)
       (g.W.Sink.contents l.fn.writer) (g.W.Sink.contents l.writer) l.count (take l.filled l.buffer);
-  made : HasMade (g.R.Source.told l.fn.reader) (g.R.Source.told l.reader) l.counter;
+  made : HasMade (g.R.Source.calls l.fn.reader) (g.R.Source.calls l.reader) l.counter;
   flushed : (beside : Option Sheet) → AreAfter g.S.RecordSource.has_left l.fn.rows beside 0
-      → EndsWith IsFlush (g.W.Sink.told l.fn.writer) (g.W.Sink.told l.writer);
+      → EndsWith IsFlush (g.W.Sink.calls l.fn.writer) (g.W.Sink.calls l.writer);
 }
