@@ -8,7 +8,7 @@ use Rattle.sqlite.proofs.StateLemmas.{survives_then}
 use Rattle.sqlite_trees.specs.declared.store.Store.{Ghosts}
 use Rattle.posting_rules.specs.{believed.Counter.Seen, declared.fault.Fault.Fault}
 use Rattle.posting_rules.specs.declared.fault.Fault.TheVariants as bank
-use Rattle.posting_core.specs.believed.Told.{ReadTold}
+use Rattle.posting_core.specs.believed.EndCalls.{ReadCall}
 use Rattle.store_rows.specs.believed.Sparing.{SparesOthers}
 use Rattle.branch_loader.specs.declared.fault.PlanFault.{PlanFault}
 use Rattle.branch_loader.specs.declared.follow_fault.FollowFault.{FollowFault}
@@ -62,7 +62,7 @@ both_lines w said w' requests line (Ok count) (Ok done) tells =
 both_lines w said w' requests line (Ok count) (Err fault) tells = tt
 both_lines w said w' requests line (Err cause) result tells = rw tells.0 tt
 
-module _ (r r' : Option (List ℕ)) (q q' : Option (List ReadTold)) (w w' : Option (List ℕ)) where
+module _ (r r' : Option (List ℕ)) (q q' : Option (List ReadCall)) (w w' : Option (List ℕ)) where
   by_answer : (C : Type 0) (seen : C → Seen) (spares : C → C → Type 0) (reason : Fault → C → C → Type 0)
       (requests : ℕ) (old new : C) (result : Result (Unit {0}) CommandFault) (answer : Result Rows PlanFault)
       → FollowsAnswer seen spares reason answer requests r r' q q' w w' old new result
@@ -73,7 +73,7 @@ module _ (r r' : Option (List ℕ)) (q q' : Option (List ReadTold)) (w w' : Opti
   by_answer C seen spares reason requests old new result (Err fault) it = rw it.0 tt
 
   module _ (S P : Type 0) (g : Ghosts S) (IsNamed : P → Type 0)
-      (known : P → Option (List ℕ) × Option (List ReadTold)) (old new : Bank S g)
+      (known : P → Option (List ℕ) × Option (List ReadCall)) (old new : Bank S g)
       (result : Result (Unit {0}) CommandFault) where
     by_counted : (counted : Result ℕ Fault) (stood : Bank S g)
         → FollowsCounted g IsNamed known r r' q q' w w' counted stood new result

@@ -10,7 +10,7 @@ use Rattle.posting_rules.specs.declared.{fault.Fault.Fault, open_fault.OpenFault
 use Rattle.posting_rules.specs.believed.Counter.{Seen}
 use Rattle.posting_rules.specs.declared.fault.Fault.TheVariants as bank
 use Rattle.posting_rules.specs.declared.open_fault.OpenFault.TheVariants as opening
-use Rattle.posting_core.specs.{believed.Stream.Streamed, believed.Told.ReadTold}
+use Rattle.posting_core.specs.{believed.Stream.Streamed, believed.EndCalls.ReadCall}
 use Rattle.posting_core.specs.declared.stream.StreamFault.{StreamFault}
 use Rattle.counter_http.specs.declared.listen_fault.ListenFault.{ListenFault}
 use Rattle.posting_core.specs.declared.stream.StreamFault.TheVariants as stream
@@ -118,7 +118,7 @@ module _ (w w' : Option (List ℕ)) (told : Result Status CommandFault) where
   tells_plan seen reason old new (Err f) it = rw it.0.0 (inl it.0.1)
 
   pub prints_load : {C P : Type 0} (seen : C → Seen) (reason : Fault → C → C → Type 0) (IsNamed : P → Type 0)
-      (known : P → Option (List ℕ) × Option (List ReadTold)) (old new : C)
+      (known : P → Option (List ℕ) × Option (List ReadCall)) (old new : C)
       → LoadsOver seen reason IsNamed known w w' (λ end. told ≡ end) old new → PrintsLoad w w' told
   prints_load seen reason IsNamed known old new (inl idle) = rw idle.0.2 (inl idle.1)
   prints_load seen reason IsNamed known old new (inr it) = tells_plan seen reason old new it.3.answer it.3.does

@@ -1,8 +1,8 @@
 -- A sheet of postings that isn't known by its name.
 use Rattle.std.proofs.Common.{inl, inr}
 use Rattle.std.specs.Prelude.{◌⊎◌, ℕ, List, Option, None, Some, Result, Ok, Err}
-use Rattle.posting_core.specs.believed.Told.{EndsWith, ReadTold}
-use Rattle.posting_core.specs.Told.{HasReadFailed, WriteTold}
+use Rattle.posting_core.specs.believed.EndCalls.{EndsWith, ReadCall}
+use Rattle.posting_core.specs.EndCalls.{HasReadFailed, WriteCall}
 use Rattle.posting_sheets.specs.Beside.{BesideFaultIsOfItsEnd, DecodesBeside}
 use Rattle.posting_sheets.specs.declared.fault.RepliesFault.{RepliesFault}
 use Rattle.posting_sheets.specs.declared.fault.RepliesFault.TheVariants as replies
@@ -15,12 +15,12 @@ use Rattle.bank_commands.specs.Running.{TellsDecode}
 ends_some : {A : Type 0} {P : A → Type 0} {p p' : Option (List A)} → EndsWith P p p' → EndsWith P None None
 ends_some e = record { earlier = e.earlier; last = e.last; made = tt; is = e.is }
 
-failed_some : (p p' : Option (List ReadTold)) → HasReadFailed p p' → HasReadFailed None None
+failed_some : (p p' : Option (List ReadCall)) → HasReadFailed p p' → HasReadFailed None None
 failed_some p p' (inl e) = inl (ends_some e)
 failed_some p p' (inr worn) = inr (record { calls = worn.calls; made = tt; many = worn.many })
 
-ends_unnamed : (result : Result ℕ RepliesFault) (s' : Option (List ℕ)) (p p' : Option (List ReadTold))
-    (r' : Option (List ℕ)) (q q' : Option (List ReadTold)) (t t' : Option (List WriteTold))
+ends_unnamed : (result : Result ℕ RepliesFault) (s' : Option (List ℕ)) (p p' : Option (List ReadCall))
+    (r' : Option (List ℕ)) (q q' : Option (List ReadCall)) (t t' : Option (List WriteCall))
     → BesideFaultIsOfItsEnd result s' p p' r' q q' t t' → BesideFaultIsOfItsEnd result None None None r' q q' t t'
 ends_unnamed (Ok count) s' p p' r' q q' t t' e = (tt, ends_some e.1, e.2)
 ends_unnamed (Err (replies.Truncated n)) s' p p' r' q q' t t' e = (tt, ends_some e.1, e.2)
@@ -50,7 +50,7 @@ decodes_unnamed result d = record {
 }
 
 -- what is said of a sheet of a name is said of any
-unnamed : (P : Type 0) (money : Money) (IsNamed : P → Type 0) (known : P → Option (List ℕ) × Option (List ReadTold))
+unnamed : (P : Type 0) (money : Money) (IsNamed : P → Type 0) (known : P → Option (List ℕ) × Option (List ReadCall))
     (r r' w w' : Option (List ℕ)) (told : Result Status CommandFault)
     → DecodesOver money IsNamed known r r' None None w w' None None told
     → OpensNoSheet r r' w w' told ⊎ DecodesPostings money None None None None r r' None None w w' None None told
@@ -63,7 +63,7 @@ unnamed P money IsNamed known r r' w w' told (inr d) = inr (record {
 })
 
 pub tells_decode : (P : Type 0) (money : Money) (name : Option (List ℕ)) (IsNamed : List ℕ → P → Type 0)
-    (known : P → Option (List ℕ) × Option (List ReadTold)) (r r' w w' : Option (List ℕ))
+    (known : P → Option (List ℕ) × Option (List ReadCall)) (r r' w w' : Option (List ℕ))
     (told : Result Status CommandFault)
     → DecodesIn money name IsNamed known r r' None None w w' None None told → TellsDecode money name r r' w w' told
 tells_decode P money None IsNamed known r r' w w' told it = it

@@ -10,8 +10,8 @@ use Rattle.sqlite_trees.specs.declared.store.Store.{Ghosts}
 use Rattle.posting_rules.specs.declared.fault.Fault.{Fault}
 use Rattle.posting_rules.specs.declared.fault.Fault.TheVariants.{Memory}
 use Rattle.posting_core.specs.Stream.{Streams}
-use Rattle.posting_core.specs.believed.Told.{EndsWith, ReadTold}
-use Rattle.posting_core.specs.Told.{Beside, HasWriteFailed, IsFlush, WriteTold}
+use Rattle.posting_core.specs.believed.EndCalls.{EndsWith, ReadCall}
+use Rattle.posting_core.specs.EndCalls.{Beside, HasWriteFailed, IsFlush, WriteCall}
 use Rattle.posting_core.specs.declared.stream.StreamFault.{StreamFault}
 use Rattle.branch_loader.specs.declared.loader.Loaded.{Loaded}
 use Rattle.load_driver.specs.declared.drive.Driven.{Driven}
@@ -73,7 +73,7 @@ Migrates g conn back w w' told = RunsOver g (IsUnmovedOver g conn) back told (w'
 
 -- IsNamed says of a source that it is the plan's, and known what is known of one
 abbrev pub Loads : {S P : Type 0} (g : Ghosts S) → (conn back : Held S) → (IsNamed : P → Type 0)
-    → (known : P → Option (List ℕ) × Option (List ReadTold)) → (w w' : Option (List ℕ))
+    → (known : P → Option (List ℕ) × Option (List ReadCall)) → (w w' : Option (List ℕ))
     → Result Status CommandFault → Type 0
 Loads g conn back IsNamed known w w' told =
     FindsOver g conn back told (w' ≡ w)
@@ -86,8 +86,8 @@ ended_by (Ok count) = Ok Done
 ended_by (Err fault) = Err (fault_of_stream fault)
 
 abbrev pub Posts : {S : Type 0} (g : Ghosts S) → (conn back : Held S) → (r r' : Option (List ℕ))
-    → (q q' : Option (List ReadTold)) → (b b' : Option (List Beside)) → (w w' : Option (List ℕ))
-    → (t t' : Option (List WriteTold))
+    → (q q' : Option (List ReadCall)) → (b b' : Option (List Beside)) → (w w' : Option (List ℕ))
+    → (t t' : Option (List WriteCall))
     → (k k' : Option (List ℕ)) → Result Status CommandFault → Type 0
 Posts g conn back r r' q q' b b' w w' t t' k k' told =
     FindsOver g conn back told ((r' ≡ r) × (w' ≡ w) × (k' ≡ k))
@@ -138,7 +138,7 @@ stated_by account (Err (report.Bank cause)) = Err (fault_of_bank cause)
 
 -- what is asked for of an account of a bank was stated, and of its file, whatever rows that has
 pub record StatesBank {S : Type 0} (g : Ghosts S) (account : ℕ) (query : Query) (w w' : Option (List ℕ))
-    (t t' : Option (List WriteTold)) (stated : Result (Unit {0}) ReportFault) (old new : Bank S g)
+    (t t' : Option (List WriteCall)) (stated : Result (Unit {0}) ReportFault) (old new : Bank S g)
     : Type 0 where
   pub bank : StatesSelected (bank_seen g old) (bank_seen g new) account query w w' stated
   pub file : (bank_seen g new).honest → ((bank_seen g new).is_down → ⊥)
@@ -150,7 +150,7 @@ pub record StatesBank {S : Type 0} (g : Ghosts S) (account : ℕ) (query : Query
   pub leaves : CommitsAsFound g old new
 
 abbrev pub StatesOver : {S : Type 0} (g : Ghosts S) → (conn back : Held S) → ℕ → Query → (w w' : Option (List ℕ))
-    → (t t' : Option (List WriteTold)) → Result Status CommandFault → Type 0
+    → (t t' : Option (List WriteCall)) → Result Status CommandFault → Type 0
 StatesOver g conn back account query w w' t t' told =
     FindsOver g conn back told (w' ≡ w)
     (λ old new. (stated : Result (Unit {0}) ReportFault) × (told ≡ stated_by account stated)
@@ -165,7 +165,7 @@ EndsAllStated (Err (report.Bank cause)) told = told ≡ Err (fault_of_bank cause
 
 -- what is asked for of all accounts of a bank was stated, and of its file, whatever rows that has
 pub record StatesAllOfBank {S : Type 0} (g : Ghosts S) (query : Query) (w w' : Option (List ℕ))
-    (t t' : Option (List WriteTold)) (stated : Result (Unit {0}) ReportFault) (old new : Bank S g)
+    (t t' : Option (List WriteCall)) (stated : Result (Unit {0}) ReportFault) (old new : Bank S g)
     : Type 0 where
   pub bank : StatesAll (bank_seen g old) (bank_seen g new) query w w' stated
   pub file : (bank_seen g new).honest → StatesAllOfFile g old new query w w' stated
@@ -176,7 +176,7 @@ pub record StatesAllOfBank {S : Type 0} (g : Ghosts S) (query : Query) (w w' : O
   pub leaves : LeavesAsFound g old new
 
 abbrev pub StatesAllOver : {S : Type 0} (g : Ghosts S) → (conn back : Held S) → Query → (w w' : Option (List ℕ))
-    → (t t' : Option (List WriteTold)) → Result Status CommandFault → Type 0
+    → (t t' : Option (List WriteCall)) → Result Status CommandFault → Type 0
 StatesAllOver g conn back query w w' t t' told =
     FindsOver g conn back told (w' ≡ w)
     (λ old new. (stated : Result (Unit {0}) ReportFault) × EndsAllStated stated told
@@ -189,14 +189,14 @@ DoesAsked conn back w w' States (Ok query) told = States query
 DoesAsked conn back w w' States (Err fault) told = (told ≡ Err (faults.Query fault)) × (back ≡ conn) × (w' ≡ w)
 
 abbrev pub StatesAsked : {S : Type 0} (g : Ghosts S) → (conn back : Held S) → ℕ
-    → Result Query QueryFault → (w w' : Option (List ℕ)) → (t t' : Option (List WriteTold))
+    → Result Query QueryFault → (w w' : Option (List ℕ)) → (t t' : Option (List WriteCall))
     → Result Status CommandFault → Type 0
 StatesAsked g conn back account query w w' t t' told =
     DoesAsked conn back w w' (λ query. StatesOver g conn back account query w w' t t' told) query told
 
 -- the same of all accounts
 abbrev pub StatesAllAsked : {S : Type 0} (g : Ghosts S) → (conn back : Held S) → Result Query QueryFault
-    → (w w' : Option (List ℕ)) → (t t' : Option (List WriteTold)) → Result Status CommandFault → Type 0
+    → (w w' : Option (List ℕ)) → (t t' : Option (List WriteCall)) → Result Status CommandFault → Type 0
 StatesAllAsked g conn back query w w' t t' told =
     DoesAsked conn back w w' (λ query. StatesAllOver g conn back query w w' t t' told) query told
 

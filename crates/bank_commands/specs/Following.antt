@@ -11,8 +11,8 @@ use Rattle.posting_rules.specs.declared.fault.Fault.{Fault}
 use Rattle.posting_rules.specs.declared.fault.Fault.TheVariants.{Damaged}
 use Rattle.posting_rules.specs.declared.fault.Rule.{Rule}
 use Rattle.posting_core.specs.believed.LogEntries.{log_entries}
-use Rattle.posting_core.specs.Told.{WriteTold}
-use Rattle.posting_core.specs.believed.Told.{ReadTold}
+use Rattle.posting_core.specs.EndCalls.{WriteCall}
+use Rattle.posting_core.specs.believed.EndCalls.{ReadCall}
 use Rattle.walked_rows.specs.KeptRows.{HasKept, KeptItem}
 use Rattle.bank_store.specs.Leaving.{LeavesAsFound, TakesNone}
 use Rattle.bank_store.specs.believed.Down.{bank_reason}
@@ -46,7 +46,7 @@ ended_by_log after (Err (written.Bank cause)) = Err (fault_of_bank cause)
 
 -- they were written, whatever rows the file has
 pub record LogsBank {S : Type 0} (g : Ghosts S) (after : ℕ) (w w' : Option (List ℕ))
-    (t t' : Option (List WriteTold)) (ends : Result ℕ ReplayFault) (old new : Bank S g) : Type 0 where
+    (t t' : Option (List WriteCall)) (ends : Result ℕ ReplayFault) (old new : Bank S g) : Type 0 where
   pub rows : (bank_seen g new).honest → (all : List KeptItem) → HasKept (database_of g old) all
       → LogsRows after all w w' ends
   pub log : (bank_seen g new).honest → (log : List Command) → ShowsLog (bank_seen g old) log
@@ -58,7 +58,7 @@ pub record LogsBank {S : Type 0} (g : Ghosts S) (after : ℕ) (w w' : Option (Li
   pub leaves : LeavesAsFound g old new
 
 abbrev pub LogsOver : {S : Type 0} (g : Ghosts S) → (conn back : Held S) → ℕ → (w w' : Option (List ℕ))
-    → (t t' : Option (List WriteTold)) → Result Status CommandFault → Type 0
+    → (t t' : Option (List WriteCall)) → Result Status CommandFault → Type 0
 LogsOver g conn back after w w' t t' told =
     FindsOver g conn back told (w' ≡ w)
     (λ old new. (ends : Result ℕ ReplayFault) × (told ≡ ended_by_log after ends)
@@ -79,8 +79,8 @@ pub record CountsBank {S : Type 0} (g : Ghosts S) (counted : Result ℕ Fault) (
 
 -- and then the log was followed; or they couldn't be counted, and nothing was done
 abbrev pub FollowsCounted : {S P : Type 0} (g : Ghosts S) → (IsNamed : P → Type 0)
-    → (known : P → Option (List ℕ) × Option (List ReadTold)) → (r r' : Option (List ℕ))
-    → (q q' : Option (List ReadTold)) → (w w' : Option (List ℕ)) → Result ℕ Fault → (old new : Bank S g)
+    → (known : P → Option (List ℕ) × Option (List ReadCall)) → (r r' : Option (List ℕ))
+    → (q q' : Option (List ReadCall)) → (w w' : Option (List ℕ)) → Result ℕ Fault → (old new : Bank S g)
     → Result (Unit {0}) CommandFault → Type 0
 FollowsCounted g IsNamed known r r' q q' w w' (Ok requests) old new result =
     FollowsOver (bank_seen g) (SparesOtherTables g) (bank_reason g) IsNamed known requests r r' q q' w w' old new result
@@ -88,8 +88,8 @@ FollowsCounted g IsNamed known r r' q q' w w' (Err cause) old new result =
     (result ≡ Err (fault_of_bank cause)) × Keeps w w' × (r' ≡ r) × (new ≡ old)
 
 pub record FollowsFound {S P : Type 0} (g : Ghosts S) (IsNamed : P → Type 0)
-    (known : P → Option (List ℕ) × Option (List ReadTold)) (r r' : Option (List ℕ))
-    (q q' : Option (List ReadTold)) (w w' : Option (List ℕ)) (old new : Bank S g)
+    (known : P → Option (List ℕ) × Option (List ReadCall)) (r r' : Option (List ℕ))
+    (q q' : Option (List ReadCall)) (w w' : Option (List ℕ)) (old new : Bank S g)
     (result : Result (Unit {0}) CommandFault) : Type 0 where
   pub counted : Result ℕ Fault
   pub stood : Bank S g
@@ -98,8 +98,8 @@ pub record FollowsFound {S P : Type 0} (g : Ghosts S) (IsNamed : P → Type 0)
 
 -- IsNamed says of a source that it is the plan's, and known what is known of one
 abbrev pub Follows : {S P : Type 0} (g : Ghosts S) → (conn back : Held S) → (IsNamed : P → Type 0)
-    → (known : P → Option (List ℕ) × Option (List ReadTold)) → (r r' : Option (List ℕ))
-    → (q q' : Option (List ReadTold)) → (w w' : Option (List ℕ)) → Result Status CommandFault → Type 0
+    → (known : P → Option (List ℕ) × Option (List ReadCall)) → (r r' : Option (List ℕ))
+    → (q q' : Option (List ReadCall)) → (w w' : Option (List ℕ)) → Result Status CommandFault → Type 0
 Follows g conn back IsNamed known r r' q q' w w' told =
     FindsOver g conn back told ((r' ≡ r) × (w' ≡ w))
     (λ old new. (result : Result (Unit {0}) CommandFault) × (told ≡ done_after result)

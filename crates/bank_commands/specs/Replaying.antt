@@ -9,7 +9,7 @@ use Rattle.posting_rules.specs.believed.Commands.{Command}
 use Rattle.posting_rules.specs.believed.Counter.{ShowsLog}
 use Rattle.posting_rules.specs.declared.fault.{Fault.Fault, Rule.Rule}
 use Rattle.posting_rules.specs.declared.fault.Fault.TheVariants.{Damaged, Memory}
-use Rattle.posting_core.specs.Told.{WriteTold}
+use Rattle.posting_core.specs.EndCalls.{WriteCall}
 use Rattle.sql_meanings.specs.believed.Entries.{Entry}
 use Rattle.store_rows.specs.believed.BankTables.{branch as branch_table, floor as floor_table}
 use Rattle.walked_rows.specs.KeptRows.{HasKept, KeptItem}
@@ -46,7 +46,7 @@ ended_with status (Ok done) = Ok status
 ended_with status (Err fault) = Err fault
 
 -- the lines were printed, and the program ends with this status; or they couldn't be, and it ends with why
-abbrev pub TellsText : Status → List ℕ → (w w' : Option (List ℕ)) → (t t' : Option (List WriteTold))
+abbrev pub TellsText : Status → List ℕ → (w w' : Option (List ℕ)) → (t t' : Option (List WriteCall))
     → Result Status CommandFault → Type 0
 TellsText status text w w' t t' told =
     (printed : Result (Unit {0}) CommandFault) × PrintsText text w w' t t' printed × (told ≡ ended_with status printed)
@@ -58,7 +58,7 @@ TellsFault fault w w' told = (told ≡ Err fault) × Keeps w w'
 -- ---- a replay
 
 -- the digests and the verdict were printed; or the line of the difference or of the table, and the verdict
-abbrev pub PrintsReplay : Result Replay Fault → (w w' : Option (List ℕ)) → (t t' : Option (List WriteTold))
+abbrev pub PrintsReplay : Result Replay Fault → (w w' : Option (List ℕ)) → (t t' : Option (List WriteCall))
     → Result Status CommandFault → Type 0
 PrintsReplay (Ok (Agrees a)) w w' t t' told =
     TellsText statuses.Done (agreeing_lines a.digest.requests a.digest.sha256 a.plan) w w' t t' told
@@ -83,7 +83,7 @@ pub record ReplaysBank {S : Type 0} (g : Ghosts S) (found : Result Replay Fault)
   pub leaves : LeavesAsFound g old new
 
 abbrev pub ReplaysOver : {S : Type 0} (g : Ghosts S) → (conn back : Held S) → (w w' : Option (List ℕ))
-    → (t t' : Option (List WriteTold)) → Result Status CommandFault → Type 0
+    → (t t' : Option (List WriteCall)) → Result Status CommandFault → Type 0
 ReplaysOver g conn back w w' t t' told =
     FindsOver g conn back told (w' ≡ w)
     (λ old new. (found : Result Replay Fault) × PrintsReplay found w w' t t' told × ReplaysBank g found old new)
@@ -91,7 +91,7 @@ ReplaysOver g conn back w w' t t' told =
 -- ---- the digest of the first so many requests
 
 abbrev pub PrintsDigest : ℕ → Result (Option Digest) Fault → (w w' : Option (List ℕ))
-    → (t t' : Option (List WriteTold)) → Result Status CommandFault → Type 0
+    → (t t' : Option (List WriteCall)) → Result Status CommandFault → Type 0
 PrintsDigest requests (Ok (Some d)) w w' t t' told =
     TellsText statuses.Done (digest_lines d.requests d.sha256) w w' t t' told
 PrintsDigest requests (Ok None) w w' t t' told = TellsFault (faults.NoRequest requests) w w' told
@@ -110,7 +110,7 @@ pub record DigestsBank {S : Type 0} (g : Ghosts S) (requests : ℕ) (found : Res
   pub leaves : LeavesAsFound g old new
 
 abbrev pub DigestsOver : {S : Type 0} (g : Ghosts S) → (conn back : Held S) → ℕ → (w w' : Option (List ℕ))
-    → (t t' : Option (List WriteTold)) → Result Status CommandFault → Type 0
+    → (t t' : Option (List WriteCall)) → Result Status CommandFault → Type 0
 DigestsOver g conn back requests w w' t t' told =
     FindsOver g conn back told (w' ≡ w)
     (λ old new. (found : Result (Option Digest) Fault) × PrintsDigest requests found w w' t t' told
@@ -126,7 +126,7 @@ ended_by_writing (Err (written.Bank cause)) = Err (fault_of_bank cause)
 
 -- the requests after the first so many were written as records, whatever rows the file has
 pub record ExportsBank {S : Type 0} (g : Ghosts S) (after : ℕ) (w w' : Option (List ℕ))
-    (t t' : Option (List WriteTold)) (ends : Result (Unit {0}) ReplayFault) (old new : Bank S g) : Type 0 where
+    (t t' : Option (List WriteCall)) (ends : Result (Unit {0}) ReplayFault) (old new : Bank S g) : Type 0 where
   pub rows : (bank_seen g new).honest → (all : List KeptItem) → HasKept (database_of g old) all
       → ExportsRows after all w w' ends
   pub log : (bank_seen g new).honest → (log : List Command) → ShowsLog (bank_seen g old) log
@@ -138,14 +138,14 @@ pub record ExportsBank {S : Type 0} (g : Ghosts S) (after : ℕ) (w w' : Option 
   pub leaves : LeavesAsFound g old new
 
 abbrev pub ExportsOver : {S : Type 0} (g : Ghosts S) → (conn back : Held S) → ℕ → (w w' : Option (List ℕ))
-    → (t t' : Option (List WriteTold)) → Result Status CommandFault → Type 0
+    → (t t' : Option (List WriteCall)) → Result Status CommandFault → Type 0
 ExportsOver g conn back after w w' t t' told =
     FindsOver g conn back told (w' ≡ w)
     (λ old new. (ends : Result (Unit {0}) ReplayFault) × (told ≡ ended_by_writing ends)
     × ExportsBank g after w w' t t' ends old new)
 
 -- the branches were written as a plan, whatever rows the file has
-pub record PlansBank {S : Type 0} (g : Ghosts S) (w w' : Option (List ℕ)) (t t' : Option (List WriteTold))
+pub record PlansBank {S : Type 0} (g : Ghosts S) (w w' : Option (List ℕ)) (t t' : Option (List WriteCall))
     (ends : Result (Unit {0}) ReplayFault) (old new : Bank S g) : Type 0 where
   pub rows : (bank_seen g new).honest → (floors branches : List Entry)
       → HasStoredRows (database_of g old) floor_table floors
@@ -159,7 +159,7 @@ pub record PlansBank {S : Type 0} (g : Ghosts S) (w w' : Option (List ℕ)) (t t
   pub leaves : LeavesAsFound g old new
 
 abbrev pub PlansOver : {S : Type 0} (g : Ghosts S) → (conn back : Held S) → (w w' : Option (List ℕ))
-    → (t t' : Option (List WriteTold)) → Result Status CommandFault → Type 0
+    → (t t' : Option (List WriteCall)) → Result Status CommandFault → Type 0
 PlansOver g conn back w w' t t' told =
     FindsOver g conn back told (w' ≡ w)
     (λ old new. (ends : Result (Unit {0}) ReplayFault) × (told ≡ ended_by_writing ends)

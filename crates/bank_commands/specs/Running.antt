@@ -9,7 +9,7 @@ use Rattle.clap.specs.declared.error.kind.ErrorKind.{ErrorKind}
 use Rattle.sqlite.specs.Held.{Held}
 use Rattle.sqlite_trees.specs.declared.store.Store.{Ghosts}
 use Rattle.posting_rules.specs.declared.fault.Fault.{Fault}
-use Rattle.posting_core.specs.believed.Told.{ReadTold}
+use Rattle.posting_core.specs.believed.EndCalls.{ReadCall}
 use Rattle.posting_sheets.specs.declared.money.Money.{Money}
 use Rattle.report_contents.specs.Written.{AppendsPart}
 use Rattle.report_contents.specs.declared.audit.Audit.{Audit}
@@ -52,7 +52,7 @@ ALL_THAT_COME = 18_446_744_073_709_551_615
 
 -- IsNamed says of a source that it is that of the plan of a name, and known what is known of one
 abbrev pub DoesOver : {S P : Type 0} (g : Ghosts S) → (conn back : Held S) → (IsNamed : List ℕ → P → Type 0)
-    → (known : P → Option (List ℕ) × Option (List ReadTold)) → (r r' w w' k k' : Option (List ℕ))
+    → (known : P → Option (List ℕ) × Option (List ReadCall)) → (r r' w w' k k' : Option (List ℕ))
     → Command → Result Status CommandFault → Type 0
 DoesOver g conn back IsNamed known r r' w w' k k' (commands.Init file) told = Inits g conn back w w' told
 DoesOver g conn back IsNamed known r r' w w' k k' (commands.Load file plan) told =

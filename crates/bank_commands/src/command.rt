@@ -45,7 +45,7 @@ pub fn command_over<
     requires mode { conn.in_transaction ≡ false }
     requires range { AreInRange command.now }
     ensures does { DoesOver S.Store conn result.conn (P.is_named plans.now)
-        (known_source P.Plan.remaining P.Plan.told) (R.remaining input.old) (R.remaining input.new)
+        (known_source P.Plan.remaining P.Plan.calls) (R.remaining input.old) (R.remaining input.new)
         (W.contents output.old) (W.contents output.new) (K.readings clock.old) (K.readings clock.new)
         command.now result.told }
     ensures tells { Tells command.now (R.remaining input.old) (R.remaining input.new)

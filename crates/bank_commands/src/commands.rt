@@ -1,6 +1,6 @@
 //! The commands that make a bank over a connection, and that open branches of it and post to it.
 ghost use Rattle.std.specs.Prelude.{◌≡◌, ◌≤◌, Result, IsErrOf, false};
-ghost use Rattle.posting_core.specs.Told.{HasWriteFailed};
+ghost use Rattle.posting_core.specs.EndCalls.{HasWriteFailed};
 ghost use Rattle.load_driver.specs.declared.drive.TheConstants.{MAX_DRIVEN};
 ghost use Rattle.command_line.specs.Working.{done_after, ended_by_load, known_source};
 ghost use Rattle.bank_commands.specs.Commands.{DrivesBank, EndsPost, Inits, Loads, Posts, PrintsDrive};
@@ -25,7 +25,7 @@ pub fn init_over<S: Alter + Drop, W: Sink>(
     requires { conn.in_transaction ≡ false }
     ensures inits { Inits S.Store conn result.conn (W.contents output.old) (W.contents output.new) result.told }
     ensures unprinted { IsErrOf result.told CommandFault.Write
-        → HasWriteFailed (W.told output.old) (W.told output.new) }
+        → HasWriteFailed (W.calls output.old) (W.calls output.new) }
     ensures idle { result.conn.in_transaction ≡ false }
 {
     let bank = match create(alloc, conn) {
@@ -49,10 +49,10 @@ pub fn load_over<S: Alter + Drop, P: Plans, W: Sink>(
 ) -> Ended<S>
     requires { conn.in_transaction ≡ false }
     ensures loads { Loads S.Store conn result.conn (P.is_named plans.now plan.now)
-        (known_source P.Plan.remaining P.Plan.told) (W.contents output.old) (W.contents output.new) result.told }
+        (known_source P.Plan.remaining P.Plan.calls) (W.contents output.old) (W.contents output.new) result.told }
     ensures prints { PrintsLoad (W.contents output.old) (W.contents output.new) result.told }
     ensures unprinted { IsErrOf result.told CommandFault.Write
-        → HasWriteFailed (W.told output.old) (W.told output.new) }
+        → HasWriteFailed (W.calls output.old) (W.calls output.new) }
     ensures idle { result.conn.in_transaction ≡ false }
 {
     let mut bank = match find(alloc, conn) {
@@ -76,9 +76,9 @@ pub fn post_over<S: Alter + Drop, R: Source, W: Sink, K: Clock>(
 ) -> Ended<S>
     requires { conn.in_transaction ≡ false }
     ensures posts { Posts S.Store conn result.conn (R.remaining input.old) (R.remaining input.new)
-        (R.told input.old) (R.told input.new) (R.beside input.old) (R.beside input.new)
+        (R.calls input.old) (R.calls input.new) (R.beside input.old) (R.beside input.new)
         (W.contents output.old) (W.contents output.new)
-        (W.told output.old) (W.told output.new) (K.readings clock.old) (K.readings clock.new) result.told }
+        (W.calls output.old) (W.calls output.new) (K.readings clock.old) (K.readings clock.new) result.told }
     ensures ends { EndsPost (R.remaining input.old) (R.remaining input.new) (W.contents output.old)
         (W.contents output.new) result.told }
     ensures idle { result.conn.in_transaction ≡ false }
@@ -111,7 +111,7 @@ pub fn drive_over<S: Alter + Drop, W: Sink, K: Clock>(
         (K.readings clock.old) (K.readings clock.new) seed count result.told }
     ensures prints { PrintsDrive (W.contents output.old) (W.contents output.new) count result.told }
     ensures unprinted { IsErrOf result.told CommandFault.Write
-        → HasWriteFailed (W.told output.old) (W.told output.new) }
+        → HasWriteFailed (W.calls output.old) (W.calls output.new) }
     ensures idle { result.conn.in_transaction ≡ false }
 {
     let mut bank = match find(alloc, conn) {

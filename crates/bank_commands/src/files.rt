@@ -8,6 +8,7 @@ ghost use Rattle.bank_commands.specs.Running.{LeavesClock, LeavesInput, PrintsNo
 
 use crate::command::command_over;
 use crate::ended::Ended;
+use crate::notes::Notes;
 use crate::opened::tell_opened;
 use crate::progress::Progress;
 use crate::reasons::look_into;
@@ -27,14 +28,13 @@ use std::time::Instant;
 pub struct Machine<'r, S> {
     rt: &'r HostRuntime,
     start: S,
-    is_full: &'r Cell<bool>,
+    notes: &'r Notes,
 }
 
 impl<'r, S: Start> Machine<'r, S> {
-    /// The machine of a program, of whose files `start` says what is known. `is_full` is set where a write of the run
-    /// finds no room.
-    pub fn new(rt: &'r HostRuntime, start: S, is_full: &'r Cell<bool>) -> Machine<'r, S> {
-        Machine { rt, start, is_full }
+    /// The machine of a program, of whose files `start` says what is known, and the notes of its run.
+    pub fn new(rt: &'r HostRuntime, start: S, notes: &'r Notes) -> Machine<'r, S> {
+        Machine { rt, start, notes }
     }
 
     /// Its memory.
@@ -80,12 +80,13 @@ pub(crate) fn command_in<S: Start, R: Read, W: Write, K: Clock>(
     ensures input { LeavesInput command.now (R.remaining input.old) (R.remaining input.new) }
     ensures clock { LeavesClock command.now (K.readings clock.old) (K.readings clock.new) }
 {
-    let Machine { rt, start, is_full } = machine;
+    let Machine { rt, start, notes } = machine;
     let (file, finds_bank) = match *command {
-        Command::Encode => return translate_sheet(rt.alloc(), input, output),
+        Command::Encode => return notes.of_sheet(translate_sheet(rt.alloc(), input, output)),
         Command::Decode { money, sheet } => {
             let files = PlanFiles::new(rt);
-            return translate_replies(rt.alloc(), money, &files, sheet, input, output);
+            let end = translate_replies(rt.alloc(), money, &files, sheet, input, output);
+            return notes.of_sheet(end);
         }
         Command::Why { file } => return why_in(rt, file, output),
         Command::Init { file } => (file, false),
@@ -109,7 +110,7 @@ pub(crate) fn command_in<S: Start, R: Read, W: Write, K: Clock>(
     }
     spare_others(rt, file)?;
     let begun = Instant::now(rt).ok();
-    let Some(mut conn) = opened(rt, file, start, is_full) else {
+    let Some(mut conn) = opened(rt, file, start, &notes.is_full) else {
         return Err(CommandFault::Store);
     };
     tell_opened(rt, command, file, &mut conn, begun);
@@ -125,7 +126,7 @@ pub(crate) fn command_in<S: Start, R: Read, W: Write, K: Clock>(
         output,
         clock,
     );
-    close(conn, is_full);
+    close(conn, &notes.is_full);
     told
 }
 

@@ -1,6 +1,6 @@
 //! The commands that write the log of a bank, and that take a bank along the log of another one.
 ghost use Rattle.std.specs.Prelude.{◌≡◌, IsErrOf, false};
-ghost use Rattle.posting_core.specs.Told.{HasWriteFailed};
+ghost use Rattle.posting_core.specs.EndCalls.{HasWriteFailed};
 ghost use Rattle.bank_store.specs.OpenBankSparing.{SparesWhileOpen};
 ghost use Rattle.bank_store.specs.believed.Seen.{connection_of};
 ghost use Rattle.command_line.specs.Working.{known_source};
@@ -26,7 +26,7 @@ pub fn log_over<S: Alter + Drop, W: Sink>(
 ) -> Ended<S>
     requires { conn.in_transaction ≡ false }
     ensures logs { LogsOver S.Store conn result.conn after (W.contents output.old) (W.contents output.new)
-        (W.told output.old) (W.told output.new) result.told }
+        (W.calls output.old) (W.calls output.new) result.told }
     ensures idle { result.conn.in_transaction ≡ false }
 {
     let mut bank = match find(alloc, conn) {
@@ -53,11 +53,11 @@ pub fn follow_over<S: Alter + Drop, P: Plans, R: Source, W: Sink, V: Watch + Fol
 ) -> Ended<S>
     requires { conn.in_transaction ≡ false }
     ensures follows { Follows S.Store conn result.conn (P.is_named plans.now plan.now)
-        (known_source P.Plan.remaining P.Plan.told) (R.remaining input.old) (R.remaining input.new)
-        (R.told input.old) (R.told input.new) (W.contents output.old) (W.contents output.new) result.told }
+        (known_source P.Plan.remaining P.Plan.calls) (R.remaining input.old) (R.remaining input.new)
+        (R.calls input.old) (R.calls input.new) (W.contents output.old) (W.contents output.new) result.told }
     ensures prints { PrintsFollow (W.contents output.old) (W.contents output.new) result.told }
     ensures unprinted { IsErrOf result.told CommandFault.Write
-        → HasWriteFailed (W.told output.old) (W.told output.new) }
+        → HasWriteFailed (W.calls output.old) (W.calls output.new) }
     ensures idle { result.conn.in_transaction ≡ false }
 {
     let mut bank = match find(alloc, conn) {
@@ -83,11 +83,11 @@ fn follow_found<S: Alter + Drop, P: Plans, R: Source, W: Sink, V: FollowWatch>(
     watch: &mut V,
 ) -> Result<(), CommandFault>
     ensures follows { FollowsFound S.Store (P.is_named plans.now plan.now)
-        (known_source P.Plan.remaining P.Plan.told) (R.remaining input.old) (R.remaining input.new)
-        (R.told input.old) (R.told input.new) (W.contents output.old) (W.contents output.new)
+        (known_source P.Plan.remaining P.Plan.calls) (R.remaining input.old) (R.remaining input.new)
+        (R.calls input.old) (R.calls input.new) (W.contents output.old) (W.contents output.new)
         bank.old bank.new result }
     ensures unprinted { IsErrOf result CommandFault.Write
-        → HasWriteFailed (W.told output.old) (W.told output.new) }
+        → HasWriteFailed (W.calls output.old) (W.calls output.new) }
     ensures spares { SparesWhileOpen S.Store (connection_of bank.old) (connection_of bank.new) }
 {
     let requests = count_requests(bank)?;

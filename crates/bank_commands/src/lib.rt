@@ -47,7 +47,7 @@
 //! command in the words of the command line, looks for the command's file, opens it, does the command and closes it.
 //! `src/files`, to be reviewed by hand, has the looking, the opening and the closing; no clause reaches them. It alone
 //! reaches the [`Machine`]: all else is handed plans, a network and a watch, and can open no file. [`tell_reason`] says
-//! after a run why a file can't be used.
+//! after a run why a file can't be used, or what stands in a row that was refused.
 //!
 //! `Unknown` is all that a program knows of what its files hold, and supposes that a torn write leaves each byte old or
 //! new; `Wary` of `sqlite` in its place doesn't suppose it, and syncs twice a commit.
@@ -63,6 +63,7 @@ mod ended;
 mod files;
 mod following;
 mod migration;
+mod notes;
 mod opened;
 mod progress;
 mod reasons;
@@ -77,6 +78,7 @@ pub use ended::Ended;
 pub use files::{Machine, PlanFiles};
 pub use following::{follow_over, log_over};
 pub use migration::migrate_over;
+pub use notes::Notes;
 pub use reasons::tell_reason;
 pub use replaying::{digest_over, export_over, plan_over, replay_over};
 pub use reports::{audit_over, statement_over, statements_over, why_over};

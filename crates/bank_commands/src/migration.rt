@@ -1,6 +1,6 @@
 //! The command that carries a bank of an older version over to this one.
 ghost use Rattle.std.specs.Prelude.{◌≡◌, IsErrOf, OnErr, false};
-ghost use Rattle.posting_core.specs.Told.{HasWriteFailed};
+ghost use Rattle.posting_core.specs.EndCalls.{HasWriteFailed};
 ghost use Rattle.command_line.specs.Lines.{PrintsLine};
 ghost use Rattle.bank_commands.specs.Commands.{Migrates, migration_line};
 
@@ -25,7 +25,7 @@ pub fn migrate_over<S: Alter + Drop, W: Sink>(
     ensures migrates { Migrates S.Store conn result.conn (W.contents output.old) (W.contents output.new)
         result.told }
     ensures unprinted { IsErrOf result.told CommandFault.Write
-        → HasWriteFailed (W.told output.old) (W.told output.new) }
+        → HasWriteFailed (W.calls output.old) (W.calls output.new) }
     ensures idle { result.conn.in_transaction ≡ false }
 {
     let (bank, migrated) = match migrate(alloc, conn) {
@@ -42,9 +42,9 @@ pub fn migrate_over<S: Alter + Drop, W: Sink>(
 // Prints which version the bank had.
 fn print_answer<W: Sink>(migrated: Migrated, output: &mut W) -> Result<(), CommandFault>
     ensures prints { PrintsLine (migration_line migrated) (W.contents output.old) (W.contents output.new)
-        (W.told output.old) (W.told output.new) result }
+        (W.calls output.old) (W.calls output.new) result }
     ensures fault { OnErr result (IsErrOf result CommandFault.Write) }
-    ensures failed { OnErr result (HasWriteFailed (W.told output.old) (W.told output.new)) }
+    ensures failed { OnErr result (HasWriteFailed (W.calls output.old) (W.calls output.new)) }
 {
     match migrated {
         Migrated::Moved(from) => print_migrated(from, VERSION, output),

@@ -4,8 +4,10 @@
 ghost use Rattle.std.specs.Prelude.{◌≡◌, false, IfOk, IsTrue};
 ghost use Rattle.sqlite_disk.specs.Memory.{memory_is_usable};
 
+use crate::notes::{Notes, found_in};
 use bank_files::open_over;
 use command_line::{Command, Status, read_words};
+use posting_sheets::BadRow;
 use sqlite::{Connection, Error, FileStore, Files, Unknown};
 use sqlite_disk::{Disk, Memory};
 use sqlite_std_file::OpenError;
@@ -70,13 +72,28 @@ impl fmt::Display for Reason {
     }
 }
 
-/// Where a run ended as it does at a store fault, says in a line on standard error what is wrong with the command's
-/// file, if anybody asks: by `why`, at a terminal, or by `BANK_WHY` in the environment. `is_full` says whether a write
-/// of the run found no room.
-pub fn tell_reason(rt: &HostRuntime, status: Status, words: &[String], is_full: bool) {
-    if status != Status::System {
+/// After a run that its line doesn't explain, says more in a second line on standard error, if anybody asks, at a terminal
+/// or by `BANK_WHY` in the environment: where a row of a sheet was refused, what stands there, and where it ended as at a
+/// store fault, what is wrong with the command's file. `why` says the latter in any case.
+pub fn tell_reason(rt: &HostRuntime, status: Status, words: &[String], notes: &Notes) {
+    if let Some(bad) = notes.refused.get() {
+        tell_row(rt, &bad);
+    }
+    if status == Status::System {
+        tell_file(rt, words, notes.is_full.get());
+    }
+}
+
+fn tell_row(rt: &HostRuntime, bad: &BadRow) {
+    if !is_asked(rt) {
         return;
     }
+    if let Some(found) = found_in(bad) {
+        let _ = writeln!(rt.stderr(), "bank: found {found}");
+    }
+}
+
+fn tell_file(rt: &HostRuntime, words: &[String], is_full: bool) {
     let Ok(command) = read_words(rt.alloc(), words) else {
         return;
     };
@@ -88,9 +105,21 @@ pub fn tell_reason(rt: &HostRuntime, status: Status, words: &[String], is_full: 
     }
     let mut faults = rt.stderr();
     let _ = match reason_of(rt, file, is_full) {
-        None => writeln!(faults, "bank: {file}: it can be opened now"),
+        None if has_log(rt, file) => writeln!(faults, "bank: {file}: it can be opened now"),
+        None => writeln!(
+            faults,
+            "bank: {file}: it can be opened now, if its folder may be written"
+        ),
         Some(reason) => writeln!(faults, "bank: {file}: {reason}"),
     };
+}
+
+// Whether its log is there already, which else an open makes beside it.
+fn has_log(rt: &HostRuntime, file: &str) -> bool {
+    match format!(in rt.alloc(); "{file}-wal") {
+        Ok(log) => fs::metadata(rt, log.as_str()).is_ok(),
+        Err(_) => false,
+    }
 }
 
 /// Whether more than a fault's line is wanted on standard error.

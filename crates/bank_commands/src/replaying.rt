@@ -23,7 +23,7 @@ pub fn replay_over<S: Alter + Drop, W: Sink, P: Watch + Drop>(
 ) -> Ended<S>
     requires { conn.in_transaction ≡ false }
     ensures replays { ReplaysOver S.Store conn result.conn (W.contents output.old) (W.contents output.new)
-        (W.told output.old) (W.told output.new) result.told }
+        (W.calls output.old) (W.calls output.new) result.told }
     ensures idle { result.conn.in_transaction ≡ false }
 {
     let mut bank = match find(alloc, conn) {
@@ -46,7 +46,7 @@ pub fn digest_over<S: Alter + Drop, W: Sink>(
 ) -> Ended<S>
     requires { conn.in_transaction ≡ false }
     ensures digests { DigestsOver S.Store conn result.conn requests (W.contents output.old) (W.contents output.new)
-        (W.told output.old) (W.told output.new) result.told }
+        (W.calls output.old) (W.calls output.new) result.told }
     ensures idle { result.conn.in_transaction ≡ false }
 {
     let mut bank = match find(alloc, conn) {
@@ -69,7 +69,7 @@ pub fn export_over<S: Alter + Drop, W: Sink>(
 ) -> Ended<S>
     requires { conn.in_transaction ≡ false }
     ensures exports { ExportsOver S.Store conn result.conn after (W.contents output.old) (W.contents output.new)
-        (W.told output.old) (W.told output.new) result.told }
+        (W.calls output.old) (W.calls output.new) result.told }
     ensures idle { result.conn.in_transaction ≡ false }
 {
     let mut bank = match find(alloc, conn) {
@@ -91,7 +91,7 @@ pub fn plan_over<S: Alter + Drop, W: Sink>(
 ) -> Ended<S>
     requires { conn.in_transaction ≡ false }
     ensures plans { PlansOver S.Store conn result.conn (W.contents output.old) (W.contents output.new)
-        (W.told output.old) (W.told output.new) result.told }
+        (W.calls output.old) (W.calls output.new) result.told }
     ensures idle { result.conn.in_transaction ≡ false }
 {
     let mut bank = match find(alloc, conn) {
@@ -112,7 +112,7 @@ fn print_replay<W: Sink>(
     output: &mut W,
 ) -> Result<Status, CommandFault>
     ensures { PrintsReplay told (W.contents output.old) (W.contents output.new)
-        (W.told output.old) (W.told output.new) result }
+        (W.calls output.old) (W.calls output.new) result }
 {
     let found = match told {
         Ok(found) => found,
@@ -150,7 +150,7 @@ fn print_first<W: Sink>(
     output: &mut W,
 ) -> Result<Status, CommandFault>
     ensures { PrintsDigest requests told (W.contents output.old) (W.contents output.new)
-        (W.told output.old) (W.told output.new) result }
+        (W.calls output.old) (W.calls output.new) result }
 {
     let found = match told {
         Ok(found) => found,

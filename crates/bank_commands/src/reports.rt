@@ -1,6 +1,6 @@
 //! The commands that audit a bank, that write the statement of an account or of all, and that say that a bank can be used.
 ghost use Rattle.std.specs.Prelude.{◌≡◌, ◌≢◌, Err, IsErrOf, false};
-ghost use Rattle.posting_core.specs.Told.{HasWriteFailed};
+ghost use Rattle.posting_core.specs.EndCalls.{HasWriteFailed};
 ghost use Rattle.bank_commands.specs.Commands.{AuditsOver, EndsAllStated, LooksOver, StatesAllAsked, StatesAllOver};
 ghost use Rattle.bank_commands.specs.Commands.{StatesAsked, StatesOver, stated_by};
 
@@ -24,7 +24,7 @@ pub fn audit_over<S: Alter + Drop, W: Sink>(
     ensures audits { AuditsOver S.Store conn result.conn (W.contents output.old) (W.contents output.new)
         result.told }
     ensures unprinted { IsErrOf result.told CommandFault.Write
-        → HasWriteFailed (W.told output.old) (W.told output.new) }
+        → HasWriteFailed (W.calls output.old) (W.calls output.new) }
     ensures idle { result.conn.in_transaction ≡ false }
 {
     let mut bank = match find(alloc, conn) {
@@ -49,7 +49,7 @@ pub fn statement_over<S: Alter + Drop, W: Sink>(
 ) -> Ended<S>
     requires { conn.in_transaction ≡ false }
     ensures states { StatesAsked S.Store conn result.conn account query (W.contents output.old)
-        (W.contents output.new) (W.told output.old) (W.told output.new) result.told }
+        (W.contents output.new) (W.calls output.old) (W.calls output.new) result.told }
     ensures idle { result.conn.in_transaction ≡ false }
 {
     match query {
@@ -71,7 +71,7 @@ fn query_over<S: Alter + Drop, W: Sink>(
 ) -> Ended<S>
     requires { conn.in_transaction ≡ false }
     ensures states { StatesOver S.Store conn result.conn account query (W.contents output.old)
-        (W.contents output.new) (W.told output.old) (W.told output.new) result.told }
+        (W.contents output.new) (W.calls output.old) (W.calls output.new) result.told }
     ensures idle { result.conn.in_transaction ≡ false }
 {
     let mut bank = match find(alloc, conn) {
@@ -95,7 +95,7 @@ pub fn statements_over<S: Alter + Drop, W: Sink>(
 ) -> Ended<S>
     requires { conn.in_transaction ≡ false }
     ensures states { StatesAllAsked S.Store conn result.conn query (W.contents output.old)
-        (W.contents output.new) (W.told output.old) (W.told output.new) result.told }
+        (W.contents output.new) (W.calls output.old) (W.calls output.new) result.told }
     ensures idle { result.conn.in_transaction ≡ false }
 {
     match query {
@@ -116,7 +116,7 @@ fn all_over<S: Alter + Drop, W: Sink>(
 ) -> Ended<S>
     requires { conn.in_transaction ≡ false }
     ensures states { StatesAllOver S.Store conn result.conn query (W.contents output.old)
-        (W.contents output.new) (W.told output.old) (W.told output.new) result.told }
+        (W.contents output.new) (W.calls output.old) (W.calls output.new) result.told }
     ensures idle { result.conn.in_transaction ≡ false }
 {
     let mut bank = match find(alloc, conn) {
@@ -140,7 +140,7 @@ pub fn why_over<S: Alter + Drop, W: Sink>(
     ensures looks { LooksOver S.Store conn result.conn (W.contents output.old) (W.contents output.new)
         result.told }
     ensures unprinted { IsErrOf result.told CommandFault.Write
-        → HasWriteFailed (W.told output.old) (W.told output.new) }
+        → HasWriteFailed (W.calls output.old) (W.calls output.new) }
     ensures idle { result.conn.in_transaction ≡ false }
 {
     let bank = match find(alloc, conn) {

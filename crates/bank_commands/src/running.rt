@@ -5,19 +5,18 @@
 //! The program `bank` is one run, between the standard streams and by the system's clock:
 //!
 //! ```rust
-//! use bank_commands::{Machine, run, tell_reason, words_of};
+//! use bank_commands::{Machine, Notes, run, tell_reason, words_of};
 //! use command_line::{Status, tell_no_words};
 //! use posting_core::SystemClock;
 //! use sqlite::{Start, Unknown};
-//! use std::cell::Cell;
 //! use std::io::IsTerminal;
 //! use std::process::ExitCode;
 //!
 //! // A run on these words between the standard streams, whatever the files hold.
 //! fn run_on<S: Start>(rt: &HostRuntime, start: S, words: &[String]) -> Status {
-//!     let is_full = Cell::new(false);
+//!     let notes = Notes::new();
 //!     let status = run(
-//!         Machine::new(rt, start, &is_full),
+//!         Machine::new(rt, start, &notes),
 //!         words,
 //!         &mut rt.stdin(),
 //!         rt.stdin().is_terminal(),
@@ -25,7 +24,7 @@
 //!         &mut rt.stderr(),
 //!         &mut SystemClock::new(rt),
 //!     );
-//!     tell_reason(rt, status, words, is_full.get());
+//!     tell_reason(rt, status, words, &notes);
 //!     status
 //! }
 //!

@@ -1,6 +1,6 @@
 //! The command that serves the counter over HTTP.
 ghost use Rattle.std.specs.Prelude.{◌≡◌, IsErrOf, false};
-ghost use Rattle.posting_core.specs.Told.{HasWriteFailed};
+ghost use Rattle.posting_core.specs.EndCalls.{HasWriteFailed};
 ghost use Rattle.bank_commands.specs.Commands.{PrintsServe, Serves};
 
 use crate::commands::done;
@@ -28,7 +28,7 @@ pub fn serve_over<S: Alter + Drop, N: Network, V: ServeWatch + Drop, W: Sink, K:
         (K.readings clock.old) (K.readings clock.new) connections result.told }
     ensures prints { PrintsServe (W.contents output.old) (W.contents output.new) result.told }
     ensures unprinted { IsErrOf result.told CommandFault.Write
-        → HasWriteFailed (W.told output.old) (W.told output.new) }
+        → HasWriteFailed (W.calls output.old) (W.calls output.new) }
     ensures idle { result.conn.in_transaction ≡ false }
 {
     let mut bank = match find(alloc, conn) {

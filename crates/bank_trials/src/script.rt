@@ -7,12 +7,11 @@ use crate::showing::tell;
 use crate::simulated::simulate;
 use crate::tellers::play_tellers;
 use anyhow::{Result, bail};
-use bank_commands::{Machine, run};
+use bank_commands::{Machine, Notes, run};
 use command_line::Status;
 use posting_core::StoredClock;
 use sqlite::{Start, Unknown};
 use std::alloc::{AllocError, Global};
-use std::cell::Cell;
 use std::fs;
 use std::io::{self, Read, Write};
 
@@ -163,9 +162,9 @@ fn run_between<S: Start, R: Read, W: Write>(
 ) -> (Status, Vec<u8>) {
     let mut faults = Vec::new(rt.alloc());
     let mut clock = StoredClock::new(Vec::new(rt.alloc()));
-    let is_full = Cell::new(false);
+    let notes = Notes::new();
     let status = run(
-        Machine::new(rt, start, &is_full),
+        Machine::new(rt, start, &notes),
         words,
         input,
         typed,

@@ -36,7 +36,7 @@ returns g c =
       );
       prints = prints_load _ _ c.loaded-told.result (bank_seen g.S.Store) (bank_reason g.S.Store)
           (g.P.Plans.is_named c.args.plans.now c.args.plan.now)
-          (known_source g.P.Plan.Source.remaining g.P.Plan.Source.told) c.in-Ok.bank
+          (known_source g.P.Plan.Source.remaining g.P.Plan.Source.calls) c.in-Ok.bank
           c.load_into.new.bank (rw c.loaded-told.ensures it.loads);
       unprinted = rw c.loaded-told.ensures (load_not_written c.load_into.result it.unprinted);
       idle = c.release.ensures.idle;

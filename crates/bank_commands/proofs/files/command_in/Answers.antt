@@ -6,11 +6,15 @@ use Rattle.bank_commands.proofs.files.command_in.Goals as goal
 
 pub returns-in-Encode : goal.returns-in-Encode
 returns-in-Encode g c =
-    rw c.in-Encode.is record { tells = c.translate_sheet.ensures; input = tt; clock = refl }
+    rw (c.in-Encode.is, c.of_sheet.ensures) record { tells = c.translate_sheet.ensures; input = tt; clock = refl }
 
 pub returns-in-Decode : goal.returns-in-Decode
 returns-in-Decode g c =
-    rw c.in-Decode.is record { tells = tells_decode _ _ _ _ _ _ _ _ _ _ c.translate_replies.ensures; input = tt; clock = refl }
+    rw (c.in-Decode.is, c.of_sheet-in-Decode.ensures) record {
+      tells = tells_decode _ _ _ _ _ _ _ _ _ _ c.translate_replies-end.ensures;
+      input = tt;
+      clock = refl;
+    }
 
 pub returns-in-Why : goal.returns-in-Why
 returns-in-Why g c =

@@ -22,10 +22,10 @@ returns g c =
       follows = done_over g.S.Store c.args.conn c.release.result _ c.in-Ok.bank c.follow_found.new.bank
           c.in-Ok.ensures.found (c.follow_found.result, c.done-told.ensures, it.follows) it.spares c.release.ensures.same;
       prints = prints_follow (g.R.Source.remaining c.args.input.now) (g.R.Source.remaining c.follow_found.new.input)
-          (g.R.Source.told c.args.input.now) (g.R.Source.told c.follow_found.new.input)
+          (g.R.Source.calls c.args.input.now) (g.R.Source.calls c.follow_found.new.input)
           (g.W.Sink.contents c.args.output.now) (g.W.Sink.contents c.follow_found.new.output) _ _ g.S.Store
           (g.P.Plans.is_named c.args.plans.now c.args.plan.now)
-          (known_source g.P.Plan.Source.remaining g.P.Plan.Source.told) c.in-Ok.bank c.follow_found.new.bank
+          (known_source g.P.Plan.Source.remaining g.P.Plan.Source.calls) c.in-Ok.bank c.follow_found.new.bank
           c.follow_found.result c.done-told.result c.done-told.ensures it.follows;
       unprinted = rw c.done-told.ensures (done_not_written c.follow_found.result it.unprinted);
       idle = c.release.ensures.idle;

@@ -15,8 +15,8 @@ returns-in-Differs g c =
       c.print_differing.result,
       subst (λ (text : List ℕ).
           PrintsText (differing_lines text) (g.W.Sink.contents c.args.output.now)
-          (g.W.Sink.contents c.print_differing.new.output) (g.W.Sink.told c.args.output.now)
-          (g.W.Sink.told c.print_differing.new.output) c.print_differing.result) it.1 it.2,
+          (g.W.Sink.contents c.print_differing.new.output) (g.W.Sink.calls c.args.output.now)
+          (g.W.Sink.calls c.print_differing.new.output) c.print_differing.result) it.1 it.2,
       c.ended-in-Differs.ensures,
     )
 

@@ -1,0 +1,74 @@
+//! What a run notes for the second line on standard error, which says why. **Not verified, review by hand**: that line
+//! has no clause.
+ghost use Rattle.std.specs.Prelude.{◌≡◌};
+
+use command_line::{CommandFault, Status};
+use posting_sheets::{BadRow, Column, FieldStart, SheetFault};
+use std::cell::Cell;
+use std::{fmt, str};
+
+/// What a run has met that its line doesn't tell: that a write found no room, and what stands in a row that was refused.
+#[derive(Drop)]
+pub struct Notes {
+    pub(crate) is_full: Cell<bool>,
+    pub(crate) refused: Cell<Option<BadRow>>,
+}
+
+impl Notes {
+    /// Of a run that hasn't begun.
+    #[must_use]
+    pub fn new() -> Notes {
+        Notes {
+            is_full: Cell::new(false),
+            refused: Cell::new(None),
+        }
+    }
+
+    // How a command ended that read a sheet, with a note of a row that was refused.
+    pub(crate) fn of_sheet(&self, end: Result<Status, CommandFault>) -> Result<Status, CommandFault>
+        ensures { result ≡ end }
+    {
+        if let Err(CommandFault::Postings(fault)) = &end {
+            self.note_row(*fault);
+        }
+        end
+    }
+
+    fn note_row(&self, fault: SheetFault) {
+        if let SheetFault::Row(_, bad) = fault {
+            self.refused.set(Some(bad));
+        }
+    }
+}
+
+/// How a field begins, in quotes. Where it is no text, or has what a terminal would obey, `?` stands for such a byte.
+#[derive(Clone, Copy)]
+pub(crate) struct Quoted(pub(crate) FieldStart);
+
+impl fmt::Display for Quoted {
+    fn fmt<W: fmt::Write>(&self, f: &mut fmt::Formatter<W>) -> fmt::Result {
+        let bytes = self.0.as_bytes();
+        f.write_char('"')?;
+        match str::from_utf8(bytes) {
+            Ok(text) if !text.chars().any(char::is_control) => f.write_str(text)?,
+            _ => {
+                for byte in bytes {
+                    f.write_char(if matches!(*byte, b' '..=b'~') {
+                        char::from(*byte)
+                    } else {
+                        '?'
+                    })?;
+                }
+            }
+        }
+        f.write_str(if self.0.goes_on() { "\".." } else { "\"" })
+    }
+}
+
+/// The second line of a row that was refused; none where no field of it is.
+pub(crate) fn found_in(bad: &BadRow) -> Option<Quoted> {
+    match bad.column {
+        Column::Columns => None,
+        _ => Some(Quoted(bad.found)),
+    }
+}
