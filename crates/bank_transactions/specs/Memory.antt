@@ -1,6 +1,6 @@
 -- What is remembered of the rows of a bank's file.
-use Rattle.std.specs.Prelude.{◌≡◌, ℕ, ℤ, Bool, false, List, [], ◌∷◌, nat_lt, Option, Some, None, IfSome, IsTrue, OnOk}
-use Rattle.std.specs.Prelude.{Result, Ok, Err}
+use Rattle.std.specs.Prelude.{◌≡◌, ⊤, ℕ, ℤ, Bool, false, List, [], ◌∷◌, nat_lt, Option, Some, None, IfSome, IsTrue, OnOk}
+use Rattle.std.specs.Prelude.{Result, Ok, Err, ◌==◌, ◌||◌, if◌then◌else◌}
 use Rattle.sqlite.specs.Effect.{Database}
 use Rattle.sqlite.specs.Held.{Held, state}
 use Rattle.sqlite.specs.State.{State, HasCleanDisk}
@@ -17,12 +17,13 @@ use Rattle.store_rows.specs.believed.Stored.{FindsStored}
 use Rattle.store_rows.specs.declared.fault.TableFault.{TableFault}
 use Rattle.store_rows.specs.Lying.{AfterWrite, BalanceLies, BranchLies, CountLies, FloorLies, IsBankFile}
 use Rattle.store_rows.specs.declared.holders.Member.{Member, TheVariants.Account, TheVariants.Teller}
-use Rattle.known_rows.specs.Known.{known_under}
+use Rattle.known_rows.specs.Known.{known_under, places}
 use Rattle.known_rows.specs.declared.table.Known.{Known}
 use Rattle.posting_batch.specs.declared.slots.RequestSlot.{RequestSlot}
 use Rattle.bank_transactions.specs.KnownRows.{AllKnown}
 use Rattle.bank_transactions.specs.Doing.{Stays}
 use Rattle.bank_transactions.specs.declared.memory.Memory.{Memory}
+use Rattle.bank_transactions.specs.declared.memory.TheConstants.{SENT_AGAIN}
 
 -- It lies in the database, whatever other rows that has: so many decided requests the row of the bank counts, and the
 -- rows that are known, and where it is known that there is none.
@@ -37,6 +38,24 @@ pub record Fits (db : Database) (memory : Memory) : Type 0 where
 abbrev pub balances_of : Memory → Member → Known (Option ℤ)
 balances_of memory (Account account) = memory.accounts
 balances_of memory (Teller teller) = memory.tellers
+
+-- as many rows can be remembered as before
+pub record KeepsRoom (old new : Memory) : Type 0 where
+  pub branches : places new.branches ≡ places old.branches
+  pub floors : places new.floors ≡ places old.floors
+  pub tellers : places new.tellers ≡ places old.tellers
+  pub accounts : places new.accounts ≡ places old.accounts
+  pub numbers : places new.numbers ≡ places old.numbers
+
+-- it is said of a request that is sent alone
+abbrev pub IfSingle : List RequestSlot → (RequestSlot → Type 0) → Type 0
+IfSingle (slot ∷ []) P = P slot
+IfSingle _ P = ⊤
+
+-- the highest number that a teller is known to have sent, with this one; after a try in vain, this one
+abbrev pub highest_sent : Option ℕ → ℕ → ℕ
+highest_sent None number = number
+highest_sent (Some highest) number = if nat_lt highest number || (highest == SENT_AGAIN) then number else highest
 
 -- a number is above the one that is known, if one is
 abbrev pub is_above : Option ℕ → ℕ → Bool

@@ -64,7 +64,8 @@ impl Memory {
     ghost use Rattle.store_rows.specs.Lying.{SetsBalance, holder_key};
     ghost use Rattle.store_rows.specs.declared.holders.Holder.TheVariants as holder;
     ghost use Rattle.store_rows.specs.believed.Inserts.{meta_key};
-    ghost use Rattle.bank_transactions.specs.Memory.{Fits, IsBlank, balances_of, is_above, is_single_above};
+    ghost use Rattle.bank_transactions.specs.Memory.{Fits, IfSingle, IsBlank, KeepsRoom, balances_of, highest_sent};
+    ghost use Rattle.bank_transactions.specs.Memory.{is_above, is_single_above};
     ghost use Rattle.bank_transactions.specs.Noted.{KnowsWritten};
 
     /// Nothing is remembered yet, and there is room for what will be: some 800 KiB. Where no memory is to be had, no rows
@@ -98,9 +99,10 @@ impl Memory {
         }
     }
 
-    /// Forgets all.
+    /// Forgets all. The room stays.
     pub fn forget(&mut self)
-        ensures { IsBlank self.new }
+        ensures blank { IsBlank self.new }
+        ensures room { KeepsRoom self.old self.new }
     {
         self.decided = None;
         self.branches.forget();
@@ -202,18 +204,24 @@ impl Memory {
 
     // Notes the number of a request, if it is the highest that its teller is known to have sent.
     fn note_number(&mut self, slot: &RequestSlot)
-        ensures { (db : Database) → Fits db self.old → Fits db self.new }
+        ensures noted { 0 < places self.old.numbers → Knows self.new.numbers slot.now.teller
+            (highest_sent (known_under self.old.numbers slot.now.teller) slot.now.number) }
+        ensures fits { (db : Database) → Fits db self.old → Fits db self.new }
     {
+        let teller = slot.teller.get();
         let number = slot.number.get();
-        match self.numbers.get(slot.teller.get()) {
-            Some(highest) if number <= highest && highest != SENT_AGAIN => {}
-            _ => self.numbers.put(slot.teller.get(), number),
-        }
+        let highest = match self.numbers.get(teller) {
+            Some(highest) if number <= highest && highest != SENT_AGAIN => highest,
+            _ => number,
+        };
+        self.numbers.put(teller, highest);
     }
 
     /// After a single request that was tried in vain: the next one of its teller is looked up first.
     pub(crate) fn expect_repeat(&mut self, slots: &[RequestSlot])
-        ensures { (db : Database) → Fits db self.old → Fits db self.new }
+        ensures noted { IfSingle slots.now
+            (λ slot. 0 < places self.old.numbers → Knows self.new.numbers slot.teller SENT_AGAIN) }
+        ensures fits { (db : Database) → Fits db self.old → Fits db self.new }
     {
         if let [slot] = slots {
             self.numbers.put(slot.teller.get(), SENT_AGAIN);
@@ -224,16 +232,19 @@ impl Memory {
     /// higher than any that its teller is known to have sent.
     pub(crate) fn note_requests(&mut self, slots: &[RequestSlot]) -> bool
         ensures single { result ≡ is_single_above self.old.numbers slots.now }
+        ensures noted { IfSingle slots.now (λ slot. 0 < places self.old.numbers → Knows self.new.numbers slot.teller
+            (highest_sent (known_under self.old.numbers slot.teller) slot.number)) }
         ensures fits { (db : Database) → Fits db self.old → Fits db self.new }
     {
-        let is_new = match slots {
-            [slot] => self.is_above(slot),
-            _ => false,
-        };
+        if let [slot] = slots {
+            let is_new = self.is_above(slot);
+            self.note_number(slot);
+            return is_new;
+        }
         for slot in slots {
             self.note_number(slot);
         }
-        is_new
+        false
     }
 
     // Changes the balance in the row of a branch, where that is known.

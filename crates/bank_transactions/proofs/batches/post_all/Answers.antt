@@ -20,7 +20,7 @@ try_new-requires-clause-remembers g c =
 
 pub post_looked_up-requires-in-Again-clause-remembers : goal.post_looked_up-requires-in-Again-clause-remembers
 post_looked_up-requires-in-Again-clause-remembers g c =
-    still_fits g.S.Store c.try_new.new.conn c.try_new.new.memory c.expect_repeat.new.self c.expect_repeat.ensures
+    still_fits g.S.Store c.try_new.new.conn c.try_new.new.memory c.expect_repeat.new.self c.expect_repeat.ensures.fits
     c.in_ok-replies.ensures.remembers
 
 pub returns-then-not-is_tried-clause-stored : goal.returns-then-not-is_tried-clause-stored
