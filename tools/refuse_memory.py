@@ -1,7 +1,7 @@
 #!/usr/bin/env python3
-"""Refuses each allocation of the built program in turn, one a run, in eight cases, which are played side by side: the
+"""Refuses each allocation of the built program in turn, one a run, in nine cases, which are played side by side: the
 first posting, a truncated stream, one record twice in a batch, a plan loaded twice, two messages in a row, an audit that
-finds damage, a statement, and a drive made twice. What is told is the fault or the case's own answer; nothing that was
+finds damage, a statement, those of all accounts, and a drive made twice. What is told is the fault or the case's own answer; nothing that was
 acknowledged is lost; and the case passes when it is run again: on the same bank where a connection was refused memory,
 else on the reopened one. A run that was refused and left both files as they were isn't run again: it would be the run
 that was refused nothing.
@@ -80,6 +80,7 @@ CASES = [
     Case("two messages in a row", rows_bank, []),
     Case("an audit that finds damage", damaged_bank, [Run("audit", [], b"", 5)]),
     Case("a statement", posted_bank, [Run("statement", ["1"], b"", 0), Run("statement", ["4"], b"", 4)]),
+    Case("all statements", posted_bank, [Run("statements", [], b"", 0)]),
     Case("a drive made twice", small_bank, [Run("drive", ["--seed", "7", "--count", "50"], b"", 0)] * 2),
     Case("a sheet", None, [Run("encode", [], b"".join(SHEET), 0)]),
     Case("a sheet with a wrong row", None,
@@ -116,7 +117,7 @@ class Folder:
                                timeout=60)
         self.runs += 1
         # The moment of a posting is the program's own clock.
-        output = without_moments(ended.stdout) if run.command == "statement" else ended.stdout
+        output = without_moments(ended.stdout) if run.command.startswith("statement") else ended.stdout
         return ended.returncode, output, ended.stderr
 
     def fault_of(self, fault, *kinds):
