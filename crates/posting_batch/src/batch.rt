@@ -22,7 +22,7 @@ use std::alloc::{AllocError, Global};
 pub type Replies = SmallVec<[u8; REPLY_BYTES], 1>;
 
 /// Records, a slot for each key that they can touch, and room for all that they come to.
-#[derive(Debug, Drop)]
+#[derive(Debug)]
 pub struct Batch {
     reads: Reads,
     /// Its slots are filled from the tables before the records are judged.
@@ -36,7 +36,7 @@ pub struct Batch {
 }
 
 /// A batch whose records are judged: what is to be written, and what is to be answered then.
-#[derive(Debug, Drop)]
+#[derive(Debug)]
 #[must_use]
 pub struct Judged {
     /// The changed rows and the new ones.
@@ -48,6 +48,27 @@ pub struct Judged {
     ghost requests: { length (reads_in reads) ≤ overlay.requests.capacity },
     ghost history: { length (reads_in reads) ≤ overlay.history.capacity },
     ghost references: { length (reads_in reads) ≤ overlay.references.capacity },
+}
+
+// As that of an overlay.
+impl Drop for Batch {
+    fn drop(self) {
+        let Batch {
+            reads: _,
+            overlay: _,
+            replies: _,
+        } = self;
+    }
+}
+
+impl Drop for Judged {
+    fn drop(self) {
+        let Judged {
+            overlay: _,
+            replies: _,
+            reads: _,
+        } = self;
+    }
 }
 
 impl Judged {

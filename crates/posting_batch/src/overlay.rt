@@ -59,7 +59,7 @@ pub(crate) fn put<T: Drop>(items: &mut Vec<T>, item: T)
 
 /// What is known of the rows that records can touch, and the rows that are new. What a single record comes to
 /// lies in the value itself; what more of them come to, in memory that is taken before they are judged.
-#[derive(Debug, Drop)]
+#[derive(Debug)]
 pub struct Overlay {
     /// The branches of their tellers and of their accounts, by rising numbers.
     pub branches: SmallVec<BranchSlot, 2>,
@@ -80,6 +80,23 @@ pub struct Overlay {
     /// The references of those that have one, in the same order.
     pub references: SmallVec<ReferenceRow, 1>,
     ghost few: { decided ≤ MAX_DECIDED },
+}
+
+// Written out, so that it is a call where an owner ends: derived, its lists stand at each such end, in two ways each.
+impl Drop for Overlay {
+    fn drop(self) {
+        let Overlay {
+            branches: _,
+            floors: _,
+            tellers: _,
+            accounts: _,
+            kept: _,
+            decided: _,
+            history: _,
+            requests: _,
+            references: _,
+        } = self;
+    }
 }
 
 impl Overlay {

@@ -122,7 +122,7 @@ fn read_floor(floor: Option<Cents>)
 
 /// A bank in memory, which finds its rows by walking. It is never down, and refuses a call only for want of
 /// memory, before it changed anything.
-#[derive(Debug, Drop)]
+#[derive(Debug)]
 pub struct PlainBank {
     alloc: Global,
     branches: Vec<BranchRow>,
@@ -136,6 +136,22 @@ pub struct PlainBank {
     ghost in_range: { All IsInRange branches.items },
     ghost at_most_zero: { All IsAtMostZero floors.items },
     ghost counted: { HasOrdinalsTo (length requests.items) history.items requests.items references.items },
+}
+
+// Written out, so that it is a call where an owner ends.
+impl Drop for PlainBank {
+    fn drop(self) {
+        let PlainBank {
+            alloc: _,
+            branches: _,
+            tellers: _,
+            accounts: _,
+            history: _,
+            requests: _,
+            floors: _,
+            references: _,
+        } = self;
+    }
 }
 
 impl PlainBank {
