@@ -36,7 +36,7 @@ fn table<V: Copy>(alloc: Global, bits: u32) -> Known<V>
 
 /// What is remembered of the rows that were read or written, so that they aren't asked for again. It holds as long as
 /// nobody else writes the file.
-#[derive(Debug, Drop)]
+#[derive(Debug)]
 pub struct Memory {
     // How many requests are decided.
     pub(crate) decided: Option<u64>,
@@ -52,6 +52,20 @@ pub struct Memory {
     pub(crate) numbers: Known<u64>,
     ghost few: { ∥ IfSome decided (λ n. n ≤ MAX_DECIDED) ∥₁ },
     ghost low: { ∥ AreLow floors ∥₁ },
+}
+
+// Written out, so that it is a call where an owner ends.
+impl Drop for Memory {
+    fn drop(self) {
+        let Memory {
+            decided: _,
+            branches: _,
+            floors: _,
+            tellers: _,
+            accounts: _,
+            numbers: _,
+        } = self;
+    }
 }
 
 impl Memory {
