@@ -59,6 +59,15 @@ fn asked(fd: RawFd, events: i16) -> pollfd {
     }
 }
 
+// What is asked of a client: to read from it, or to write where an answer is left.
+fn asked_of(client: Option<&TcpClient>) -> pollfd {
+    match client {
+        Some(it) if it.is_written() => asked(it.reader().stream.as_raw_fd(), POLLIN),
+        Some(it) => asked(it.writer().stream.as_raw_fd(), POLLOUT),
+        None => asked(NOBODY, 0),
+    }
+}
+
 // At least this long, in milliseconds, and without an end where there is none.
 fn millis(limit: Option<Duration>) -> i32 {
     match limit {
@@ -185,12 +194,7 @@ impl<'l, T: Clock, V: ServeWatch + Drop> TcpClients<'l, T, V> {
             return false;
         }
         for place in self.places.iter() {
-            let of_client = match clients.get(*place) {
-                Some(it) if it.is_written() => asked(it.reader().stream.as_raw_fd(), POLLIN),
-                Some(it) => asked(it.writer().stream.as_raw_fd(), POLLOUT),
-                None => asked(NOBODY, 0),
-            };
-            if self.asked.push(of_client).is_err() {
+            if self.asked.push(asked_of(clients.get(*place))).is_err() {
                 return false;
             }
         }

@@ -1,9 +1,43 @@
 use Rattle.std.proofs.lemmas.Result.{err_from_is_err_and}
 use Rattle.counter_http.proofs.Gathering.{gathers_then}
+use Rattle.counter_http.proofs.Still.{all_of_none, as_many, differ_still, none_given}
 use Rattle.std.proofs.Common.{arith}
+use Rattle.counter_http.specs.together.Submitting.{IsFrom}
 use Rattle.counter_http.proofs.Moves.{all_move}
 use Rattle.counter_http.proofs.OneRound.{figured_by, round_as, round_err, round_refused, round_submitted}
 use Rattle.counter_http.proofs.together.answer.Goals as goal
+
+-- the batch is empty, and the places are those of clients
+pub gather-requires : goal.gather-requires
+gather-requires g c = record {
+  order = omega (arith, c.min-first.ensures);
+  within = omega (arith, c.len-count.ensures);
+  others = c.requires.others;
+  gives = none_given c.args.here.now.items c.clear.new.self c.clear.ensures.records c.clear.ensures.senders;
+  beyond = all_of_none (IsFrom c.len-count.result) c.clear.new.self.senders.items c.clear.ensures.senders;
+}
+
+pub gather-requires-2 : goal.gather-requires-2
+gather-requires-2 g c =
+    let gathered = c.in_ok-gather.ensures in record {
+      order = omega arith;
+      within = omega (
+        arith,
+        c.min-first.ensures,
+        c.len-count.ensures,
+        as_many c.args.here.now.items c.gather.new.here.items gathered.gathers.beside.same,
+      );
+      others = differ_still c.args.here.now.items c.gather.new.here.items gathered.gathers.beside.same c.requires.others;
+      gives = gathered.gathers.gives;
+      beyond = gathered.places;
+    }
+
+pub submit-requires : goal.submit-requires
+submit-requires g c = record {
+  others = differ_still c.gather.new.here.items c.gather-2.new.here.items c.in_ok-gather-2.ensures.gathers.beside.same
+      (differ_still c.args.here.now.items c.gather.new.here.items c.in_ok-gather.ensures.gathers.beside.same c.requires.others);
+  gives = c.in_ok-gather-2.ensures.gathers.gives;
+}
 
 -- the bank refused a call while the first half was gathered
 pub returns-in_err-gather-clause-answers : goal.returns-in_err-gather-clause-answers
@@ -44,3 +78,25 @@ returns-clause-answers g c =
     c.min-first.result c.len-count.result c.clear.new.self c.gather.new.batch c.gather-2.new.batch
     c.in_ok-submit.ensures.submits.did.posts (omega (arith, c.len-count.ensures)) c.in_ok-gather.ensures.looks
     c.in_ok-gather-2.ensures.looks c.in_ok-submit.ensures.none c.in_ok-submit.ensures.submits.did.moves))
+
+-- ---- what no call touches
+
+pub returns-in_err-gather-clause-spares : goal.returns-in_err-gather-clause-spares
+returns-in_err-gather-clause-spares g c = c.in_err-gather.ensures.spares
+
+pub returns-in_err-gather-2-clause-spares : goal.returns-in_err-gather-2-clause-spares
+returns-in_err-gather-2-clause-spares g c =
+    g.met.C.Counter.spares_then c.args.bank.now c.gather.new.bank c.gather-2.new.bank c.in_ok-gather.ensures.spares
+    c.in_err-gather-2.ensures.spares
+
+pub returns-in_err-submit-clause-spares : goal.returns-in_err-submit-clause-spares
+returns-in_err-submit-clause-spares g c =
+    g.met.C.Counter.spares_then c.args.bank.now c.gather-2.new.bank c.submit.new.bank
+    (g.met.C.Counter.spares_then c.args.bank.now c.gather.new.bank c.gather-2.new.bank c.in_ok-gather.ensures.spares
+    c.in_ok-gather-2.ensures.spares) c.in_err-submit.ensures.spares
+
+pub returns-clause-spares : goal.returns-clause-spares
+returns-clause-spares g c =
+    g.met.C.Counter.spares_then c.args.bank.now c.gather-2.new.bank c.submit.new.bank
+    (g.met.C.Counter.spares_then c.args.bank.now c.gather.new.bank c.gather-2.new.bank c.in_ok-gather.ensures.spares
+    c.in_ok-gather-2.ensures.spares) c.in_ok-submit.ensures.spares

@@ -2,6 +2,7 @@ use Rattle.std.proofs.Common.{◌≡◌, ◌≤◌, Ok, arith}
 use Rattle.std.proofs.lemmas.Result.{err_from_is_err_and}
 use Rattle.counter_http.proofs.Gathering.{all_from, elsewhere, gathers_err, gathers_nothing, gathers_then}
 use Rattle.counter_http.proofs.Gathering.{passed_at_first, passed_then}
+use Rattle.counter_http.proofs.Still.{as_many, differ_still}
 use Rattle.counter_http.proofs.Moves.{over_more, over_none}
 use Rattle.counter_http.proofs.together.gather.Goals as goal
 
@@ -13,18 +14,33 @@ loop-place-init g c = record {
   spares = g.met.C.Counter.spares_itself c.args.bank.now;
 }
 
-pub gather_at-requires-clause-elsewhere : goal.gather_at-requires-clause-elsewhere
-gather_at-requires-clause-elsewhere g c =
-    elsewhere c.args.from c.loop-place.place c.args.to c.loop-place.batch.senders.items c.loop-place-test.true
-    c.loop-place.invariant.passed
+pub gather_at-requires : goal.gather_at-requires
+gather_at-requires g c =
+    let same = c.loop-place.invariant.gathers.beside.same in record {
+      within = omega (
+        arith,
+        c.loop-place-test.true,
+        c.requires.within,
+        as_many c.args.here.now.items c.loop-place.here.items same,
+      );
+      others = differ_still c.args.here.now.items c.loop-place.here.items same c.requires.others;
+      gives = c.loop-place.invariant.gathers.gives;
+      elsewhere = elsewhere c.args.from c.loop-place.place c.args.to c.loop-place.batch.senders.items
+          c.loop-place-test.true c.loop-place.invariant.passed;
+    }
 
 -- the bank refused a call
-pub returns-in_err-gather_at-clause-gathers : goal.returns-in_err-gather_at-clause-gathers
-returns-in_err-gather_at-clause-gathers g c =
-    let told = err_from_is_err_and c.from_residual.result c.from_residual.ensures.1 in
-    rw (told.1, told.2) (gathers_err (gathers_then g.C.Counter.seen c.args.bank.now c.loop-place.bank
-    c.gather_at.new.bank c.args.here.now.items c.loop-place.here.items c.gather_at.new.here.items c.loop-place.batch
-    c.gather_at.new.batch _ c.loop-place.invariant.gathers c.in_err-gather_at.ensures.gathers))
+pub returns-in_err-gather_at : goal.returns-in_err-gather_at
+returns-in_err-gather_at g c =
+    let told = err_from_is_err_and c.from_residual.result c.from_residual.ensures.1 in record {
+      gathers = rw (told.1, told.2) (gathers_err (gathers_then g.C.Counter.seen c.args.bank.now c.loop-place.bank
+          c.gather_at.new.bank c.args.here.now.items c.loop-place.here.items c.gather_at.new.here.items c.loop-place.batch
+          c.gather_at.new.batch _ c.loop-place.invariant.gathers c.in_err-gather_at.ensures.gathers));
+      places = rw told.1 tt;
+      looks = rw told.1 tt;
+      spares = g.met.C.Counter.spares_then c.args.bank.now c.loop-place.bank c.gather_at.new.bank
+          c.loop-place.invariant.spares c.in_err-gather_at.ensures.spares;
+    }
 
 pub loop-place-preserved : goal.loop-place-preserved
 loop-place-preserved g c =
@@ -42,10 +58,12 @@ loop-place-preserved g c =
           c.loop-place.invariant.spares c.in_ok-gather_at.ensures.spares;
     }
 
-pub returns-clause-places : goal.returns-clause-places
-returns-clause-places g c =
-    all_from c.args.from c.loop-place.place c.args.to c.loop-place.batch.senders.items c.loop-place.invariant.passed
-
-pub returns-clause-looks : goal.returns-clause-looks
-returns-clause-looks g c =
-    let last : c.args.to ≡ c.loop-place.place = omega arith in rw last c.loop-place.invariant.over
+pub returns : goal.returns
+returns g c =
+    let last : c.args.to ≡ c.loop-place.place = omega arith in record {
+      gathers = c.loop-place.invariant.gathers;
+      places = all_from c.args.from c.loop-place.place c.args.to c.loop-place.batch.senders.items
+          c.loop-place.invariant.passed;
+      looks = rw last c.loop-place.invariant.over;
+      spares = c.loop-place.invariant.spares;
+    }

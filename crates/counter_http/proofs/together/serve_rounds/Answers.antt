@@ -111,3 +111,14 @@ returns-clause-serves g c =
 -- each whole message that was read is answered, where its client has no more
 pub wait-requires : goal.wait-requires
 wait-requires g c = rw (c.deref.ensures.value) (all_up_to_date c.rounds.invariant.rounding.crowd)
+
+-- ---- what no call touches
+
+pub returns-then-is_empty-clause-spares : goal.returns-then-is_empty-clause-spares
+returns-then-is_empty-clause-spares g c = c.rounds.invariant.spares
+
+pub returns-in_err-take_in-clause-spares : goal.returns-in_err-take_in-clause-spares
+returns-in_err-take_in-clause-spares g c = c.rounds.invariant.spares
+
+pub returns-clause-spares : goal.returns-clause-spares
+returns-clause-spares g c = c.rounds.invariant.spares

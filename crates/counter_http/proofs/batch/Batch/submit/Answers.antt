@@ -9,6 +9,9 @@ some_of : (rs : List (List ℕ)) → eqb (length rs) 0 ≡ false → 0 < length 
 some_of [] e = absurd (true≢false e)
 some_of (r ∷ rs) e = omega arith
 
+not_none : {P : Type 0} (rs all : List (List ℕ)) → rs ≡ all → eqb (length rs) 0 ≡ false → length all ≡ 0 → P
+not_none rs all same e none = absurd (omega (arith, ap length same, some_of rs e, none))
+
 -- there is no record
 pub returns-then-is_empty-clause-submits : goal.returns-then-is_empty-clause-submits
 returns-then-is_empty-clause-submits g c =
@@ -79,3 +82,48 @@ returns-in-Err-clause-submits g c =
           c.requires.gives.apart c.in-Err.fault
           c.requires.others c.in-Err.ensures.call c.refuse.ensures);
     }
+
+-- ---- what the calls ask for
+
+pub answer-requires-clause-gives : goal.answer-requires-clause-gives
+answer-requires-clause-gives g c = c.requires.gives
+
+pub submit_each-requires : goal.submit_each-requires
+submit_each-requires g c = record { others = c.requires.others; gives = c.requires.gives }
+
+pub refuse-requires : goal.refuse-requires
+refuse-requires g c = c.requires.gives
+
+-- ---- there is a record, and what no call touches
+
+pub returns-then-is_empty-clause-none : goal.returns-then-is_empty-clause-none
+returns-then-is_empty-clause-none g c = λ none. refl
+
+pub returns-then-is_empty-clause-spares : goal.returns-then-is_empty-clause-spares
+returns-then-is_empty-clause-spares g c = g.met.C.Counter.spares_itself c.args.bank.now
+
+pub returns-in-Ok-clause-none : goal.returns-in-Ok-clause-none
+returns-in-Ok-clause-none g c =
+    not_none c.as_slice-records.result.now c.args.self.now.records.items c.as_slice-records.ensures.value
+    (sym c.is_empty.ensures ∙ c.if-is_empty.false)
+
+pub returns-in-Ok-clause-spares : goal.returns-in-Ok-clause-spares
+returns-in-Ok-clause-spares g c = c.in-Ok.ensures.spares
+
+pub returns-in-Err-Memory-clause-none : goal.returns-in-Err-Memory-clause-none
+returns-in-Err-Memory-clause-none g c =
+    not_none c.as_slice-records.result.now c.args.self.now.records.items c.as_slice-records.ensures.value
+    (sym c.is_empty.ensures ∙ c.if-is_empty.false)
+
+pub returns-in-Err-Memory-clause-spares : goal.returns-in-Err-Memory-clause-spares
+returns-in-Err-Memory-clause-spares g c =
+    g.met.C.Counter.spares_then c.args.bank.now c.submit_all.new.self c.submit_each.new.bank
+    c.in-Err-Memory.ensures.spares c.submit_each.ensures.spares
+
+pub returns-in-Err-clause-none : goal.returns-in-Err-clause-none
+returns-in-Err-clause-none g c =
+    not_none c.as_slice-records.result.now c.args.self.now.records.items c.as_slice-records.ensures.value
+    (sym c.is_empty.ensures ∙ c.if-is_empty.false)
+
+pub returns-in-Err-clause-spares : goal.returns-in-Err-clause-spares
+returns-in-Err-clause-spares g c = c.in-Err.ensures.spares

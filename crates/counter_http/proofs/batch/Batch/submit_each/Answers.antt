@@ -3,6 +3,7 @@ use Rattle.std.proofs.lemmas.Result.{err_from_is_err_and}
 use Rattle.counter_http.specs.together.Submitting.{ChangesAt}
 use Rattle.counter_http.specs.declared.batch.Sender.{Sender}
 use Rattle.counter_http.proofs.Gathering.{apart_front, given_front, given_long, given_still}
+use Rattle.counter_http.proofs.Still.{differ_still}
 use Rattle.counter_http.proofs.Submitted.{submitted_few, submitted_nothing, submitted_then}
 use Rattle.counter_http.proofs.batch.Batch.submit_each.Goals as goal
 
@@ -27,6 +28,10 @@ bounds-senders-i g c =
       c.loop-i-test.true,
       given_long c.args.here.now.items c.args.self.now.senders.items c.args.self.now.records.items c.requires.gives.given,
     )
+
+pub submit_one-requires-clause-others : goal.submit_one-requires-clause-others
+submit_one-requires-clause-others g c =
+    differ_still c.args.here.now.items c.loop-i.here.items c.loop-i.invariant.did.beside.same c.requires.others
 
 pub submit_one-requires-clause-gives : goal.submit_one-requires-clause-gives
 submit_one-requires-clause-gives g c =
@@ -79,3 +84,13 @@ returns-clause-submits g c =
     let last : length c.args.self.now.records.items ≡ c.loop-i.i =
     omega (arith, ap length c.as_slice-bytes-items.ensures.value, c.loop-i-test.false) in
     rw last c.loop-i.invariant.did
+
+-- ---- what no call touches
+
+pub returns-in_err-submit_one-clause-spares : goal.returns-in_err-submit_one-clause-spares
+returns-in_err-submit_one-clause-spares g c =
+    g.met.C.Counter.spares_then c.args.bank.now c.loop-i.bank c.submit_one.new.bank c.loop-i.invariant.spares
+    c.in_err-submit_one.ensures.spares
+
+pub returns-clause-spares : goal.returns-clause-spares
+returns-clause-spares g c = c.loop-i.invariant.spares

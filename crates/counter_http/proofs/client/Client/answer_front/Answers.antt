@@ -1,4 +1,4 @@
-use Rattle.std.proofs.Common.{◌≡◌, ◌∙◌, refl, sym, ap, Bool, false, true, Option, Some, None, take, Ok}
+use Rattle.std.proofs.Common.{◌≡◌, ◌∙◌, refl, sym, ap, Bool, false, true, Option, Some, None, take, drop, Ok, inl}
 use Rattle.std.proofs.lemmas.{Bool.true≢false}
 use Rattle.std.specs.Prelude.{is_some, not}
 use Rattle.counter_http.specs.{Next.IsHopeless, Next.IsUnfinished, Next.IsWhole, Next.asked, Tasks.IsTaskOf}
@@ -14,6 +14,8 @@ use Rattle.counter_http.specs.Holders.{balance_of, holder_line}
 use Rattle.counter_http.proofs.AnsweredTurns.{answers_as, asks_as, reading_as, submits_as}
 use Rattle.counter_http.proofs.Asked.{answered_nothing, asked_none}
 use Rattle.counter_http.proofs.Fronts.{number_ended}
+use Rattle.counter_http.proofs.Looked.{read_gives, says_gives, within_front}
+use Rattle.counter_http.specs.believed.Messages.{message_text}
 use Rattle.counter_http.proofs.Moves.{ended_so, read_so, said_so}
 use Rattle.counter_http.proofs.Replies.{as_told, as_untold, head_of, hopeless_here, read_answered, record_of}
 use Rattle.counter_http.proofs.Replies.{says_answered, unfinished_here}
@@ -197,3 +199,111 @@ returns-in-Entries-clause-rests g c =
 pub returns-in-Refused-clause-rests : goal.returns-in-Refused-clause-rests
 returns-in-Refused-clause-rests g c =
     ended_so c.args.self.now c.end_with.new.self parting.Served c.end_with.ensures
+
+-- ---- the message is within what was read
+
+pub say-requires : goal.say-requires
+say-requires g c =
+    let whole : IsWhole (take c.args.self.now.filled c.args.self.now.input.items) c.in-Message.message =
+    rw c.deref.ensures.value at c.in-Message.ensures in
+    within_front c.args.self.now.input.items c.args.self.now.filled c.in-Message.message.length
+    (message_text whole.message) (drop c.in-Message.message.length (take c.args.self.now.filled c.args.self.now.input.items))
+    whole.front whole.long
+
+pub say_figures-requires : goal.say_figures-requires
+say_figures-requires g c =
+    let whole : IsWhole (take c.args.self.now.filled c.args.self.now.input.items) c.in-Message.message =
+    rw c.deref.ensures.value at c.in-Message.ensures in
+    within_front c.args.self.now.input.items c.args.self.now.filled c.in-Message.message.length
+    (message_text whole.message) (drop c.in-Message.message.length (take c.args.self.now.filled c.args.self.now.input.items))
+    whole.front whole.long
+
+pub answer_reading-requires : goal.answer_reading-requires
+answer_reading-requires g c =
+    let whole : IsWhole (take c.args.self.now.filled c.args.self.now.input.items) c.in-Message.message =
+    rw c.deref.ensures.value at c.in-Message.ensures in
+    within_front c.args.self.now.input.items c.args.self.now.filled c.in-Message.message.length
+    (message_text whole.message) (drop c.in-Message.message.length (take c.args.self.now.filled c.args.self.now.input.items))
+    whole.front whole.long
+
+pub answer_reading-requires-in-Branches : goal.answer_reading-requires-in-Branches
+answer_reading-requires-in-Branches g c =
+    let whole : IsWhole (take c.args.self.now.filled c.args.self.now.input.items) c.in-Message.message =
+    rw c.deref.ensures.value at c.in-Message.ensures in
+    within_front c.args.self.now.input.items c.args.self.now.filled c.in-Message.message.length
+    (message_text whole.message) (drop c.in-Message.message.length (take c.args.self.now.filled c.args.self.now.input.items))
+    whole.front whole.long
+
+pub answer_reading-requires-in-Entries : goal.answer_reading-requires-in-Entries
+answer_reading-requires-in-Entries g c =
+    let whole : IsWhole (take c.args.self.now.filled c.args.self.now.input.items) c.in-Message.message =
+    rw c.deref.ensures.value at c.in-Message.ensures in
+    within_front c.args.self.now.input.items c.args.self.now.filled c.in-Message.message.length
+    (message_text whole.message) (drop c.in-Message.message.length (take c.args.self.now.filled c.args.self.now.input.items))
+    whole.front whole.long
+
+-- ---- no record is given
+
+pub returns-in-Say-clause-record : goal.returns-in-Say-clause-record
+returns-in-Say-clause-record g c =
+    says_gives c.args.self.now c.say.new.self (said c.in-Say.response) _ c.say.result c.say.ensures
+
+pub returns-in-Metrics-clause-record : goal.returns-in-Metrics-clause-record
+returns-in-Metrics-clause-record g c =
+    says_gives c.args.self.now c.say_figures.new.self (figures_answer c.args.figures.now) _ c.say_figures.result c.say_figures.ensures
+
+pub returns-in-Balance-clause-record : goal.returns-in-Balance-clause-record
+returns-in-Balance-clause-record g c =
+    read_gives c.args.self.now c.answer_reading.new.self c.read_balance-read.result _ c.answer_reading.result c.answer_reading.ensures
+
+pub returns-in-Branches-clause-record : goal.returns-in-Branches-clause-record
+returns-in-Branches-clause-record g c =
+    read_gives c.args.self.now c.answer_reading-in-Branches.new.self c.read_branches-read.result _ c.answer_reading-in-Branches.result c.answer_reading-in-Branches.ensures
+
+pub returns-in-Entries-clause-record : goal.returns-in-Entries-clause-record
+returns-in-Entries-clause-record g c =
+    read_gives c.args.self.now c.answer_reading-in-Entries.new.self c.read_entries-read.result _ c.answer_reading-in-Entries.result c.answer_reading-in-Entries.ensures
+
+pub returns-then-not-self-clause-record : goal.returns-then-not-self-clause-record
+returns-then-not-self-clause-record g c = tt
+
+pub returns-in-Unfinished-clause-record : goal.returns-in-Unfinished-clause-record
+returns-in-Unfinished-clause-record g c = tt
+
+pub returns-in-Refused-clause-record : goal.returns-in-Refused-clause-record
+returns-in-Refused-clause-record g c = tt
+
+pub returns-in-Submit-clause-rests : goal.returns-in-Submit-clause-rests
+returns-in-Submit-clause-rests g c = tt
+
+pub returns-in-Unfinished-clause-rests : goal.returns-in-Unfinished-clause-rests
+returns-in-Unfinished-clause-rests g c = inl refl
+
+-- ---- what no call touches
+
+pub returns-then-not-self-clause-spares : goal.returns-then-not-self-clause-spares
+returns-then-not-self-clause-spares g c = g.met.C.Counter.spares_itself c.args.bank.now
+
+pub returns-in-Submit-clause-spares : goal.returns-in-Submit-clause-spares
+returns-in-Submit-clause-spares g c = g.met.C.Counter.spares_itself c.args.bank.now
+
+pub returns-in-Say-clause-spares : goal.returns-in-Say-clause-spares
+returns-in-Say-clause-spares g c = g.met.C.Counter.spares_itself c.args.bank.now
+
+pub returns-in-Metrics-clause-spares : goal.returns-in-Metrics-clause-spares
+returns-in-Metrics-clause-spares g c = g.met.C.Counter.spares_itself c.args.bank.now
+
+pub returns-in-Unfinished-clause-spares : goal.returns-in-Unfinished-clause-spares
+returns-in-Unfinished-clause-spares g c = g.met.C.Counter.spares_itself c.args.bank.now
+
+pub returns-in-Refused-clause-spares : goal.returns-in-Refused-clause-spares
+returns-in-Refused-clause-spares g c = g.met.C.Counter.spares_itself c.args.bank.now
+
+pub returns-in-Balance-clause-spares : goal.returns-in-Balance-clause-spares
+returns-in-Balance-clause-spares g c = c.read_balance-read.ensures.spares
+
+pub returns-in-Branches-clause-spares : goal.returns-in-Branches-clause-spares
+returns-in-Branches-clause-spares g c = c.read_branches-read.ensures.spares
+
+pub returns-in-Entries-clause-spares : goal.returns-in-Entries-clause-spares
+returns-in-Entries-clause-spares g c = c.read_entries-read.ensures.spares

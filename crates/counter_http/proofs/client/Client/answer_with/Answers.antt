@@ -41,3 +41,11 @@ returns-else-head g c =
       more = λ e. nothing_left _ _ e;
       shows = refl;
     }
+
+-- ---- what is taken out is there
+
+pub move_to_front-requires-clause-order : goal.move_to_front-requires-clause-order
+move_to_front-requires-clause-order g c = c.requires
+
+pub overflow_sub-self : goal.overflow_sub-self
+overflow_sub-self g c = c.requires

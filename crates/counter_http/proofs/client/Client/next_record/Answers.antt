@@ -56,3 +56,56 @@ returns-clause-rests g c = λ none. inr (omega (arith, c.messages.invariant.few)
 
 pub returns-in-Nothing-clause-rests : goal.returns-in-Nothing-clause-rests
 returns-in-Nothing-clause-rests g c = λ none. inl (rw c.in-Nothing.is at c.in_ok-answer_front.ensures.rests)
+
+-- ---- what is given, and what no call touches
+
+pub returns-then-untaken-gt-UNTAKEN-clause-record : goal.returns-then-untaken-gt-UNTAKEN-clause-record
+returns-then-untaken-gt-UNTAKEN-clause-record g c = tt
+
+pub returns-then-untaken-gt-UNTAKEN-clause-rests : goal.returns-then-untaken-gt-UNTAKEN-clause-rests
+returns-then-untaken-gt-UNTAKEN-clause-rests g c =
+    λ none. inl (inr (inl (omega (arith, c.untaken.ensures, c.if-untaken-gt-UNTAKEN.true))))
+
+pub returns-then-untaken-gt-UNTAKEN-clause-spares : goal.returns-then-untaken-gt-UNTAKEN-clause-spares
+returns-then-untaken-gt-UNTAKEN-clause-spares g c = c.messages.invariant.spares
+
+pub returns-in_err-answer_front-clause-record : goal.returns-in_err-answer_front-clause-record
+returns-in_err-answer_front-clause-record g c =
+    let told = err_from_is_err_and c.from_residual.result c.from_residual.ensures.1 in rw told.1 tt
+
+pub returns-in_err-answer_front-clause-rests : goal.returns-in_err-answer_front-clause-rests
+returns-in_err-answer_front-clause-rests g c =
+    let told = err_from_is_err_and c.from_residual.result c.from_residual.ensures.1 in rw told.1 tt
+
+pub returns-in_err-answer_front-clause-spares : goal.returns-in_err-answer_front-clause-spares
+returns-in_err-answer_front-clause-spares g c =
+    g.met.C.Counter.spares_then c.args.bank.now c.messages.bank c.answer_front.new.bank c.messages.invariant.spares
+    c.in_err-answer_front.ensures.spares
+
+pub returns-in-Nothing-clause-record : goal.returns-in-Nothing-clause-record
+returns-in-Nothing-clause-record g c = tt
+
+pub returns-in-Nothing-clause-spares : goal.returns-in-Nothing-clause-spares
+returns-in-Nothing-clause-spares g c =
+    g.met.C.Counter.spares_then c.args.bank.now c.messages.bank c.answer_front.new.bank c.messages.invariant.spares
+    c.in_ok-answer_front.ensures.spares
+
+pub returns-in-Record-clause-record : goal.returns-in-Record-clause-record
+returns-in-Record-clause-record g c = rw c.in-Record.is at c.in_ok-answer_front.ensures.record
+
+pub returns-in-Record-clause-rests : goal.returns-in-Record-clause-rests
+returns-in-Record-clause-rests g c = λ none. cc none
+
+pub returns-in-Record-clause-spares : goal.returns-in-Record-clause-spares
+returns-in-Record-clause-spares g c =
+    g.met.C.Counter.spares_then c.args.bank.now c.messages.bank c.answer_front.new.bank c.messages.invariant.spares
+    c.in_ok-answer_front.ensures.spares
+
+pub returns-clause-answers : goal.returns-clause-answers
+returns-clause-answers g c = answered_as _ c.messages.invariant.answered
+
+pub returns-clause-record : goal.returns-clause-record
+returns-clause-record g c = tt
+
+pub returns-clause-spares : goal.returns-clause-spares
+returns-clause-spares g c = c.messages.invariant.spares
