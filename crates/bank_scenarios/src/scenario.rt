@@ -10,7 +10,6 @@ use sqlite::{Alter, Connection};
 use std::alloc::{Alloc, AllocError, Global};
 
 /// A scenario.
-#[derive(Drop)]
 struct Scenario<S: Alter> {
     alloc: Global,
     place: Place,
@@ -18,6 +17,19 @@ struct Scenario<S: Alter> {
     stored: Stored<S>,
     // The sums over the tables at the last look.
     looked: Option<Look>,
+}
+
+// Written out, so that it is a call where an owner ends.
+impl<S: Alter + Drop> Drop for Scenario<S> {
+    fn drop(self) {
+        let Scenario {
+            alloc: _,
+            place: _,
+            plain: _,
+            stored: _,
+            looked: _,
+        } = self;
+    }
 }
 
 /// Plays a scenario, whose first line says where its bank is: prints that line, and an answer for each step.
