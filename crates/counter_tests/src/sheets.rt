@@ -207,17 +207,26 @@ const SHEETS: [(&[u8], usize, End); 39] = [
     ),
 ];
 
+// Encodes a sheet, with each of the line ends.
+fn is_encoded(rt: &(impl Abort + Alloc<A = Global>), sheet: &[u8], rows: usize, want: &End) {
+    for line_end in &LINE_ENDS {
+        let mut text = Vec::new(rt.alloc());
+        write(&mut text, rows != 1, line_end, sheet).expect(rt, "memory");
+        let (end, records) = encoded(rt, &mut text.as_slice());
+        assert_eq!(rt; end, want.ended());
+        assert_eq!(rt; Some(records.len()), rows.checked_mul(REQUEST_BYTES));
+    }
+}
+
+fn are_encoded(rt: &(impl Abort + Alloc<A = Global>), cases: &[(&[u8], usize, End)]) {
+    for (sheet, rows, want) in cases {
+        is_encoded(rt, sheet, *rows, want);
+    }
+}
+
 #[test]
 fn sheets(rt: HostRuntime) {
-    for (sheet, rows, want) in &SHEETS {
-        for line_end in &LINE_ENDS {
-            let mut text = Vec::new(rt.alloc());
-            write(&mut text, *rows != 1, line_end, sheet).expect(&rt, "memory");
-            let (end, records) = encoded(&rt, &mut text.as_slice());
-            assert_eq!(rt; end, want.ended());
-            assert_eq!(rt; Some(records.len()), rows.checked_mul(REQUEST_BYTES));
-        }
-    }
+    are_encoded(&rt, &SHEETS);
 }
 
 const TWO_ROWS: &[u8] =
