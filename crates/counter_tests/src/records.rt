@@ -128,12 +128,18 @@ fn rent() -> Option<Request> {
 #[test]
 fn requests_with_a_reference(rt: HostRuntime) {
     let rent = rent().expect(&rt, "a request");
-    let mut bytes: [u8; REQUEST_BYTES] = record_of(&rt, RENT);
+    let bytes: [u8; REQUEST_BYTES] = record_of(&rt, RENT);
     assert_eq!(rt; decode_request(&bytes), Ok(rent));
     assert_eq!(rt; encode_request(&rent), bytes);
     // A reply shows the request without it.
     let posted = Reply::new(Outcome::Posted, Some(rent), Cents::new(500));
     belong_together(&rt, POSTED, &posted.expect(&rt, "a reply"));
+}
+
+// A letter behind a reference, then a byte in it that isn't printable, and then a space in the amount.
+#[test]
+fn faults_beside_a_reference(rt: HostRuntime) {
+    let mut bytes: [u8; REQUEST_BYTES] = record_of(&rt, RENT);
     bytes[99] = b'X';
     assert_eq!(rt; decode_request(&bytes), Err(Bad::Filler));
     bytes[51] = 0x7f;
@@ -147,11 +153,11 @@ fn requests_with_a_reference(rt: HostRuntime) {
 fn ends_of_references(rt: HostRuntime) {
     let text = [b' '; 21];
     assert!(rt; Reference::new(&text[..20]).is_some());
-    assert_eq!(rt; Reference::new(&text[..19]), None);
-    assert_eq!(rt; Reference::new(&text), None);
+    assert!(rt; Reference::new(&text[..19]).is_none());
+    assert!(rt; Reference::new(&text).is_none());
     assert!(rt; Reference::new(b"~~~~~~~~~~~~~~~~~~~~").is_some());
-    assert_eq!(rt; Reference::new(b"~~~~~~~~~~~~~~~~~~~\x1f"), None);
-    assert_eq!(rt; Reference::new(b"\x7f~~~~~~~~~~~~~~~~~~~"), None);
+    assert!(rt; Reference::new(b"~~~~~~~~~~~~~~~~~~~\x1f").is_none());
+    assert!(rt; Reference::new(b"\x7f~~~~~~~~~~~~~~~~~~~").is_none());
 }
 
 // The record that begins so and the reply are read and written as one another.

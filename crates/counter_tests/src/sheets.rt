@@ -218,6 +218,7 @@ fn is_encoded(rt: &(impl Abort + Alloc<A = Global>), sheet: &[u8], rows: usize, 
     }
 }
 
+// Each of the sheets.
 fn are_encoded(rt: &(impl Abort + Alloc<A = Global>), cases: &[(&[u8], usize, End)]) {
     for (sheet, rows, want) in cases {
         is_encoded(rt, sheet, *rows, want);
@@ -263,24 +264,34 @@ fn two_records(rt: HostRuntime) {
     }
 }
 
+// The source fails so after this many bytes. It ends so, and there are so many bytes of records.
+fn is_cut(
+    rt: &(impl Abort + Alloc<A = Global>),
+    (before, after): (&[u8], &[u8]),
+    fault: ErrorKind,
+    want: (Result<u64, SheetFault>, usize),
+) {
+    let mut source = CutReader {
+        before,
+        fault: Some(fault),
+        after,
+    };
+    let (end, records) = encoded(rt, &mut source);
+    assert_eq!(rt; (end, records.len()), want);
+}
+
 // The source fails after so many bytes: nothing is written. An interrupted read is made again.
 #[test]
 fn an_unread_sheet(rt: HostRuntime) {
-    for i in 0..TWO_ROWS.len() + 1 {
-        for (fault, want, rows) in [
-            (ErrorKind::BrokenPipe, Err(SheetFault::Read), 0),
-            (ErrorKind::Interrupted, Ok(2), 2),
-        ] {
-            let (before, after) = TWO_ROWS.split_at(i);
-            let mut source = CutReader {
-                before,
-                fault: Some(fault),
-                after,
-            };
-            let (end, records) = encoded(&rt, &mut source);
-            assert_eq!(rt; end, want);
-            assert_eq!(rt; records.len(), rows * REQUEST_BYTES);
-        }
+    for at in 0..TWO_ROWS.len() + 1 {
+        let parts = TWO_ROWS.split_at(at);
+        is_cut(
+            &rt,
+            parts,
+            ErrorKind::BrokenPipe,
+            (Err(SheetFault::Read), 0),
+        );
+        is_cut(&rt, parts, ErrorKind::Interrupted, (Ok(2), 200));
     }
 }
 
@@ -360,6 +371,26 @@ fn replies_in_decimals(rt: HostRuntime) {
     assert_eq!(rt; sheet.as_slice(), DECIMALS);
 }
 
+// These bytes of replies are read, and then the source ends or fails. It ends so, and the whole ones have their lines.
+fn are_read(
+    rt: &(impl Abort + Alloc<A = Global>),
+    before: &[u8],
+    fault: Option<ErrorKind>,
+    want: Result<u64, RepliesFault>,
+) {
+    let mut source = CutReader {
+        before,
+        fault,
+        after: b"",
+    };
+    let (end, sheet) = decoded(rt, &mut source);
+    assert_eq!(rt; end, want);
+    assert_eq!(rt;
+        sheet.as_slice(),
+        lines(rt, before.len() / REPLY_BYTES).as_slice()
+    );
+}
+
 // The input ends, or fails, after so many bytes.
 #[test]
 fn replies_cut_off(rt: HostRuntime) {
@@ -371,19 +402,13 @@ fn replies_cut_off(rt: HostRuntime) {
         } else {
             Err(RepliesFault::Truncated((rest & 0xff) as u8))
         };
-        for (fault, want) in [
-            (None, want),
-            (Some(ErrorKind::Other), Err(RepliesFault::Read)),
-        ] {
-            let mut source = CutReader {
-                before: &replies[..i],
-                fault,
-                after: b"",
-            };
-            let (end, sheet) = decoded(&rt, &mut source);
-            assert_eq!(rt; end, want);
-            assert_eq!(rt; sheet.as_slice(), lines(&rt, count).as_slice());
-        }
+        are_read(&rt, &replies[..i], None, want);
+        are_read(
+            &rt,
+            &replies[..i],
+            Some(ErrorKind::Other),
+            Err(RepliesFault::Read),
+        );
     }
 }
 
@@ -405,6 +430,22 @@ fn replies_unwritten(rt: HostRuntime) {
     }
 }
 
+// The field of a reply in which a byte is.
+fn field_at(byte: usize) -> BadReply {
+    match byte {
+        0..4 => BadReply::Tag,
+        4..6 => BadReply::Outcome,
+        6..18 => BadReply::Account,
+        18..26 => BadReply::Teller,
+        26..32 => BadReply::Branch,
+        32..42 => BadReply::Number,
+        42..53 => BadReply::Delta,
+        53..66 => BadReply::Balance,
+        66..82 => BadReply::Name,
+        _ => BadReply::Filler,
+    }
+}
+
 // Each byte of the second reply in turn is another one: the first line is written, and the fault names the reply.
 #[test]
 fn replies_changed(rt: HostRuntime) {
@@ -415,19 +456,7 @@ fn replies_changed(rt: HostRuntime) {
             replies[at] = b'x';
         }
         let (end, sheet) = decoded(&rt, &mut replies.as_slice());
-        let want = match i {
-            0..4 => BadReply::Tag,
-            4..6 => BadReply::Outcome,
-            6..18 => BadReply::Account,
-            18..26 => BadReply::Teller,
-            26..32 => BadReply::Branch,
-            32..42 => BadReply::Number,
-            42..53 => BadReply::Delta,
-            53..66 => BadReply::Balance,
-            66..82 => BadReply::Name,
-            _ => BadReply::Filler,
-        };
-        assert_eq!(rt; end, Err(RepliesFault::Reply(2, want)));
+        assert_eq!(rt; end, Err(RepliesFault::Reply(2, field_at(i))));
         assert_eq!(rt; sheet.as_slice(), lines(&rt, 1).as_slice());
     }
 }
@@ -447,53 +476,52 @@ const BESIDE: &[u8] = b"outcome,name,account,teller,branch,number,delta,balance,
 90,MALFORMED,,,,,,,3, fee
 ";
 
-#[test]
-fn replies_beside_postings(rt: HostRuntime) {
-    let replies = filled(&rt, &REPLIES, REPLY_BYTES);
+// How the replies beside this sheet of postings end, and their lines.
+fn beside<R: Read>(
+    rt: &(impl Abort + Alloc<A = Global>),
+    postings: &mut R,
+) -> (Result<u64, RepliesFault>, Vec<u8>) {
+    let replies = filled(rt, &REPLIES, REPLY_BYTES);
     let mut sheet: Vec<u8> = Vec::new(rt.alloc());
     let end = decode_beside(
         rt.alloc(),
         Money::Cents,
-        &mut first_lines(POSTINGS, 5),
+        postings,
         &mut replies.as_slice(),
         &mut sheet,
     );
+    (end, sheet)
+}
+
+#[test]
+fn replies_beside_postings(rt: HostRuntime) {
+    let (end, sheet) = beside(&rt, &mut first_lines(POSTINGS, 5));
     assert_eq!(rt; end, Ok(3));
     assert_eq!(rt; sheet.as_slice(), BESIDE);
 }
 
-// The sheet of postings ends, or fails, after so many bytes: a reply whose row isn't there has no line.
+// The sheet of postings fails after so many bytes.
 #[test]
 fn postings_cut_off(rt: HostRuntime) {
-    let replies = filled(&rt, &REPLIES, REPLY_BYTES);
     for i in 0..POSTINGS.len() {
-        let mut sheet: Vec<u8> = Vec::new(rt.alloc());
         let mut source = CutReader {
             before: &POSTINGS[..i],
             fault: Some(ErrorKind::Other),
             after: b"",
         };
-        let end = decode_beside(
-            rt.alloc(),
-            Money::Cents,
-            &mut source,
-            &mut replies.as_slice(),
-            &mut sheet,
-        );
+        let (end, sheet) = beside(&rt, &mut source);
         assert_eq!(rt; end, Err(RepliesFault::Sheet));
         assert!(rt; sheet.is_empty());
     }
-    for (lines, count) in [(1, 0), (2, 1), (3, 2)] {
-        let mut sheet: Vec<u8> = Vec::new(rt.alloc());
-        let end = decode_beside(
-            rt.alloc(),
-            Money::Cents,
-            &mut first_lines(POSTINGS, lines),
-            &mut replies.as_slice(),
-            &mut sheet,
-        );
+}
+
+// It has fewer rows than there are replies: one whose row isn't there has no line.
+#[test]
+fn more_replies_than_postings(rt: HostRuntime) {
+    for lines in 1..4usize {
+        let (end, sheet) = beside(&rt, &mut first_lines(POSTINGS, lines));
         assert_eq!(rt; end, Err(RepliesFault::MoreReplies));
-        assert_eq!(rt; sheet.as_slice(), first_lines(BESIDE, count + 1));
+        assert_eq!(rt; sheet.as_slice(), first_lines(BESIDE, lines));
     }
 }
 
