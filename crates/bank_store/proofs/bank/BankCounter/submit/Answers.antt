@@ -11,7 +11,7 @@ use Rattle.bank_transactions.specs.{Memory.Remembers, declared.memory.Memory.Mem
 use Rattle.posting_rules.specs.believed.{Changes.tables_past_all, Commands.AreCommands, Runs.posts}
 use Rattle.bank_store.specs.believed.Seen.{database_of}
 use Rattle.posting_rules.proofs.Records.{all_replies, posts_all}
-use Rattle.bank_store.proofs.{Causes.still_clean, Countered.of_logs, Countered.takes, bank.BankCounter.submit.Given.Over}
+use Rattle.bank_store.proofs.{Causes.still_clean, Countered.of_logs, Countered.takes}
 use Rattle.bank_store.proofs.OtherTables.{spares_done, spares_down, spares_untouched}
 use Rattle.bank_store.proofs.{Broke.breaks_shown, Either.either_after, Either.untried_records}
 use Rattle.bank_store.proofs.Refusing.{answered_call, breaks, refused_call, transaction_refused, untried_call, Refusal}
@@ -46,22 +46,6 @@ pub post_looked_up-requires-clause-remembers : goal.post_looked_up-requires-clau
 post_looked_up-requires-clause-remembers g c =
     subst (λ (m : Memory). ∥ Remembers g.S.Store c.args.self.now.conn m ∥₁) (sym c.take-memory.ensures.given)
     c.args.self.now.remembers
-
--- what its refusal says
-refused : (g : Over) (c : goal.Joined-memory-5 g)
-    → Refusal g.S.Store c.args.self.now c.go_down.new.self (posts c.args.moment (c.args.bytes.now ∷ []))
-    (IsBrokenOrMet g.S.Store (AddsForRecords (database_of g.S.Store c.args.self.now) (c.args.bytes.now ∷ [])))
-    c.go_down.result
-refused g c =
-    let m = c.args.moment in
-    let rs = c.args.bytes.now ∷ [] in
-    let read : request_of c.args.bytes.now ≡ Ok c.in-Ok.request = search rules in
-    let are : AreCommands (posts m rs) = ((c.range_law.ensures.most, search rules), tt) in
-    transaction_refused g.S.Store c.args.self.now c.go_down.new.self c.post_looked_up.new.conn (of_logs 1)
-    (posts m rs) (posts_all m rs) are c.in-Err.fault c.go_down.result c.go_down.ensures.down
-    c.go_down.ensures.survives
-    (c.in-Err.ensures.undone rs (c.of_one-batch.ensures c.args.bytes.now read)) c.go_down.ensures.undone
-    (c.in-Err.ensures.says rs (c.of_one-batch.ensures c.args.bytes.now read))
 
 pub returns-in-Ok-post_looked_up : goal.returns-in-Ok-post_looked_up
 returns-in-Ok-post_looked_up g c =
@@ -105,10 +89,17 @@ returns-in-Ok-post_looked_up g c =
 
 pub returns-in-Err : goal.returns-in-Err
 returns-in-Err g c =
-    let no = refused g c in
+    let m = c.args.moment in
     let read : request_of c.args.bytes.now ≡ Ok c.in-Ok.request = search rules in
     let rs = c.args.bytes.now ∷ [] in
     let made = c.of_one-batch.ensures c.args.bytes.now read in
+    let are : AreCommands (posts m rs) = ((c.range_law.ensures.most, search rules), tt) in
+    let no : Refusal g.S.Store c.args.self.now c.go_down.new.self (posts m rs)
+    (IsBrokenOrMet g.S.Store (AddsForRecords (database_of g.S.Store c.args.self.now) rs)) c.go_down.result =
+    transaction_refused g.S.Store c.args.self.now c.go_down.new.self c.post_looked_up.new.conn (of_logs 1)
+    (posts m rs) (posts_all m rs) are c.in-Err.fault c.go_down.result c.go_down.ensures.down
+    c.go_down.ensures.survives (c.in-Err.ensures.undone rs made) c.go_down.ensures.undone
+    (c.in-Err.ensures.says rs made) in
     record {
       answer = tt;
       call = refused_call g.S.Store c.args.self.now c.go_down.new.self _ c.go_down.result no
