@@ -115,18 +115,30 @@ fn is_left<S: Alter>(rt: &impl Abort, conn: &mut Connection<S>, case: &Case, par
     assert!(rt; case.may_leave(parts, &found), "behind {parts} parts");
 }
 
+fn do_all<S: Alter>(rt: &impl Abort, conn: &mut Connection<S>, statements: &str) {
+    assert_eq!(rt; batch(conn, statements), Ok(()));
+}
+
+// Makes a bank of an earlier version, and something beside it.
+fn make_earlier<S: Alter>(
+    rt: &impl Abort,
+    conn: &mut Connection<S>,
+    version: Version,
+    beside: &str,
+) {
+    do_all(rt, conn, EARLIER);
+    if version == Version::BeforeReferences {
+        do_all(rt, conn, FLOORS);
+    }
+    do_all(rt, conn, beside);
+}
+
 // What is done with the tables before the bank is taken up.
 fn prepare<S: Alter>(rt: &impl Abort, conn: &mut Connection<S>, task: Task) {
     match task {
         Task::Again(case, parts) => is_left(rt, conn, &case, parts),
         Task::Limited(rows) => conn.set_step_limit(Some(rows)),
-        Task::MakeEarlier(version, beside) => {
-            assert_eq!(rt; batch(conn, EARLIER), Ok(()));
-            if version == Version::BeforeReferences {
-                assert_eq!(rt; batch(conn, FLOORS), Ok(()));
-            }
-            assert_eq!(rt; batch(conn, beside), Ok(()));
-        }
+        Task::MakeEarlier(version, beside) => make_earlier(rt, conn, version, beside),
         _ => {}
     }
 }
