@@ -28,7 +28,7 @@ use Rattle.bank_commands.specs.Following.{FollowsCounted, FollowsFound, LogsOver
 -- ---- a log
 
 by_requests : (fewer : Bool) (fault : CommandFault)
-    → IfOk (let told : Result Status CommandFault = if fewer then Err fault else Ok Done in told)
+    → IfOk (let result : Result Status CommandFault = if fewer then Err fault else Ok Done in result)
     (λ status. status ≡ Done)
 by_requests true fault = tt
 by_requests false fault = refl
@@ -39,10 +39,10 @@ log_done after (Err Write) = tt
 log_done after (Err (OfBank cause)) = tt
 
 pub logs_done : {S : Type 0} (g : Ghosts S) (conn back : Held S) (after : ℕ) (w w' : Option (List ℕ))
-    (told : Result Status CommandFault) → LogsOver g conn back after w w' None None told
-    → IfOk told (λ status. status ≡ Done)
-logs_done g conn back after w w' told (inl none, spares) = rw (err_from_is_err_and told none.0).1 tt
-logs_done g conn back after w w' told (inr works, spares) =
+    (end : Result Status CommandFault) → LogsOver g conn back after w w' None None end
+    → IfOk end (λ status. status ≡ Done)
+logs_done g conn back after w w' end (inl none, spares) = rw (err_from_is_err_and end none.0).1 tt
+logs_done g conn back after w w' end (inr works, spares) =
     rw works.did.1.1 (log_done after works.did.1.0)
 
 -- no call of a bank fails since the output did
@@ -83,9 +83,9 @@ module _ (r r' : Option (List ℕ)) (q q' : Option (List ReadCall)) (w w' : Opti
         by_answer (Bank S g) (bank_seen g) (SparesOtherTables g) (bank_reason g) requests stood new result it.2 it.5
     by_counted (Err cause) stood it = rw it.0 tt
 
-    pub prints_follow : (told : Result Status CommandFault) → told ≡ done_after result
-        → FollowsFound g IsNamed known r r' q q' w w' old new result → PrintsFollow w w' told
-    prints_follow told is it = rw is (by_counted it.counted it.stood it.follows)
+    pub prints_follow : (end : Result Status CommandFault) → end ≡ done_after result
+        → FollowsFound g IsNamed known r r' q q' w w' old new result → PrintsFollow w w' end
+    prints_follow end is it = rw is (by_counted it.counted it.stood it.follows)
 
 -- ---- the tables of other products
 

@@ -18,10 +18,10 @@ module _ {S : Type 0} (g : Ghosts S) (conn : Held S) where
   missed_spares refused missed =
       read_spares g conn conn refused.conn (idle_spares g conn) missed.back.undone missed.survives
 
-  pub refused_spares : {X : Type 0} (back : Held S) (told : Result X CommandFault)
-      → IsErrAnd told (IsRefusedOver (IsMissedOver g conn) back) → SparesWhileOpen g conn back
-  refused_spares back told none =
-      let it = (err_from_is_err_and told none).2 in
+  pub refused_spares : {X : Type 0} (back : Held S) (end : Result X CommandFault)
+      → IsErrAnd end (IsRefusedOver (IsMissedOver g conn) back) → SparesWhileOpen g conn back
+  refused_spares back end none =
+      let it = (err_from_is_err_and end none).2 in
       subst (SparesWhileOpen g conn) (sym it.conn) (missed_spares it.refused it.why)
 
   -- one was found, and what was done with it spared them
@@ -44,17 +44,17 @@ module _ {S : Type 0} (g : Ghosts S) (conn : Held S) where
       shown : HasCleanDisk (file_of last) → database_of g first ≡ (state g conn).now
       shown clean = (found.found.found (omega (arith, spared.left.clean, clean))).there.same.now_is
 
-  module _ {X : Type 0} (back : Held S) (told : Result X CommandFault) {Idle : Type 0}
+  module _ {X : Type 0} (back : Held S) (end : Result X CommandFault) {Idle : Type 0}
       {Did : Bank S g → Bank S g → Type 0} where
     -- none was found
-    pub none_over : IsErrAnd told (IsRefusedOver (IsMissedOver g conn) back) → Idle
-        → FindsOver g conn back told Idle Did
-    none_over none idle = (inl (none, idle), refused_spares back told none)
+    pub none_over : IsErrAnd end (IsRefusedOver (IsMissedOver g conn) back) → Idle
+        → FindsOver g conn back end Idle Did
+    none_over none idle = (inl (none, idle), refused_spares back end none)
 
     -- this one was, and that was done with it
     pub done_over : (first last : Bank S g) → IsFoundOver g conn first → Did first last
         → SparesWhileOpen g (connection_of first) (connection_of last) → back ≡ connection_of last
-        → FindsOver g conn back told Idle Did
+        → FindsOver g conn back end Idle Did
     done_over first last found did spared same = (
       inr record { first = first; last = last; did = (found, did); conn = same },
       found_spares back first last found spared same,

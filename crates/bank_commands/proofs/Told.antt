@@ -48,9 +48,9 @@ use Rattle.bank_commands.proofs.Endings.{input_is_not_usage, system_is_not_usage
 -- ---- over a connection
 
 pub refused_over : {S : Type 0} (Why : Refused S → Type 0) (refused : Refused S) (back : Held S)
-    (told : Result Status CommandFault) → told ≡ Err (fault_of_opening refused.fault) → back ≡ refused.conn
-    → Why refused → IsErrAnd told (IsRefusedOver Why back)
-refused_over Why refused back told is same why = rw is record {
+    (end : Result Status CommandFault) → end ≡ Err (fault_of_opening refused.fault) → back ≡ refused.conn
+    → Why refused → IsErrAnd end (IsRefusedOver Why back)
+refused_over Why refused back end is same why = rw is record {
   refused = refused;
   conn = same;
   reason = refl;
@@ -66,16 +66,16 @@ opening_not_write opening.Foreign is = cc
 opening_not_write (opening.Version n) is = cc
 opening_not_write (opening.Damaged rule) is = cc
 
-pub opening_is_no_write : {Q : Type 0} (f : OpenFault) (told : Result Status CommandFault)
-    → told ≡ Err (fault_of_opening f) → IsErrOf told fault.Write → Q
-opening_is_no_write f told same is =
+pub opening_is_no_write : {Q : Type 0} (f : OpenFault) (end : Result Status CommandFault)
+    → end ≡ Err (fault_of_opening f) → IsErrOf end fault.Write → Q
+opening_is_no_write f end same is =
     let bad : fault_of_opening f ≡ fault.Write = cc (same, is) in
     opening_not_write f bad
 
-pub refused_not_write : {S Q : Type 0} (Why : Refused S → Type 0) (back : Held S) (told : Result Status CommandFault)
-    → IsErrAnd told (IsRefusedOver Why back) → IsErrOf told fault.Write → Q
-refused_not_write Why back told refused is =
-    let f = err_from_is_err_and told refused in
+pub refused_not_write : {S Q : Type 0} (Why : Refused S → Type 0) (back : Held S) (end : Result Status CommandFault)
+    → IsErrAnd end (IsRefusedOver Why back) → IsErrOf end fault.Write → Q
+refused_not_write Why back end refused is =
+    let f = err_from_is_err_and end refused in
     let same : f.0 ≡ fault.Write = cc (is, f.1) in
     opening_not_write f.2.refused.fault (sym f.2.reason ∙ same)
 
@@ -104,28 +104,28 @@ line_told w w' line (Ok done) appends part is = (refl, appends)
 line_told w w' line (Err f) appends part is = (cc, record { count = part.0; within = part.1; wrote = part.2 })
 
 -- the line of a load, of a drive, and of serving
-module _ (w w' : Option (List ℕ)) (told : Result Status CommandFault) where
-  tells_load : (answer : Result Loaded Fault) → TellsLoad (λ end. told ≡ end) w w' answer → PrintsLoad w w' told
+module _ (w w' : Option (List ℕ)) (end : Result Status CommandFault) where
+  tells_load : (answer : Result Loaded Fault) → TellsLoad (λ other. end ≡ other) w w' answer → PrintsLoad w w' end
   tells_load (Ok loaded) (inl done) = rw done.0 (loaded_line loaded, (loaded, refl, refl), done.1)
   tells_load (Ok loaded) (inr part) =
       rw part.0 (inr (refl, status_of_loaded loaded, loaded_line loaded, (loaded, refl, refl), part.1))
   tells_load (Err f) silent = rw silent.0 (inl silent.1)
 
   tells_plan : {C : Type 0} (seen : C → Seen) (reason : Fault → C → C → Type 0) (old new : C)
-      (answer : Result Rows PlanFault) → LoadsAnswer seen reason w w' (λ end. told ≡ end) answer old new
-      → PrintsLoad w w' told
+      (answer : Result Rows PlanFault) → LoadsAnswer seen reason w w' (λ other. end ≡ other) answer old new
+      → PrintsLoad w w' end
   tells_plan seen reason old new (Ok rows) it = tells_load it.0 it.1
   tells_plan seen reason old new (Err f) it = rw it.0.0 (inl it.0.1)
 
   pub prints_load : {C P : Type 0} (seen : C → Seen) (reason : Fault → C → C → Type 0) (IsNamed : P → Type 0)
       (known : P → Option (List ℕ) × Option (List ReadCall)) (old new : C)
-      → LoadsOver seen reason IsNamed known w w' (λ end. told ≡ end) old new → PrintsLoad w w' told
+      → LoadsOver seen reason IsNamed known w w' (λ other. end ≡ other) old new → PrintsLoad w w' end
   prints_load seen reason IsNamed known old new (inl idle) = rw idle.0.2 (inl idle.1)
   prints_load seen reason IsNamed known old new (inr it) = tells_plan seen reason old new it.3.answer it.3.does
 
   tells_drive : {C : Type 0} (seen : C → Seen) (old new : C) (k k' : Option (List ℕ)) (seed count : ℕ)
-      (answer : Result Driven DriveFault) → TellsDrive (λ end. told ≡ end) w w' count answer
-      → Drives seen old new k k' seed count answer → PrintsDrive w w' count told
+      (answer : Result Driven DriveFault) → TellsDrive (λ other. end ≡ other) w w' count answer
+      → Drives seen old new k k' seed count answer → PrintsDrive w w' count end
   tells_drive seen old new k k' seed count (Ok driven) (inl done) did =
       rw done.0 (driven_line count driven, (driven, refl, refl, did.submits.ends.total), done.1)
   tells_drive seen old new k k' seed count (Ok driven) (inr part) did = rw part.0 (inr (
@@ -139,17 +139,17 @@ module _ (w w' : Option (List ℕ)) (told : Result Status CommandFault) where
 
   pub prints_drive : {C : Type 0} (seen : C → Seen) (reason : Fault → C → C → Type 0) (old new : C)
       (k k' : Option (List ℕ)) (seed count : ℕ)
-      → DrivesOver seen reason k k' w w' seed count (λ end. told ≡ end) old new → PrintsDrive w w' count told
+      → DrivesOver seen reason k k' w w' seed count (λ other. end ≡ other) old new → PrintsDrive w w' count end
   prints_drive seen reason old new k k' seed count it = tells_drive seen old new k k' seed count it.0 it.1 it.2
 
   tells_serve : (address : SocketAddr) → Appends w w' (listening_line address)
-      → (answer : Result (Unit {0}) ListenFault) → TellsServing (λ end. told ≡ end) answer → PrintsServe w w' told
+      → (answer : Result (Unit {0}) ListenFault) → TellsServing (λ other. end ≡ other) answer → PrintsServe w w' end
   tells_serve address line (Ok done) ends = rw ends (refl, address, line)
   tells_serve address line (Err f) ends = rw ends (inr (address, inl line))
 
   pub prints_serve : {C : Type 0} (seen : C → Seen) (reason : Fault → C → C → Type 0) (old new : C)
       (k k' : Option (List ℕ)) (count : ℕ)
-      → ServesOver seen reason k k' w w' count (λ end. told ≡ end) old new → PrintsServe w w' told
+      → ServesOver seen reason k k' w w' count (λ other. end ≡ other) old new → PrintsServe w w' end
   prints_serve seen reason old new k k' count (inl none) = rw none.0 (inl none.1)
   prints_serve seen reason old new k k' count (inr (address, inl part)) =
       rw part.0 (inr (address, inr (refl, part.1)))
@@ -172,13 +172,13 @@ ends_post r r' w w' k k' (Err f) it = (tt, λ so. not_of_file f so)
 
 -- where nothing was printed unless a bank was had
 pub prints_none : {S : Type 0} {g : Ghosts S} (Why : Refused S → Type 0) (Did : Bank S g → Bank S g → Type 0)
-    {back : Held S} {Said : Type 0} (w w' : Option (List ℕ)) (told : Result Status CommandFault)
-    → RunsOver g Why back told (w' ≡ w) Did → ((old new : Bank S g) → Did old new → Said)
-    → PrintsNone w w' told Said
-prints_none Why Did w w' told (inl none) said =
-    let f = err_from_is_err_and told none.0 in
+    {back : Held S} {Said : Type 0} (w w' : Option (List ℕ)) (end : Result Status CommandFault)
+    → RunsOver g Why back end (w' ≡ w) Did → ((old new : Bank S g) → Did old new → Said)
+    → PrintsNone w w' end Said
+prints_none Why Did w w' end (inl none) said =
+    let f = err_from_is_err_and end none.0 in
     inl ((f.0, f.1), subst (λ (x : Option (List ℕ)). Keeps w x) (sym none.1) (Keeps-refl w))
-prints_none Why Did w w' told (inr works) said = inr (said works.first works.last works.did)
+prints_none Why Did w w' end (inr works) said = inr (said works.first works.last works.did)
 
 stated_done : (account : ℕ) (stated : Result (Unit {0}) ReportFault)
     → IfOk (stated_by account stated) (λ status. status ≡ Done)
@@ -188,45 +188,45 @@ stated_done account (Err report.Write) = tt
 stated_done account (Err (report.Bank cause)) = tt
 
 query_done : {S : Type 0} (g : Ghosts S) (conn back : Held S) (account : ℕ) (query : Query)
-    (w w' : Option (List ℕ)) (told : Result Status CommandFault)
-    → StatesOver g conn back account query w w' None None told → IfOk told (λ status. status ≡ Done)
-query_done g conn back account query w w' told (inl none, spares) = rw (err_from_is_err_and told none.0).1 tt
-query_done g conn back account query w w' told (inr works, spares) =
+    (w w' : Option (List ℕ)) (end : Result Status CommandFault)
+    → StatesOver g conn back account query w w' None None end → IfOk end (λ status. status ≡ Done)
+query_done g conn back account query w w' end (inl none, spares) = rw (err_from_is_err_and end none.0).1 tt
+query_done g conn back account query w w' end (inr works, spares) =
     rw works.did.1.1 (stated_done account works.did.1.0)
 
 pub states_done : {S : Type 0} (g : Ghosts S) (conn back : Held S) (account : ℕ)
-    (query : Result Query QueryFault) (w w' : Option (List ℕ)) (told : Result Status CommandFault)
-    → StatesAsked g conn back account query w w' None None told → IfOk told (λ status. status ≡ Done)
-states_done g conn back account (Ok query) w w' told states = query_done g conn back account query w w' told states
-states_done g conn back account (Err fault) w w' told states = rw states.0 tt
+    (query : Result Query QueryFault) (w w' : Option (List ℕ)) (end : Result Status CommandFault)
+    → StatesAsked g conn back account query w w' None None end → IfOk end (λ status. status ≡ Done)
+states_done g conn back account (Ok query) w w' end states = query_done g conn back account query w w' end states
+states_done g conn back account (Err fault) w w' end states = rw states.0 tt
 
-all_stated_done : (stated : Result (Unit {0}) ReportFault) (told : Result Status CommandFault)
-    → EndsAllStated stated told → IfOk told (λ status. status ≡ Done)
-all_stated_done (Ok done) told is = rw is refl
-all_stated_done (Err report.NoAccount) told is = absurd is
-all_stated_done (Err report.Write) told is = rw is tt
-all_stated_done (Err (report.Bank cause)) told is = rw is tt
+all_stated_done : (stated : Result (Unit {0}) ReportFault) (end : Result Status CommandFault)
+    → EndsAllStated stated end → IfOk end (λ status. status ≡ Done)
+all_stated_done (Ok done) end is = rw is refl
+all_stated_done (Err report.NoAccount) end is = absurd is
+all_stated_done (Err report.Write) end is = rw is tt
+all_stated_done (Err (report.Bank cause)) end is = rw is tt
 
 all_done : {S : Type 0} (g : Ghosts S) (conn back : Held S) (query : Query)
-    (w w' : Option (List ℕ)) (told : Result Status CommandFault)
-    → StatesAllOver g conn back query w w' None None told → IfOk told (λ status. status ≡ Done)
-all_done g conn back query w w' told (inl none, spares) = rw (err_from_is_err_and told none.0).1 tt
-all_done g conn back query w w' told (inr works, spares) = all_stated_done works.did.1.0 told works.did.1.1
+    (w w' : Option (List ℕ)) (end : Result Status CommandFault)
+    → StatesAllOver g conn back query w w' None None end → IfOk end (λ status. status ≡ Done)
+all_done g conn back query w w' end (inl none, spares) = rw (err_from_is_err_and end none.0).1 tt
+all_done g conn back query w w' end (inr works, spares) = all_stated_done works.did.1.0 end works.did.1.1
 
 pub all_states_done : {S : Type 0} (g : Ghosts S) (conn back : Held S)
-    (query : Result Query QueryFault) (w w' : Option (List ℕ)) (told : Result Status CommandFault)
-    → StatesAllAsked g conn back query w w' None None told → IfOk told (λ status. status ≡ Done)
-all_states_done g conn back (Ok query) w w' told states = all_done g conn back query w w' told states
-all_states_done g conn back (Err fault) w w' told states = rw states.0 tt
+    (query : Result Query QueryFault) (w w' : Option (List ℕ)) (end : Result Status CommandFault)
+    → StatesAllAsked g conn back query w w' None None end → IfOk end (λ status. status ≡ Done)
+all_states_done g conn back (Ok query) w w' end states = all_done g conn back query w w' end states
+all_states_done g conn back (Err fault) w w' end states = rw states.0 tt
 
 -- where a text was written
 pub written_done : {S : Type 0} {g : Ghosts S} (Why : Refused S → Type 0) (Did : Bank S g → Bank S g → Type 0)
-    {back : Held S} {Idle : Type 0} (told : Result Status CommandFault) → RunsOver g Why back told Idle Did
+    {back : Held S} {Idle : Type 0} (end : Result Status CommandFault) → RunsOver g Why back end Idle Did
     → ((old new : Bank S g) → Did old new
-    → (ends : Result (Unit {0}) ReplayFault) × (told ≡ ended_by_writing ends))
-    → IfOk told (λ status. status ≡ Done)
-written_done Why Did told (inl none) ends = rw (err_from_is_err_and told none.0).1 tt
-written_done Why Did told (inr works) ends =
+    → (ends : Result (Unit {0}) ReplayFault) × (end ≡ ended_by_writing ends))
+    → IfOk end (λ status. status ≡ Done)
+written_done Why Did end (inl none) ends = rw (err_from_is_err_and end none.0).1 tt
+written_done Why Did end (inr works) ends =
     let it = ends works.first works.last works.did in
     rw it.1 (by it.0)
   where
@@ -325,7 +325,7 @@ inconsistent_is_not_usage : Inconsistent ≢ Usage
 inconsistent_is_not_usage bad = cc
 
 not_a_fault : {Q : Type 0} (status : Status) (f : CommandFault)
-    → (let told : Result Status CommandFault = Ok status in told) ≡ Err f → Q
+    → (let result : Result Status CommandFault = Ok status in result) ≡ Err f → Q
 not_a_fault status f bad = cc
 
 audited_is_not_usage : (found : Result Audit Fault) (w w' : Option (List ℕ)) (status : Status)
@@ -335,17 +335,17 @@ audited_is_not_usage (Ok found) w w' status printed =
 audited_is_not_usage (Err cause) w w' status printed = not_a_fault status _ printed.0
 
 encoded_is_not_usage : (end : Result ℕ SheetFault) (status : Status)
-    → (let told : Result Status CommandFault = Ok status in told) ≡ ended_by_sheet end → status ≢ Usage
+    → (let result : Result Status CommandFault = Ok status in result) ≡ ended_by_sheet end → status ≢ Usage
 encoded_is_not_usage (Ok count) status is = done_is_not_usage status cc
 encoded_is_not_usage (Err f) status is = not_a_fault status _ is
 
 decoded_is_not_usage : (end : Result ℕ RepliesFault) (status : Status)
-    → (let told : Result Status CommandFault = Ok status in told) ≡ ended_by_replies end → status ≢ Usage
+    → (let result : Result Status CommandFault = Ok status in result) ≡ ended_by_replies end → status ≢ Usage
 decoded_is_not_usage (Ok count) status is = done_is_not_usage status cc
 decoded_is_not_usage (Err f) status is = not_a_fault status _ is
 
 ended_is_not_usage : (by status : Status) (printed : Result (Unit {0}) CommandFault) → by ≢ Usage
-    → (let told : Result Status CommandFault = Ok status in told) ≡ ended_with by printed → status ≢ Usage
+    → (let result : Result Status CommandFault = Ok status in result) ≡ ended_with by printed → status ≢ Usage
 ended_is_not_usage by status (Ok done) free is =
     let same : by ≡ status = cc in
     subst (λ (s : Status). s ≢ Usage) same free
@@ -353,52 +353,52 @@ ended_is_not_usage by status (Err f) free is = not_a_fault status _ is
 
 replayed_is_not_usage : (found : Result Replay Fault) (w w' : Option (List ℕ)) (status : Status)
     → PrintsReplay found w w' None None (Ok status) → status ≢ Usage
-replayed_is_not_usage (Ok (replays.Agrees d)) w w' status told =
-    ended_is_not_usage Done status told.0 (done_is_not_usage Done refl) told.2
-replayed_is_not_usage (Ok (replays.Differs d)) w w' status told =
-    ended_is_not_usage Differs status told.0 differs_is_not_usage told.2
-replayed_is_not_usage (Ok (replays.Otherwise table)) w w' status told =
-    ended_is_not_usage Differs status told.0 differs_is_not_usage told.2
-replayed_is_not_usage (Err cause) w w' status told = not_a_fault status _ told.0
+replayed_is_not_usage (Ok (replays.Agrees d)) w w' status end =
+    ended_is_not_usage Done status end.0 (done_is_not_usage Done refl) end.2
+replayed_is_not_usage (Ok (replays.Differs d)) w w' status end =
+    ended_is_not_usage Differs status end.0 differs_is_not_usage end.2
+replayed_is_not_usage (Ok (replays.Otherwise table)) w w' status end =
+    ended_is_not_usage Differs status end.0 differs_is_not_usage end.2
+replayed_is_not_usage (Err cause) w w' status end = not_a_fault status _ end.0
 
 digested_is_not_usage : (requests : ℕ) (found : Result (Option Digest) Fault) (w w' : Option (List ℕ))
     (status : Status) → PrintsDigest requests found w w' None None (Ok status) → status ≢ Usage
-digested_is_not_usage requests (Ok (Some d)) w w' status told =
-    ended_is_not_usage Done status told.0 (done_is_not_usage Done refl) told.2
-digested_is_not_usage requests (Ok None) w w' status told = not_a_fault status _ told.0
-digested_is_not_usage requests (Err cause) w w' status told = not_a_fault status _ told.0
+digested_is_not_usage requests (Ok (Some d)) w w' status end =
+    ended_is_not_usage Done status end.0 (done_is_not_usage Done refl) end.2
+digested_is_not_usage requests (Ok None) w w' status end = not_a_fault status _ end.0
+digested_is_not_usage requests (Err cause) w w' status end = not_a_fault status _ end.0
 
 pub told_is_not_usage : (c : Command) (r r' w w' : Option (List ℕ)) (status : Status)
     → Tells c r r' w w' (Ok status) → status ≢ Usage
 told_is_not_usage (commands.Init file) r r' w w' status (inl none) = not_a_fault status _ none.0.1
-told_is_not_usage (commands.Init file) r r' w w' status (inr told) = done_is_not_usage status told.0
-told_is_not_usage (commands.Load file plan) r r' w w' status told =
-    one_of_two _ Differs Done status differs_is_not_usage (done_is_not_usage Done refl) told.1.1
-told_is_not_usage (commands.Post file) r r' w w' status told = done_is_not_usage status told.0.0
-told_is_not_usage (commands.Drive file seed count) r r' w w' status told = done_is_not_usage status told.1.1
+told_is_not_usage (commands.Init file) r r' w w' status (inr end) = done_is_not_usage status end.0
+told_is_not_usage (commands.Load file plan) r r' w w' status end =
+    one_of_two _ Differs Done status differs_is_not_usage (done_is_not_usage Done refl) end.1.1
+told_is_not_usage (commands.Post file) r r' w w' status end = done_is_not_usage status end.0.0
+told_is_not_usage (commands.Drive file seed count) r r' w w' status end = done_is_not_usage status end.1.1
 told_is_not_usage (commands.Audit file) r r' w w' status (inl none) = not_a_fault status _ none.0.1
-told_is_not_usage (commands.Audit file) r r' w w' status (inr told) =
-    audited_is_not_usage told.0 w w' status told.1
-told_is_not_usage (commands.Statement file account query) r r' w w' status told = done_is_not_usage status told
-told_is_not_usage (commands.Statements file query) r r' w w' status told = done_is_not_usage status told
+told_is_not_usage (commands.Audit file) r r' w w' status (inr end) =
+    audited_is_not_usage end.0 w w' status end.1
+told_is_not_usage (commands.Statement file account query) r r' w w' status end = done_is_not_usage status end
+told_is_not_usage (commands.Statements file query) r r' w w' status end = done_is_not_usage status end
 told_is_not_usage (commands.Replay file) r r' w w' status (inl none) = not_a_fault status _ none.0.1
-told_is_not_usage (commands.Replay file) r r' w w' status (inr told) =
-    replayed_is_not_usage told.0 w w' status told.1
+told_is_not_usage (commands.Replay file) r r' w w' status (inr end) =
+    replayed_is_not_usage end.0 w w' status end.1
 told_is_not_usage (commands.Digest file requests) r r' w w' status (inl none) = not_a_fault status _ none.0.1
-told_is_not_usage (commands.Digest file requests) r r' w w' status (inr told) =
-    digested_is_not_usage requests told.0 w w' status told.1
-told_is_not_usage (commands.Export file after) r r' w w' status told = done_is_not_usage status told
-told_is_not_usage (commands.Log file after) r r' w w' status told = done_is_not_usage status told
-told_is_not_usage (commands.Follow file plan) r r' w w' status told = done_is_not_usage status told.0
-told_is_not_usage (commands.Plan file) r r' w w' status told = done_is_not_usage status told
-told_is_not_usage (commands.Serve file address connections) r r' w w' status told = done_is_not_usage status told.0
+told_is_not_usage (commands.Digest file requests) r r' w w' status (inr end) =
+    digested_is_not_usage requests end.0 w w' status end.1
+told_is_not_usage (commands.Export file after) r r' w w' status end = done_is_not_usage status end
+told_is_not_usage (commands.Log file after) r r' w w' status end = done_is_not_usage status end
+told_is_not_usage (commands.Follow file plan) r r' w w' status end = done_is_not_usage status end.0
+told_is_not_usage (commands.Plan file) r r' w w' status end = done_is_not_usage status end
+told_is_not_usage (commands.Serve file address connections) r r' w w' status end = done_is_not_usage status end.0
 told_is_not_usage (commands.Migrate file) r r' w w' status (inl none) = not_a_fault status _ none.0.1
-told_is_not_usage (commands.Migrate file) r r' w w' status (inr told) = done_is_not_usage status told.1.0
+told_is_not_usage (commands.Migrate file) r r' w w' status (inr end) = done_is_not_usage status end.1.0
 told_is_not_usage (commands.Why file) r r' w w' status (inl none) = not_a_fault status _ none.0.1
-told_is_not_usage (commands.Why file) r r' w w' status (inr told) = done_is_not_usage status told.0
-told_is_not_usage commands.Encode r r' w w' status told = encoded_is_not_usage told.sheet status told.ended
-told_is_not_usage (commands.Decode money None) r r' w w' status told =
-    decoded_is_not_usage told.replies status told.ended
+told_is_not_usage (commands.Why file) r r' w w' status (inr end) = done_is_not_usage status end.0
+told_is_not_usage commands.Encode r r' w w' status end = encoded_is_not_usage end.sheet status end.ended
+told_is_not_usage (commands.Decode money None) r r' w w' status end =
+    decoded_is_not_usage end.replies status end.ended
 told_is_not_usage (commands.Decode money (Some sheet)) r r' w w' status (inl none) = not_a_fault status _ none.ended
-told_is_not_usage (commands.Decode money (Some sheet)) r r' w w' status (inr told) =
-    decoded_is_not_usage told.replies status told.ended
+told_is_not_usage (commands.Decode money (Some sheet)) r r' w w' status (inr end) =
+    decoded_is_not_usage end.replies status end.ended

@@ -51,11 +51,11 @@ decodes_unnamed result d = record {
 
 -- what is said of a sheet of a name is said of any
 unnamed : (P : Type 0) (money : Money) (IsNamed : P → Type 0) (known : P → Option (List ℕ) × Option (List ReadCall))
-    (r r' w w' : Option (List ℕ)) (told : Result Status CommandFault)
-    → DecodesOver money IsNamed known r r' None None w w' None None told
-    → OpensNoSheet r r' w w' told ⊎ DecodesPostings money None None None None r r' None None w w' None None told
-unnamed P money IsNamed known r r' w w' told (inl none) = inl none
-unnamed P money IsNamed known r r' w w' told (inr d) = inr (record {
+    (r r' w w' : Option (List ℕ)) (end : Result Status CommandFault)
+    → DecodesOver money IsNamed known r r' None None w w' None None end
+    → OpensNoSheet r r' w w' end ⊎ DecodesPostings money None None None None r r' None None w w' None None end
+unnamed P money IsNamed known r r' w w' end (inl none) = inl none
+unnamed P money IsNamed known r r' w w' end (inr d) = inr (record {
   replies = d.3.replies;
   decodes = decodes_unnamed d.3.replies d.3.decodes;
   ends = ends_unnamed d.3.replies (known d.1).0 (known d.0).1 (known d.1).1 r' None None None None d.3.ends;
@@ -64,8 +64,8 @@ unnamed P money IsNamed known r r' w w' told (inr d) = inr (record {
 
 pub tells_decode : (P : Type 0) (money : Money) (name : Option (List ℕ)) (IsNamed : List ℕ → P → Type 0)
     (known : P → Option (List ℕ) × Option (List ReadCall)) (r r' w w' : Option (List ℕ))
-    (told : Result Status CommandFault)
-    → DecodesIn money name IsNamed known r r' None None w w' None None told → TellsDecode money name r r' w w' told
-tells_decode P money None IsNamed known r r' w w' told it = it
-tells_decode P money (Some name) IsNamed known r r' w w' told it =
-    unnamed P money (IsNamed name) known r r' w w' told it
+    (end : Result Status CommandFault)
+    → DecodesIn money name IsNamed known r r' None None w w' None None end → TellsDecode money name r r' w w' end
+tells_decode P money None IsNamed known r r' w w' end it = it
+tells_decode P money (Some name) IsNamed known r r' w w' end it =
+    unnamed P money (IsNamed name) known r r' w w' end it

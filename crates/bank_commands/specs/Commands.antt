@@ -54,8 +54,8 @@ TellsLine w w' line (Err fault) = (fault ≡ faults.Write) × AppendsPart w w' l
 -- a bank was made, and nothing was done with it
 abbrev pub Inits : {S : Type 0} (g : Ghosts S) → (conn back : Held S) → (w w' : Option (List ℕ))
     → Result Status CommandFault → Type 0
-Inits g conn back w w' told = RunsOver g (IsUnmadeOver g conn) back told (w' ≡ w)
-    (λ old new. IsMadeOver g conn old × (new ≡ old) × TellsLine w w' created_line told)
+Inits g conn back w w' end = RunsOver g (IsUnmadeOver g conn) back end (w' ≡ w)
+    (λ old new. IsMadeOver g conn old × (new ≡ old) × TellsLine w w' created_line end)
 
 -- the line that says what was done
 abbrev pub migration_line : Migrated → List ℕ
@@ -65,9 +65,9 @@ migration_line Already = already_line VERSION
 -- a bank was carried over, or was of this version already, and nothing was done with it
 abbrev pub Migrates : {S : Type 0} (g : Ghosts S) → (conn back : Held S) → (w w' : Option (List ℕ))
     → Result Status CommandFault → Type 0
-Migrates g conn back w w' told = RunsOver g (IsUnmovedOver g conn) back told (w' ≡ w)
+Migrates g conn back w w' end = RunsOver g (IsUnmovedOver g conn) back end (w' ≡ w)
     (λ old new. (migrated : Migrated) × IsMigratedOver g conn migrated old × (new ≡ old)
-    × TellsLine w w' (migration_line migrated) told)
+    × TellsLine w w' (migration_line migrated) end)
 
 -- ---- records and branches are added
 
@@ -75,9 +75,9 @@ Migrates g conn back w w' told = RunsOver g (IsUnmovedOver g conn) back told (w'
 abbrev pub Loads : {S P : Type 0} (g : Ghosts S) → (conn back : Held S) → (IsNamed : P → Type 0)
     → (known : P → Option (List ℕ) × Option (List ReadCall)) → (w w' : Option (List ℕ))
     → Result Status CommandFault → Type 0
-Loads g conn back IsNamed known w w' told =
-    FindsOver g conn back told (w' ≡ w)
-    (λ old new. LoadsOver (bank_seen g) (bank_reason g) IsNamed known w w' (λ end. told ≡ end) old new
+Loads g conn back IsNamed known w w' end =
+    FindsOver g conn back end (w' ≡ w)
+    (λ old new. LoadsOver (bank_seen g) (bank_reason g) IsNamed known w w' (λ other. end ≡ other) old new
     × ((bank_seen g new).honest → (bank_seen g old).honest))
 
 -- how a stream ends the command
@@ -89,22 +89,22 @@ abbrev pub Posts : {S : Type 0} (g : Ghosts S) → (conn back : Held S) → (r r
     → (q q' : Option (List ReadCall)) → (b b' : Option (List Beside)) → (w w' : Option (List ℕ))
     → (t t' : Option (List WriteCall))
     → (k k' : Option (List ℕ)) → Result Status CommandFault → Type 0
-Posts g conn back r r' q q' b b' w w' t t' k k' told =
-    FindsOver g conn back told ((r' ≡ r) × (w' ≡ w) × (k' ≡ k))
-    (λ old new. (streamed : Result ℕ StreamFault) × (told ≡ ended_by streamed)
+Posts g conn back r r' q q' b b' w w' t t' k k' end =
+    FindsOver g conn back end ((r' ≡ r) × (w' ≡ w) × (k' ≡ k))
+    (λ old new. (streamed : Result ℕ StreamFault) × (end ≡ ended_by streamed)
     × Streams r r' q q' b b' w w' t t' k k' (bank_seen g) (bank_reason g) old new streamed)
 
 abbrev pub DrivesBank : {S : Type 0} (g : Ghosts S) → (conn back : Held S) → (w w' k k' : Option (List ℕ))
     → (seed count : ℕ) → Result Status CommandFault → Type 0
-DrivesBank g conn back w w' k k' seed count told =
-    FindsOver g conn back told ((w' ≡ w) × (k' ≡ k))
-    (DrivesOver (bank_seen g) (bank_reason g) k k' w w' seed count (λ end. told ≡ end))
+DrivesBank g conn back w w' k k' seed count end =
+    FindsOver g conn back end ((w' ≡ w) × (k' ≡ k))
+    (DrivesOver (bank_seen g) (bank_reason g) k k' w w' seed count (λ other. end ≡ other))
 
 abbrev pub Serves : {S : Type 0} (g : Ghosts S) → (conn back : Held S) → (w w' k k' : Option (List ℕ))
     → (count : ℕ) → Result Status CommandFault → Type 0
-Serves g conn back w w' k k' count told =
-    FindsOver g conn back told ((w' ≡ w) × (k' ≡ k))
-    (ServesOver (bank_seen g) (bank_reason g) k k' w w' count (λ end. told ≡ end))
+Serves g conn back w w' k k' count end =
+    FindsOver g conn back end ((w' ≡ w) × (k' ≡ k))
+    (ServesOver (bank_seen g) (bank_reason g) k k' w w' count (λ other. end ≡ other))
 
 -- ---- reports
 
@@ -119,15 +119,15 @@ pub record AuditsBank {S : Type 0} (g : Ghosts S) (found : Result Audit Fault) (
 
 abbrev pub AuditsOver : {S : Type 0} (g : Ghosts S) → (conn back : Held S) → (w w' : Option (List ℕ))
     → Result Status CommandFault → Type 0
-AuditsOver g conn back w w' told =
-    FindsOver g conn back told (w' ≡ w)
-    (λ old new. (found : Result Audit Fault) × Prints found w w' told × AuditsBank g found old new)
+AuditsOver g conn back w w' end =
+    FindsOver g conn back end (w' ≡ w)
+    (λ old new. (found : Result Audit Fault) × Prints found w w' end × AuditsBank g found old new)
 
 -- a bank was found, and nothing was done with it
 abbrev pub LooksOver : {S : Type 0} (g : Ghosts S) → (conn back : Held S) → (w w' : Option (List ℕ))
     → Result Status CommandFault → Type 0
-LooksOver g conn back w w' told =
-    FindsOver g conn back told (w' ≡ w) (λ old new. (new ≡ old) × TellsLine w w' usable_line told)
+LooksOver g conn back w w' end =
+    FindsOver g conn back end (w' ≡ w) (λ old new. (new ≡ old) × TellsLine w w' usable_line end)
 
 -- how a statement of this account ends the command
 abbrev pub stated_by : ℕ → Result (Unit {0}) ReportFault → Result Status CommandFault
@@ -151,17 +151,17 @@ pub record StatesBank {S : Type 0} (g : Ghosts S) (account : ℕ) (query : Query
 
 abbrev pub StatesOver : {S : Type 0} (g : Ghosts S) → (conn back : Held S) → ℕ → Query → (w w' : Option (List ℕ))
     → (t t' : Option (List WriteCall)) → Result Status CommandFault → Type 0
-StatesOver g conn back account query w w' t t' told =
-    FindsOver g conn back told (w' ≡ w)
-    (λ old new. (stated : Result (Unit {0}) ReportFault) × (told ≡ stated_by account stated)
+StatesOver g conn back account query w w' t t' end =
+    FindsOver g conn back end (w' ≡ w)
+    (λ old new. (stated : Result (Unit {0}) ReportFault) × (end ≡ stated_by account stated)
     × StatesBank g account query w w' t t' stated old new)
 
 -- how the statements of all accounts end it; none misses an account
 abbrev pub EndsAllStated : Result (Unit {0}) ReportFault → Result Status CommandFault → Type 0
-EndsAllStated (Ok done) told = told ≡ Ok Done
-EndsAllStated (Err report.NoAccount) told = ⊥
-EndsAllStated (Err report.Write) told = told ≡ Err faults.Write
-EndsAllStated (Err (report.Bank cause)) told = told ≡ Err (fault_of_bank cause)
+EndsAllStated (Ok done) end = end ≡ Ok Done
+EndsAllStated (Err report.NoAccount) end = ⊥
+EndsAllStated (Err report.Write) end = end ≡ Err faults.Write
+EndsAllStated (Err (report.Bank cause)) end = end ≡ Err (fault_of_bank cause)
 
 -- what is asked for of all accounts of a bank was stated, and of its file, whatever rows that has
 pub record StatesAllOfBank {S : Type 0} (g : Ghosts S) (query : Query) (w w' : Option (List ℕ))
@@ -177,28 +177,28 @@ pub record StatesAllOfBank {S : Type 0} (g : Ghosts S) (query : Query) (w w' : O
 
 abbrev pub StatesAllOver : {S : Type 0} (g : Ghosts S) → (conn back : Held S) → Query → (w w' : Option (List ℕ))
     → (t t' : Option (List WriteCall)) → Result Status CommandFault → Type 0
-StatesAllOver g conn back query w w' t t' told =
-    FindsOver g conn back told (w' ≡ w)
-    (λ old new. (stated : Result (Unit {0}) ReportFault) × EndsAllStated stated told
+StatesAllOver g conn back query w w' t t' end =
+    FindsOver g conn back end (w' ≡ w)
+    (λ old new. (stated : Result (Unit {0}) ReportFault) × EndsAllStated stated end
     × StatesAllOfBank g query w w' t t' stated old new)
 
 -- what was asked for was stated; or it is nothing that can be asked, and nothing was done
 abbrev pub DoesAsked : {S : Type 0} → (conn back : Held S) → (w w' : Option (List ℕ)) → (States : Query → Type 0)
     → Result Query QueryFault → Result Status CommandFault → Type 0
-DoesAsked conn back w w' States (Ok query) told = States query
-DoesAsked conn back w w' States (Err fault) told = (told ≡ Err (faults.Query fault)) × (back ≡ conn) × (w' ≡ w)
+DoesAsked conn back w w' States (Ok query) end = States query
+DoesAsked conn back w w' States (Err fault) end = (end ≡ Err (faults.Query fault)) × (back ≡ conn) × (w' ≡ w)
 
 abbrev pub StatesAsked : {S : Type 0} (g : Ghosts S) → (conn back : Held S) → ℕ
     → Result Query QueryFault → (w w' : Option (List ℕ)) → (t t' : Option (List WriteCall))
     → Result Status CommandFault → Type 0
-StatesAsked g conn back account query w w' t t' told =
-    DoesAsked conn back w w' (λ query. StatesOver g conn back account query w w' t t' told) query told
+StatesAsked g conn back account query w w' t t' end =
+    DoesAsked conn back w w' (λ query. StatesOver g conn back account query w w' t t' end) query end
 
 -- the same of all accounts
 abbrev pub StatesAllAsked : {S : Type 0} (g : Ghosts S) → (conn back : Held S) → Result Query QueryFault
     → (w w' : Option (List ℕ)) → (t t' : Option (List WriteCall)) → Result Status CommandFault → Type 0
-StatesAllAsked g conn back query w w' t t' told =
-    DoesAsked conn back w w' (λ query. StatesAllOver g conn back query w w' t t' told) query told
+StatesAllAsked g conn back query w w' t t' end =
+    DoesAsked conn back w w' (λ query. StatesAllOver g conn back query w w' t t' end) query end
 
 -- ---- how a command ends and what it prints, whatever bank is there
 
@@ -210,13 +210,13 @@ PrintsOne w w' Line (Err fault) = Keeps w w'
     ⊎ ((fault ≡ faults.Write) × (status : Status) × (text : List ℕ) × Line status text × AppendsPart w w' text)
 
 abbrev pub PrintsLoad : (w w' : Option (List ℕ)) → Result Status CommandFault → Type 0
-PrintsLoad w w' told = PrintsOne w w'
-    (λ status text. (loaded : Loaded) × (status ≡ status_of_loaded loaded) × (text ≡ loaded_line loaded)) told
+PrintsLoad w w' end = PrintsOne w w'
+    (λ status text. (loaded : Loaded) × (status ≡ status_of_loaded loaded) × (text ≡ loaded_line loaded)) end
 
 abbrev pub PrintsDrive : (w w' : Option (List ℕ)) → ℕ → Result Status CommandFault → Type 0
-PrintsDrive w w' count told = PrintsOne w w'
+PrintsDrive w w' count end = PrintsOne w w'
     (λ status text. (driven : Driven) × (status ≡ Done) × (text ≡ driven_line count driven)
-    × (driven.posted + driven.refused ≡ count)) told
+    × (driven.posted + driven.refused ≡ count)) end
 
 -- where it listens, before it serves
 abbrev pub PrintsServe : (w w' : Option (List ℕ)) → Result Status CommandFault → Type 0
@@ -227,5 +227,5 @@ PrintsServe w w' (Err fault) = Keeps w w'
 
 -- all input was read, or none where there was no bank
 abbrev pub EndsPost : (r r' w w' : Option (List ℕ)) → Result Status CommandFault → Type 0
-EndsPost r r' w w' told = IfOk told (λ status. (status ≡ Done) × IsAtEnd r')
-    × IfErr told (λ fault. IsOfFile fault → (r' ≡ r) × (w' ≡ w))
+EndsPost r r' w w' end = IfOk end (λ status. (status ≡ Done) × IsAtEnd r')
+    × IfErr end (λ fault. IsOfFile fault → (r' ≡ r) × (w' ≡ w))

@@ -59,9 +59,9 @@ pub record LogsBank {S : Type 0} (g : Ghosts S) (after : ℕ) (w w' : Option (Li
 
 abbrev pub LogsOver : {S : Type 0} (g : Ghosts S) → (conn back : Held S) → ℕ → (w w' : Option (List ℕ))
     → (t t' : Option (List WriteCall)) → Result Status CommandFault → Type 0
-LogsOver g conn back after w w' t t' told =
-    FindsOver g conn back told (w' ≡ w)
-    (λ old new. (ends : Result ℕ ReplayFault) × (told ≡ ended_by_log after ends)
+LogsOver g conn back after w w' t t' end =
+    FindsOver g conn back end (w' ≡ w)
+    (λ old new. (ends : Result ℕ ReplayFault) × (end ≡ ended_by_log after ends)
     × LogsBank g after w w' t t' ends old new)
 
 -- ---- a log is followed
@@ -100,12 +100,12 @@ pub record FollowsFound {S P : Type 0} (g : Ghosts S) (IsNamed : P → Type 0)
 abbrev pub Follows : {S P : Type 0} (g : Ghosts S) → (conn back : Held S) → (IsNamed : P → Type 0)
     → (known : P → Option (List ℕ) × Option (List ReadCall)) → (r r' : Option (List ℕ))
     → (q q' : Option (List ReadCall)) → (w w' : Option (List ℕ)) → Result Status CommandFault → Type 0
-Follows g conn back IsNamed known r r' q q' w w' told =
-    FindsOver g conn back told ((r' ≡ r) × (w' ≡ w))
-    (λ old new. (result : Result (Unit {0}) CommandFault) × (told ≡ done_after result)
+Follows g conn back IsNamed known r r' q q' w w' end =
+    FindsOver g conn back end ((r' ≡ r) × (w' ≡ w))
+    (λ old new. (result : Result (Unit {0}) CommandFault) × (end ≡ done_after result)
     × FollowsFound g IsNamed known r r' q q' w w' old new result)
 
 -- at Ok both lines were printed, whatever bank is there
 abbrev pub PrintsFollow : (w w' : Option (List ℕ)) → Result Status CommandFault → Type 0
-PrintsFollow w w' told = IfOk told (λ status. (status ≡ Done) × (requests : ℕ) × (entries : ℕ)
+PrintsFollow w w' end = IfOk end (λ status. (status ≡ Done) × (requests : ℕ) × (entries : ℕ)
     × Appends w w' (after_line requests ++ followed_line entries))

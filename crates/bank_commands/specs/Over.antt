@@ -93,11 +93,11 @@ pub record WorksOver {S : Type 0} (g : Ghosts S) (Did : Bank S g → Bank S g �
 -- no bank was had, and Idle holds; or one was
 abbrev pub RunsOver : {S X : Type 0} (g : Ghosts S) → (Refused S → Type 0) → Held S → Result X CommandFault
     → (Idle : Type 0) → (Did : Bank S g → Bank S g → Type 0) → Type 0
-RunsOver g Why back told Idle Did = (IsErrAnd told (IsRefusedOver Why back) × Idle) ⊎ WorksOver g Did back
+RunsOver g Why back end Idle Did = (IsErrAnd end (IsRefusedOver Why back) × Idle) ⊎ WorksOver g Did back
 
 -- the same of a command that takes up the bank that is there; however it ends, it spares the tables of other products
 abbrev pub FindsOver : {S X : Type 0} (g : Ghosts S) → (conn back : Held S) → Result X CommandFault
     → (Idle : Type 0) → (Did : Bank S g → Bank S g → Type 0) → Type 0
-FindsOver g conn back told Idle Did =
-    RunsOver g (IsMissedOver g conn) back told Idle (λ old new. IsFoundOver g conn old × Did old new)
+FindsOver g conn back end Idle Did =
+    RunsOver g (IsMissedOver g conn) back end Idle (λ old new. IsFoundOver g conn old × Did old new)
     × SparesWhileOpen g conn back

@@ -48,25 +48,25 @@ ended_with status (Err fault) = Err fault
 -- the lines were printed, and the program ends with this status; or they couldn't be, and it ends with why
 abbrev pub TellsText : Status → List ℕ → (w w' : Option (List ℕ)) → (t t' : Option (List WriteCall))
     → Result Status CommandFault → Type 0
-TellsText status text w w' t t' told =
-    (printed : Result (Unit {0}) CommandFault) × PrintsText text w w' t t' printed × (told ≡ ended_with status printed)
+TellsText status text w w' t t' end =
+    (printed : Result (Unit {0}) CommandFault) × PrintsText text w w' t t' printed × (end ≡ ended_with status printed)
 
 -- nothing was printed, and the program ends with this fault
 abbrev pub TellsFault : CommandFault → (w w' : Option (List ℕ)) → Result Status CommandFault → Type 0
-TellsFault fault w w' told = (told ≡ Err fault) × Keeps w w'
+TellsFault fault w w' end = (end ≡ Err fault) × Keeps w w'
 
 -- ---- a replay
 
 -- the digests and the verdict were printed; or the line of the difference or of the table, and the verdict
 abbrev pub PrintsReplay : Result Replay Fault → (w w' : Option (List ℕ)) → (t t' : Option (List WriteCall))
     → Result Status CommandFault → Type 0
-PrintsReplay (Ok (Agrees a)) w w' t t' told =
-    TellsText statuses.Done (agreeing_lines a.digest.requests a.digest.sha256 a.plan) w w' t t' told
-PrintsReplay (Ok (Differs d)) w w' t t' told =
-    TellsText statuses.Differs (differing_lines (difference_text d)) w w' t t' told
-PrintsReplay (Ok (Otherwise table)) w w' t t' told =
-    TellsText statuses.Differs (differing_lines (other_text table)) w w' t t' told
-PrintsReplay (Err fault) w w' t t' told = TellsFault (fault_of_bank fault) w w' told
+PrintsReplay (Ok (Agrees a)) w w' t t' end =
+    TellsText statuses.Done (agreeing_lines a.digest.requests a.digest.sha256 a.plan) w w' t t' end
+PrintsReplay (Ok (Differs d)) w w' t t' end =
+    TellsText statuses.Differs (differing_lines (difference_text d)) w w' t t' end
+PrintsReplay (Ok (Otherwise table)) w w' t t' end =
+    TellsText statuses.Differs (differing_lines (other_text table)) w w' t t' end
+PrintsReplay (Err fault) w w' t t' end = TellsFault (fault_of_bank fault) w w' end
 
 -- a bank was replayed, whatever rows its file has
 pub record ReplaysBank {S : Type 0} (g : Ghosts S) (found : Result Replay Fault) (old new : Bank S g)
@@ -84,18 +84,18 @@ pub record ReplaysBank {S : Type 0} (g : Ghosts S) (found : Result Replay Fault)
 
 abbrev pub ReplaysOver : {S : Type 0} (g : Ghosts S) → (conn back : Held S) → (w w' : Option (List ℕ))
     → (t t' : Option (List WriteCall)) → Result Status CommandFault → Type 0
-ReplaysOver g conn back w w' t t' told =
-    FindsOver g conn back told (w' ≡ w)
-    (λ old new. (found : Result Replay Fault) × PrintsReplay found w w' t t' told × ReplaysBank g found old new)
+ReplaysOver g conn back w w' t t' end =
+    FindsOver g conn back end (w' ≡ w)
+    (λ old new. (found : Result Replay Fault) × PrintsReplay found w w' t t' end × ReplaysBank g found old new)
 
 -- ---- the digest of the first so many requests
 
 abbrev pub PrintsDigest : ℕ → Result (Option Digest) Fault → (w w' : Option (List ℕ))
     → (t t' : Option (List WriteCall)) → Result Status CommandFault → Type 0
-PrintsDigest requests (Ok (Some d)) w w' t t' told =
-    TellsText statuses.Done (digest_lines d.requests d.sha256) w w' t t' told
-PrintsDigest requests (Ok None) w w' t t' told = TellsFault (faults.NoRequest requests) w w' told
-PrintsDigest requests (Err fault) w w' t t' told = TellsFault (fault_of_bank fault) w w' told
+PrintsDigest requests (Ok (Some d)) w w' t t' end =
+    TellsText statuses.Done (digest_lines d.requests d.sha256) w w' t t' end
+PrintsDigest requests (Ok None) w w' t t' end = TellsFault (faults.NoRequest requests) w w' end
+PrintsDigest requests (Err fault) w w' t t' end = TellsFault (fault_of_bank fault) w w' end
 
 pub record DigestsBank {S : Type 0} (g : Ghosts S) (requests : ℕ) (found : Result (Option Digest) Fault)
     (old new : Bank S g) : Type 0 where
@@ -111,9 +111,9 @@ pub record DigestsBank {S : Type 0} (g : Ghosts S) (requests : ℕ) (found : Res
 
 abbrev pub DigestsOver : {S : Type 0} (g : Ghosts S) → (conn back : Held S) → ℕ → (w w' : Option (List ℕ))
     → (t t' : Option (List WriteCall)) → Result Status CommandFault → Type 0
-DigestsOver g conn back requests w w' t t' told =
-    FindsOver g conn back told (w' ≡ w)
-    (λ old new. (found : Result (Option Digest) Fault) × PrintsDigest requests found w w' t t' told
+DigestsOver g conn back requests w w' t t' end =
+    FindsOver g conn back end (w' ≡ w)
+    (λ old new. (found : Result (Option Digest) Fault) × PrintsDigest requests found w w' t t' end
     × DigestsBank g requests found old new)
 
 -- ---- records, and a plan
@@ -139,9 +139,9 @@ pub record ExportsBank {S : Type 0} (g : Ghosts S) (after : ℕ) (w w' : Option 
 
 abbrev pub ExportsOver : {S : Type 0} (g : Ghosts S) → (conn back : Held S) → ℕ → (w w' : Option (List ℕ))
     → (t t' : Option (List WriteCall)) → Result Status CommandFault → Type 0
-ExportsOver g conn back after w w' t t' told =
-    FindsOver g conn back told (w' ≡ w)
-    (λ old new. (ends : Result (Unit {0}) ReplayFault) × (told ≡ ended_by_writing ends)
+ExportsOver g conn back after w w' t t' end =
+    FindsOver g conn back end (w' ≡ w)
+    (λ old new. (ends : Result (Unit {0}) ReplayFault) × (end ≡ ended_by_writing ends)
     × ExportsBank g after w w' t t' ends old new)
 
 -- the branches were written as a plan, whatever rows the file has
@@ -160,7 +160,7 @@ pub record PlansBank {S : Type 0} (g : Ghosts S) (w w' : Option (List ℕ)) (t t
 
 abbrev pub PlansOver : {S : Type 0} (g : Ghosts S) → (conn back : Held S) → (w w' : Option (List ℕ))
     → (t t' : Option (List WriteCall)) → Result Status CommandFault → Type 0
-PlansOver g conn back w w' t t' told =
-    FindsOver g conn back told (w' ≡ w)
-    (λ old new. (ends : Result (Unit {0}) ReplayFault) × (told ≡ ended_by_writing ends)
+PlansOver g conn back w w' t t' end =
+    FindsOver g conn back end (w' ≡ w)
+    (λ old new. (ends : Result (Unit {0}) ReplayFault) × (end ≡ ended_by_writing ends)
     × PlansBank g w w' t t' ends old new)

@@ -54,76 +54,76 @@ ALL_THAT_COME = 18_446_744_073_709_551_615
 abbrev pub DoesOver : {S P : Type 0} (g : Ghosts S) → (conn back : Held S) → (IsNamed : List ℕ → P → Type 0)
     → (known : P → Option (List ℕ) × Option (List ReadCall)) → (r r' w w' k k' : Option (List ℕ))
     → Command → Result Status CommandFault → Type 0
-DoesOver g conn back IsNamed known r r' w w' k k' (commands.Init file) told = Inits g conn back w w' told
-DoesOver g conn back IsNamed known r r' w w' k k' (commands.Load file plan) told =
-    Loads g conn back (IsNamed plan.now) known w w' told
-DoesOver g conn back IsNamed known r r' w w' k k' (commands.Post file) told =
-    Posts g conn back r r' None None None None w w' None None k k' told
-DoesOver g conn back IsNamed known r r' w w' k k' (commands.Drive file seed count) told =
-    DrivesBank g conn back w w' k k' seed count told
-DoesOver g conn back IsNamed known r r' w w' k k' (commands.Audit file) told = AuditsOver g conn back w w' told
-DoesOver g conn back IsNamed known r r' w w' k k' (commands.Statement file account query) told =
-    StatesAsked g conn back account query w w' None None told
-DoesOver g conn back IsNamed known r r' w w' k k' (commands.Statements file query) told =
-    StatesAllAsked g conn back query w w' None None told
-DoesOver g conn back IsNamed known r r' w w' k k' (commands.Serve file address connections) told =
-    Serves g conn back w w' k k' (unwrap_or connections ALL_THAT_COME) told
-DoesOver g conn back IsNamed known r r' w w' k k' (commands.Replay file) told =
-    ReplaysOver g conn back w w' None None told
-DoesOver g conn back IsNamed known r r' w w' k k' (commands.Digest file requests) told =
-    DigestsOver g conn back requests w w' None None told
-DoesOver g conn back IsNamed known r r' w w' k k' (commands.Export file after) told =
-    ExportsOver g conn back after w w' None None told
-DoesOver g conn back IsNamed known r r' w w' k k' (commands.Log file after) told =
-    LogsOver g conn back after w w' None None told
-DoesOver g conn back IsNamed known r r' w w' k k' (commands.Follow file plan) told =
-    Follows g conn back (IsNamed plan.now) known r r' None None w w' told
-DoesOver g conn back IsNamed known r r' w w' k k' (commands.Plan file) told =
-    PlansOver g conn back w w' None None told
-DoesOver g conn back IsNamed known r r' w w' k k' (commands.Migrate file) told = Migrates g conn back w w' told
-DoesOver g conn back IsNamed known r r' w w' k k' (commands.Why file) told = LooksOver g conn back w w' told
-DoesOver g conn back IsNamed known r r' w w' k k' commands.Encode told =
-    (back ≡ conn) × EncodesSheet r r' None None w w' None None told
-DoesOver g conn back IsNamed known r r' w w' k k' (commands.Decode money sheet) told =
+DoesOver g conn back IsNamed known r r' w w' k k' (commands.Init file) end = Inits g conn back w w' end
+DoesOver g conn back IsNamed known r r' w w' k k' (commands.Load file plan) end =
+    Loads g conn back (IsNamed plan.now) known w w' end
+DoesOver g conn back IsNamed known r r' w w' k k' (commands.Post file) end =
+    Posts g conn back r r' None None None None w w' None None k k' end
+DoesOver g conn back IsNamed known r r' w w' k k' (commands.Drive file seed count) end =
+    DrivesBank g conn back w w' k k' seed count end
+DoesOver g conn back IsNamed known r r' w w' k k' (commands.Audit file) end = AuditsOver g conn back w w' end
+DoesOver g conn back IsNamed known r r' w w' k k' (commands.Statement file account query) end =
+    StatesAsked g conn back account query w w' None None end
+DoesOver g conn back IsNamed known r r' w w' k k' (commands.Statements file query) end =
+    StatesAllAsked g conn back query w w' None None end
+DoesOver g conn back IsNamed known r r' w w' k k' (commands.Serve file address connections) end =
+    Serves g conn back w w' k k' (unwrap_or connections ALL_THAT_COME) end
+DoesOver g conn back IsNamed known r r' w w' k k' (commands.Replay file) end =
+    ReplaysOver g conn back w w' None None end
+DoesOver g conn back IsNamed known r r' w w' k k' (commands.Digest file requests) end =
+    DigestsOver g conn back requests w w' None None end
+DoesOver g conn back IsNamed known r r' w w' k k' (commands.Export file after) end =
+    ExportsOver g conn back after w w' None None end
+DoesOver g conn back IsNamed known r r' w w' k k' (commands.Log file after) end =
+    LogsOver g conn back after w w' None None end
+DoesOver g conn back IsNamed known r r' w w' k k' (commands.Follow file plan) end =
+    Follows g conn back (IsNamed plan.now) known r r' None None w w' end
+DoesOver g conn back IsNamed known r r' w w' k k' (commands.Plan file) end =
+    PlansOver g conn back w w' None None end
+DoesOver g conn back IsNamed known r r' w w' k k' (commands.Migrate file) end = Migrates g conn back w w' end
+DoesOver g conn back IsNamed known r r' w w' k k' (commands.Why file) end = LooksOver g conn back w w' end
+DoesOver g conn back IsNamed known r r' w w' k k' commands.Encode end =
+    (back ≡ conn) × EncodesSheet r r' None None w w' None None end
+DoesOver g conn back IsNamed known r r' w w' k k' (commands.Decode money sheet) end =
     (back ≡ conn)
-    × DecodesIn money (option_map (λ s. s.now) sheet) IsNamed known r r' None None w w' None None told
+    × DecodesIn money (option_map (λ s. s.now) sheet) IsNamed known r r' None None w w' None None end
 
 -- ---- how it ends and what it prints, whatever bank is there; the text of `post`, `statement`, `statements`, `export`,
 -- `log` and `plan` is the bank's
 
 -- it told a fault and printed nothing; or else Said holds
 abbrev pub PrintsNone : (w w' : Option (List ℕ)) → Result Status CommandFault → (Said : Type 0) → Type 0
-PrintsNone w w' told Said = (((fault : CommandFault) × (told ≡ Err fault)) × Keeps w w') ⊎ Said
+PrintsNone w w' end Said = (((fault : CommandFault) × (end ≡ Err fault)) × Keeps w w') ⊎ Said
 
 -- replies were decoded, without a sheet of postings or beside one, whatever that was
 abbrev pub TellsDecode : Money → Option (List ℕ) → (r r' w w' : Option (List ℕ)) → Result Status CommandFault → Type 0
-TellsDecode money None r r' w w' told = DecodesReplies money r r' None None w w' None None told
-TellsDecode money (Some name) r r' w w' told =
-    OpensNoSheet r r' w w' told ⊎ DecodesPostings money None None None None r r' None None w w' None None told
+TellsDecode money None r r' w w' end = DecodesReplies money r r' None None w w' None None end
+TellsDecode money (Some name) r r' w w' end =
+    OpensNoSheet r r' w w' end ⊎ DecodesPostings money None None None None r r' None None w w' None None end
 
 abbrev pub Tells : Command → (r r' w w' : Option (List ℕ)) → Result Status CommandFault → Type 0
-Tells (commands.Init file) r r' w w' told = PrintsNone w w' told (TellsLine w w' created_line told)
-Tells (commands.Load file plan) r r' w w' told = PrintsLoad w w' told
-Tells (commands.Post file) r r' w w' told = EndsPost r r' w w' told
-Tells (commands.Drive file seed count) r r' w w' told = PrintsDrive w w' count told
-Tells (commands.Audit file) r r' w w' told =
-    PrintsNone w w' told ((found : Result Audit Fault) × Prints found w w' told)
-Tells (commands.Statement file account query) r r' w w' told = IfOk told (λ status. status ≡ Done)
-Tells (commands.Statements file query) r r' w w' told = IfOk told (λ status. status ≡ Done)
-Tells (commands.Replay file) r r' w w' told =
-    PrintsNone w w' told ((found : Result Replay Fault) × PrintsReplay found w w' None None told)
-Tells (commands.Digest file requests) r r' w w' told =
-    PrintsNone w w' told ((found : Result (Option Digest) Fault) × PrintsDigest requests found w w' None None told)
-Tells (commands.Export file after) r r' w w' told = IfOk told (λ status. status ≡ Done)
-Tells (commands.Log file after) r r' w w' told = IfOk told (λ status. status ≡ Done)
-Tells (commands.Follow file plan) r r' w w' told = PrintsFollow w w' told
-Tells (commands.Plan file) r r' w w' told = IfOk told (λ status. status ≡ Done)
-Tells (commands.Serve file address connections) r r' w w' told = PrintsServe w w' told
-Tells (commands.Migrate file) r r' w w' told =
-    PrintsNone w w' told ((migrated : Migrated) × TellsLine w w' (migration_line migrated) told)
-Tells (commands.Why file) r r' w w' told = PrintsNone w w' told (TellsLine w w' usable_line told)
-Tells commands.Encode r r' w w' told = EncodesSheet r r' None None w w' None None told
-Tells (commands.Decode money sheet) r r' w w' told = TellsDecode money (option_map (λ s. s.now) sheet) r r' w w' told
+Tells (commands.Init file) r r' w w' end = PrintsNone w w' end (TellsLine w w' created_line end)
+Tells (commands.Load file plan) r r' w w' end = PrintsLoad w w' end
+Tells (commands.Post file) r r' w w' end = EndsPost r r' w w' end
+Tells (commands.Drive file seed count) r r' w w' end = PrintsDrive w w' count end
+Tells (commands.Audit file) r r' w w' end =
+    PrintsNone w w' end ((found : Result Audit Fault) × Prints found w w' end)
+Tells (commands.Statement file account query) r r' w w' end = IfOk end (λ status. status ≡ Done)
+Tells (commands.Statements file query) r r' w w' end = IfOk end (λ status. status ≡ Done)
+Tells (commands.Replay file) r r' w w' end =
+    PrintsNone w w' end ((found : Result Replay Fault) × PrintsReplay found w w' None None end)
+Tells (commands.Digest file requests) r r' w w' end =
+    PrintsNone w w' end ((found : Result (Option Digest) Fault) × PrintsDigest requests found w w' None None end)
+Tells (commands.Export file after) r r' w w' end = IfOk end (λ status. status ≡ Done)
+Tells (commands.Log file after) r r' w w' end = IfOk end (λ status. status ≡ Done)
+Tells (commands.Follow file plan) r r' w w' end = PrintsFollow w w' end
+Tells (commands.Plan file) r r' w w' end = IfOk end (λ status. status ≡ Done)
+Tells (commands.Serve file address connections) r r' w w' end = PrintsServe w w' end
+Tells (commands.Migrate file) r r' w w' end =
+    PrintsNone w w' end ((migrated : Migrated) × TellsLine w w' (migration_line migrated) end)
+Tells (commands.Why file) r r' w w' end = PrintsNone w w' end (TellsLine w w' usable_line end)
+Tells commands.Encode r r' w w' end = EncodesSheet r r' None None w w' None None end
+Tells (commands.Decode money sheet) r r' w w' end = TellsDecode money (option_map (λ s. s.now) sheet) r r' w w' end
 
 -- ---- what it leaves alone
 
@@ -163,13 +163,13 @@ pub record RunsRead (words : List Text) (typed : Bool) (r r' w w' e e' k k' : Op
     (status : Status) : Type 0 where
   pub command : Command
   pub read : IsReadFrom words command
-  pub told : Result Status CommandFault
-  pub tells : Tells command r r' w w' told
+  pub end : Result Status CommandFault
+  pub tells : Tells command r r' w w' end
   pub input : LeavesInput command r r'
   pub clock : LeavesClock command k k'
-  pub ends : status ≡ status_after told
+  pub ends : status ≡ status_after end
   -- what it waits for is told only where the input is typed
-  pub said : Says e e' (prompt_line typed command) told
+  pub said : Says e e' (prompt_line typed command) end
 
 -- or there was no memory to read them, and nothing was read, printed or asked
 abbrev pub Runs : List Text → (typed : Bool) → (r r' w w' e e' k k' : Option (List ℕ)) → Status → Type 0

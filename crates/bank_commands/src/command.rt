@@ -47,9 +47,9 @@ pub fn command_over<
     ensures does { DoesOver S.Store conn result.conn (P.is_named plans.now)
         (known_source P.Plan.remaining P.Plan.calls) (R.remaining input.old) (R.remaining input.new)
         (W.contents output.old) (W.contents output.new) (K.readings clock.old) (K.readings clock.new)
-        command.now result.told }
+        command.now result.end }
     ensures tells { Tells command.now (R.remaining input.old) (R.remaining input.new)
-        (W.contents output.old) (W.contents output.new) result.told }
+        (W.contents output.old) (W.contents output.new) result.end }
     ensures input { LeavesInput command.now (R.remaining input.old) (R.remaining input.new) }
     ensures clock { LeavesClock command.now (K.readings clock.old) (K.readings clock.new) }
     ensures idle { result.conn.in_transaction ≡ false }
@@ -85,11 +85,11 @@ pub fn command_over<
         Command::Migrate { .. } => migrate_over(alloc, conn, output),
         Command::Why { .. } => why_over(alloc, conn, output),
         Command::Encode => Ended {
-            told: translate_sheet(alloc, input, output),
+            end: translate_sheet(alloc, input, output),
             conn,
         },
         Command::Decode { money, sheet } => Ended {
-            told: translate_replies(alloc, money, plans, sheet, input, output),
+            end: translate_replies(alloc, money, plans, sheet, input, output),
             conn,
         },
     }

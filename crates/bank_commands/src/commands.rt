@@ -23,8 +23,8 @@ pub fn init_over<S: Alter + Drop, W: Sink>(
     output: &mut W,
 ) -> Ended<S>
     requires { conn.in_transaction ≡ false }
-    ensures inits { Inits S.Store conn result.conn (W.contents output.old) (W.contents output.new) result.told }
-    ensures unprinted { IsErrOf result.told CommandFault.Write
+    ensures inits { Inits S.Store conn result.conn (W.contents output.old) (W.contents output.new) result.end }
+    ensures unprinted { IsErrOf result.end CommandFault.Write
         → HasWriteFailed (W.calls output.old) (W.calls output.new) }
     ensures idle { result.conn.in_transaction ≡ false }
 {
@@ -32,9 +32,9 @@ pub fn init_over<S: Alter + Drop, W: Sink>(
         Ok(bank) => bank,
         Err(refused) => return refuse(refused),
     };
-    let told = done(print_created(output));
+    let end = done(print_created(output));
     Ended {
-        told,
+        end,
         conn: bank.release(),
     }
 }
@@ -49,9 +49,9 @@ pub fn load_over<S: Alter + Drop, P: Plans, W: Sink>(
 ) -> Ended<S>
     requires { conn.in_transaction ≡ false }
     ensures loads { Loads S.Store conn result.conn (P.is_named plans.now plan.now)
-        (known_source P.Plan.remaining P.Plan.calls) (W.contents output.old) (W.contents output.new) result.told }
-    ensures prints { PrintsLoad (W.contents output.old) (W.contents output.new) result.told }
-    ensures unprinted { IsErrOf result.told CommandFault.Write
+        (known_source P.Plan.remaining P.Plan.calls) (W.contents output.old) (W.contents output.new) result.end }
+    ensures prints { PrintsLoad (W.contents output.old) (W.contents output.new) result.end }
+    ensures unprinted { IsErrOf result.end CommandFault.Write
         → HasWriteFailed (W.calls output.old) (W.calls output.new) }
     ensures idle { result.conn.in_transaction ≡ false }
 {
@@ -59,9 +59,9 @@ pub fn load_over<S: Alter + Drop, P: Plans, W: Sink>(
         Ok(bank) => bank,
         Err(ended) => return ended,
     };
-    let told = loaded(load_into(alloc, plans, plan, &mut bank, output));
+    let end = loaded(load_into(alloc, plans, plan, &mut bank, output));
     Ended {
-        told,
+        end,
         conn: bank.release(),
     }
 }
@@ -78,18 +78,18 @@ pub fn post_over<S: Alter + Drop, R: Source, W: Sink, K: Clock>(
     ensures posts { Posts S.Store conn result.conn (R.remaining input.old) (R.remaining input.new)
         (R.calls input.old) (R.calls input.new) (R.beside input.old) (R.beside input.new)
         (W.contents output.old) (W.contents output.new)
-        (W.calls output.old) (W.calls output.new) (K.readings clock.old) (K.readings clock.new) result.told }
+        (W.calls output.old) (W.calls output.new) (K.readings clock.old) (K.readings clock.new) result.end }
     ensures ends { EndsPost (R.remaining input.old) (R.remaining input.new) (W.contents output.old)
-        (W.contents output.new) result.told }
+        (W.contents output.new) result.end }
     ensures idle { result.conn.in_transaction ≡ false }
 {
     let mut bank = match find(alloc, conn) {
         Ok(bank) => bank,
         Err(ended) => return ended,
     };
-    let told = posted(post_stream(input, output, clock, &mut bank));
+    let end = posted(post_stream(input, output, clock, &mut bank));
     Ended {
-        told,
+        end,
         conn: bank.release(),
     }
 }
@@ -108,9 +108,9 @@ pub fn drive_over<S: Alter + Drop, W: Sink, K: Clock>(
     requires some { 1 ≤ count }
     requires few { count ≤ MAX_DRIVEN }
     ensures drives { DrivesBank S.Store conn result.conn (W.contents output.old) (W.contents output.new)
-        (K.readings clock.old) (K.readings clock.new) seed count result.told }
-    ensures prints { PrintsDrive (W.contents output.old) (W.contents output.new) count result.told }
-    ensures unprinted { IsErrOf result.told CommandFault.Write
+        (K.readings clock.old) (K.readings clock.new) seed count result.end }
+    ensures prints { PrintsDrive (W.contents output.old) (W.contents output.new) count result.end }
+    ensures unprinted { IsErrOf result.end CommandFault.Write
         → HasWriteFailed (W.calls output.old) (W.calls output.new) }
     ensures idle { result.conn.in_transaction ≡ false }
 {
@@ -118,38 +118,38 @@ pub fn drive_over<S: Alter + Drop, W: Sink, K: Clock>(
         Ok(bank) => bank,
         Err(ended) => return ended,
     };
-    let told = done(drive_into(alloc, &mut bank, seed, count, output, clock));
+    let end = done(drive_into(alloc, &mut bank, seed, count, output, clock));
     Ended {
-        told,
+        end,
         conn: bank.release(),
     }
 }
 
 /// How the program ends after a work that has no status of its own.
-pub(crate) fn done(told: Result<(), CommandFault>) -> Result<Status, CommandFault>
-    ensures { result ≡ done_after told }
+pub(crate) fn done(end: Result<(), CommandFault>) -> Result<Status, CommandFault>
+    ensures { result ≡ done_after end }
 {
-    match told {
+    match end {
         Ok(()) => Ok(Status::Done),
         Err(fault) => Err(fault),
     }
 }
 
 // How it ends after a plan was loaded.
-fn loaded(told: Result<Loaded, CommandFault>) -> Result<Status, CommandFault>
-    ensures { result ≡ ended_by_load told }
+fn loaded(end: Result<Loaded, CommandFault>) -> Result<Status, CommandFault>
+    ensures { result ≡ ended_by_load end }
 {
-    match told {
+    match end {
         Ok(loaded) => Ok(Status::from(loaded)),
         Err(fault) => Err(fault),
     }
 }
 
 // How it ends after a stream of records.
-fn posted(told: Result<Count, StreamFault>) -> Result<Status, CommandFault>
-    ensures { result ≡ ended_by told }
+fn posted(end: Result<Count, StreamFault>) -> Result<Status, CommandFault>
+    ensures { result ≡ ended_by end }
 {
-    match told {
+    match end {
         Ok(_) => Ok(Status::Done),
         Err(fault) => Err(CommandFault::from(fault)),
     }

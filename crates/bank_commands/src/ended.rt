@@ -13,7 +13,7 @@ use std::alloc::Global;
 #[derive(Drop)]
 pub struct Ended<S: Alter + Drop> {
     /// The status that the program ends with, or why the command didn't do its work.
-    pub told: Result<Status, CommandFault>,
+    pub end: Result<Status, CommandFault>,
     /// The connection, outside a transaction.
     pub conn: Connection<S>,
 }
@@ -23,7 +23,7 @@ pub(crate) fn find<S: Alter + Drop>(alloc: Global, conn: Connection<S>) -> Resul
     requires { conn.in_transaction ≡ false }
     ensures found { IfOk result (IsFoundOver S.Store conn) }
     ensures missed { IfErr result
-        (λ ended. IsErrAnd ended.told (IsRefusedOver (IsMissedOver S.Store conn) ended.conn)) }
+        (λ ended. IsErrAnd ended.end (IsRefusedOver (IsMissedOver S.Store conn) ended.conn)) }
     ensures idle { IfErr result (λ ended. ended.conn.in_transaction ≡ false) }
 {
     match adopt(alloc, conn) {
@@ -34,12 +34,12 @@ pub(crate) fn find<S: Alter + Drop>(alloc: Global, conn: Connection<S>) -> Resul
 
 /// The end of a command that has no bank.
 pub(crate) fn refuse<S: Alter + Drop>(refused: Refused<S>) -> Ended<S>
-    ensures told { result.told ≡ Err (fault_of_opening refused.fault) }
+    ensures end { result.end ≡ Err (fault_of_opening refused.fault) }
     ensures conn { result.conn ≡ refused.conn }
 {
     let Refused { fault, conn } = refused;
     Ended {
-        told: Err(CommandFault::from(fault)),
+        end: Err(CommandFault::from(fault)),
         conn,
     }
 }

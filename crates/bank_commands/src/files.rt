@@ -115,7 +115,7 @@ pub(crate) fn command_in<S: Start, R: Read, W: Write, K: Clock>(
     };
     tell_opened(rt, command, file, &mut conn, begun);
     let watch = Progress::new(rt.stderr(), rt.stderr().is_terminal(), SystemClock::new(rt));
-    let Ended { told, conn } = command_over(
+    let Ended { end, conn } = command_over(
         rt.alloc(),
         conn,
         command,
@@ -127,7 +127,7 @@ pub(crate) fn command_in<S: Start, R: Read, W: Write, K: Clock>(
         clock,
     );
     close(conn, &notes.is_full);
-    told
+    end
 }
 
 // The connection to a file; none where it can't be opened, with a note if the disk is full.
@@ -167,7 +167,7 @@ fn why_in<W: Write>(rt: &HostRuntime, file: &str, output: &mut W) -> Result<Stat
     let Ok(conn) = look_into(rt, file) else {
         return Err(CommandFault::Store);
     };
-    why_over(rt.alloc(), conn, output).told
+    why_over(rt.alloc(), conn, output).end
 }
 
 // Looks whether a bank can be in the file: it holds more than a byte, or there is a log beside it that holds

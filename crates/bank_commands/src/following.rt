@@ -26,16 +26,16 @@ pub fn log_over<S: Alter + Drop, W: Sink>(
 ) -> Ended<S>
     requires { conn.in_transaction ≡ false }
     ensures logs { LogsOver S.Store conn result.conn after (W.contents output.old) (W.contents output.new)
-        (W.calls output.old) (W.calls output.new) result.told }
+        (W.calls output.old) (W.calls output.new) result.end }
     ensures idle { result.conn.in_transaction ≡ false }
 {
     let mut bank = match find(alloc, conn) {
         Ok(bank) => bank,
         Err(ended) => return ended,
     };
-    let told = logged(after, write_log(&mut bank, after, output));
+    let end = logged(after, write_log(&mut bank, after, output));
     Ended {
-        told,
+        end,
         conn: bank.release(),
     }
 }
@@ -54,9 +54,9 @@ pub fn follow_over<S: Alter + Drop, P: Plans, R: Source, W: Sink, V: Watch + Fol
     requires { conn.in_transaction ≡ false }
     ensures follows { Follows S.Store conn result.conn (P.is_named plans.now plan.now)
         (known_source P.Plan.remaining P.Plan.calls) (R.remaining input.old) (R.remaining input.new)
-        (R.calls input.old) (R.calls input.new) (W.contents output.old) (W.contents output.new) result.told }
-    ensures prints { PrintsFollow (W.contents output.old) (W.contents output.new) result.told }
-    ensures unprinted { IsErrOf result.told CommandFault.Write
+        (R.calls input.old) (R.calls input.new) (W.contents output.old) (W.contents output.new) result.end }
+    ensures prints { PrintsFollow (W.contents output.old) (W.contents output.new) result.end }
+    ensures unprinted { IsErrOf result.end CommandFault.Write
         → HasWriteFailed (W.calls output.old) (W.calls output.new) }
     ensures idle { result.conn.in_transaction ≡ false }
 {
@@ -64,10 +64,10 @@ pub fn follow_over<S: Alter + Drop, P: Plans, R: Source, W: Sink, V: Watch + Fol
         Ok(bank) => bank,
         Err(ended) => return ended,
     };
-    let told = done(follow_found(alloc, &mut bank, plans, plan, input, output, &mut watch));
+    let end = done(follow_found(alloc, &mut bank, plans, plan, input, output, &mut watch));
     watch.ended();
     Ended {
-        told,
+        end,
         conn: bank.release(),
     }
 }
@@ -95,10 +95,10 @@ fn follow_found<S: Alter + Drop, P: Plans, R: Source, W: Sink, V: FollowWatch>(
 }
 
 // How the program ends after the entries that come after so many.
-fn logged(after: u64, told: Result<u64, ReplayFault>) -> Result<Status, CommandFault>
-    ensures { result ≡ ended_by_log after told }
+fn logged(after: u64, end: Result<u64, ReplayFault>) -> Result<Status, CommandFault>
+    ensures { result ≡ ended_by_log after end }
 {
-    match told {
+    match end {
         Ok(requests) => {
             if requests < after {
                 Err(CommandFault::NoRequest(after))

@@ -23,8 +23,8 @@ pub fn migrate_over<S: Alter + Drop, W: Sink>(
 ) -> Ended<S>
     requires { conn.in_transaction ≡ false }
     ensures migrates { Migrates S.Store conn result.conn (W.contents output.old) (W.contents output.new)
-        result.told }
-    ensures unprinted { IsErrOf result.told CommandFault.Write
+        result.end }
+    ensures unprinted { IsErrOf result.end CommandFault.Write
         → HasWriteFailed (W.calls output.old) (W.calls output.new) }
     ensures idle { result.conn.in_transaction ≡ false }
 {
@@ -32,9 +32,9 @@ pub fn migrate_over<S: Alter + Drop, W: Sink>(
         Ok(done) => done,
         Err(refused) => return refuse(refused),
     };
-    let told = done(print_answer(migrated, output));
+    let end = done(print_answer(migrated, output));
     Ended {
-        told,
+        end,
         conn: bank.release(),
     }
 }

@@ -23,16 +23,16 @@ pub fn replay_over<S: Alter + Drop, W: Sink, P: Watch + Drop>(
 ) -> Ended<S>
     requires { conn.in_transaction ≡ false }
     ensures replays { ReplaysOver S.Store conn result.conn (W.contents output.old) (W.contents output.new)
-        (W.calls output.old) (W.calls output.new) result.told }
+        (W.calls output.old) (W.calls output.new) result.end }
     ensures idle { result.conn.in_transaction ≡ false }
 {
     let mut bank = match find(alloc, conn) {
         Ok(bank) => bank,
         Err(ended) => return ended,
     };
-    let told = print_replay(alloc, replay(&mut bank, watch), output);
+    let end = print_replay(alloc, replay(&mut bank, watch), output);
     Ended {
-        told,
+        end,
         conn: bank.release(),
     }
 }
@@ -46,16 +46,16 @@ pub fn digest_over<S: Alter + Drop, W: Sink>(
 ) -> Ended<S>
     requires { conn.in_transaction ≡ false }
     ensures digests { DigestsOver S.Store conn result.conn requests (W.contents output.old) (W.contents output.new)
-        (W.calls output.old) (W.calls output.new) result.told }
+        (W.calls output.old) (W.calls output.new) result.end }
     ensures idle { result.conn.in_transaction ≡ false }
 {
     let mut bank = match find(alloc, conn) {
         Ok(bank) => bank,
         Err(ended) => return ended,
     };
-    let told = print_first(alloc, requests, digest(&mut bank, requests), output);
+    let end = print_first(alloc, requests, digest(&mut bank, requests), output);
     Ended {
-        told,
+        end,
         conn: bank.release(),
     }
 }
@@ -69,16 +69,16 @@ pub fn export_over<S: Alter + Drop, W: Sink>(
 ) -> Ended<S>
     requires { conn.in_transaction ≡ false }
     ensures exports { ExportsOver S.Store conn result.conn after (W.contents output.old) (W.contents output.new)
-        (W.calls output.old) (W.calls output.new) result.told }
+        (W.calls output.old) (W.calls output.new) result.end }
     ensures idle { result.conn.in_transaction ≡ false }
 {
     let mut bank = match find(alloc, conn) {
         Ok(bank) => bank,
         Err(ended) => return ended,
     };
-    let told = written(export(&mut bank, after, output));
+    let end = written(export(&mut bank, after, output));
     Ended {
-        told,
+        end,
         conn: bank.release(),
     }
 }
@@ -91,16 +91,16 @@ pub fn plan_over<S: Alter + Drop, W: Sink>(
 ) -> Ended<S>
     requires { conn.in_transaction ≡ false }
     ensures plans { PlansOver S.Store conn result.conn (W.contents output.old) (W.contents output.new)
-        (W.calls output.old) (W.calls output.new) result.told }
+        (W.calls output.old) (W.calls output.new) result.end }
     ensures idle { result.conn.in_transaction ≡ false }
 {
     let mut bank = match find(alloc, conn) {
         Ok(bank) => bank,
         Err(ended) => return ended,
     };
-    let told = written(write_plan(&mut bank, output));
+    let end = written(write_plan(&mut bank, output));
     Ended {
-        told,
+        end,
         conn: bank.release(),
     }
 }
@@ -108,13 +108,13 @@ pub fn plan_over<S: Alter + Drop, W: Sink>(
 // Prints what a replay found.
 fn print_replay<W: Sink>(
     alloc: Global,
-    told: Result<Replay, Fault>,
+    answer: Result<Replay, Fault>,
     output: &mut W,
 ) -> Result<Status, CommandFault>
-    ensures { PrintsReplay told (W.contents output.old) (W.contents output.new)
+    ensures { PrintsReplay answer (W.contents output.old) (W.contents output.new)
         (W.calls output.old) (W.calls output.new) result }
 {
-    let found = match told {
+    let found = match answer {
         Ok(found) => found,
         Err(fault) => return Err(CommandFault::from(fault)),
     };
@@ -146,13 +146,13 @@ fn print_replay<W: Sink>(
 fn print_first<W: Sink>(
     alloc: Global,
     requests: u64,
-    told: Result<Option<Digest>, Fault>,
+    answer: Result<Option<Digest>, Fault>,
     output: &mut W,
 ) -> Result<Status, CommandFault>
-    ensures { PrintsDigest requests told (W.contents output.old) (W.contents output.new)
+    ensures { PrintsDigest requests answer (W.contents output.old) (W.contents output.new)
         (W.calls output.old) (W.calls output.new) result }
 {
-    let found = match told {
+    let found = match answer {
         Ok(found) => found,
         Err(fault) => return Err(CommandFault::from(fault)),
     };
@@ -176,10 +176,10 @@ fn ended(status: Status, printed: Result<(), CommandFault>) -> Result<Status, Co
 }
 
 // How it ends after records or a plan.
-fn written(told: Result<(), ReplayFault>) -> Result<Status, CommandFault>
-    ensures { result ≡ ended_by_writing told }
+fn written(end: Result<(), ReplayFault>) -> Result<Status, CommandFault>
+    ensures { result ≡ ended_by_writing end }
 {
-    match told {
+    match end {
         Ok(()) => Ok(Status::Done),
         Err(ReplayFault::Write) => Err(CommandFault::Write),
         Err(ReplayFault::Bank(fault)) => Err(CommandFault::from(fault)),

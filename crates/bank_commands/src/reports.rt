@@ -22,8 +22,8 @@ pub fn audit_over<S: Alter + Drop, W: Sink>(
 ) -> Ended<S>
     requires { conn.in_transaction ≡ false }
     ensures audits { AuditsOver S.Store conn result.conn (W.contents output.old) (W.contents output.new)
-        result.told }
-    ensures unprinted { IsErrOf result.told CommandFault.Write
+        result.end }
+    ensures unprinted { IsErrOf result.end CommandFault.Write
         → HasWriteFailed (W.calls output.old) (W.calls output.new) }
     ensures idle { result.conn.in_transaction ≡ false }
 {
@@ -31,9 +31,9 @@ pub fn audit_over<S: Alter + Drop, W: Sink>(
         Ok(bank) => bank,
         Err(ended) => return ended,
     };
-    let told = print_audit(audit(&mut bank), output);
+    let end = print_audit(audit(&mut bank), output);
     Ended {
-        told,
+        end,
         conn: bank.release(),
     }
 }
@@ -49,13 +49,13 @@ pub fn statement_over<S: Alter + Drop, W: Sink>(
 ) -> Ended<S>
     requires { conn.in_transaction ≡ false }
     ensures states { StatesAsked S.Store conn result.conn account query (W.contents output.old)
-        (W.contents output.new) (W.calls output.old) (W.calls output.new) result.told }
+        (W.contents output.new) (W.calls output.old) (W.calls output.new) result.end }
     ensures idle { result.conn.in_transaction ≡ false }
 {
     match query {
         Ok(query) => query_over(alloc, conn, account, query, output),
         Err(fault) => Ended {
-            told: Err(CommandFault::Query(fault)),
+            end: Err(CommandFault::Query(fault)),
             conn,
         },
     }
@@ -71,16 +71,16 @@ fn query_over<S: Alter + Drop, W: Sink>(
 ) -> Ended<S>
     requires { conn.in_transaction ≡ false }
     ensures states { StatesOver S.Store conn result.conn account query (W.contents output.old)
-        (W.contents output.new) (W.calls output.old) (W.calls output.new) result.told }
+        (W.contents output.new) (W.calls output.old) (W.calls output.new) result.end }
     ensures idle { result.conn.in_transaction ≡ false }
 {
     let mut bank = match find(alloc, conn) {
         Ok(bank) => bank,
         Err(ended) => return ended,
     };
-    let told = stated(account, write_selected(&mut bank, account, query, output));
+    let end = stated(account, write_selected(&mut bank, account, query, output));
     Ended {
-        told,
+        end,
         conn: bank.release(),
     }
 }
@@ -95,13 +95,13 @@ pub fn statements_over<S: Alter + Drop, W: Sink>(
 ) -> Ended<S>
     requires { conn.in_transaction ≡ false }
     ensures states { StatesAllAsked S.Store conn result.conn query (W.contents output.old)
-        (W.contents output.new) (W.calls output.old) (W.calls output.new) result.told }
+        (W.contents output.new) (W.calls output.old) (W.calls output.new) result.end }
     ensures idle { result.conn.in_transaction ≡ false }
 {
     match query {
         Ok(query) => all_over(alloc, conn, query, output),
         Err(fault) => Ended {
-            told: Err(CommandFault::Query(fault)),
+            end: Err(CommandFault::Query(fault)),
             conn,
         },
     }
@@ -116,16 +116,16 @@ fn all_over<S: Alter + Drop, W: Sink>(
 ) -> Ended<S>
     requires { conn.in_transaction ≡ false }
     ensures states { StatesAllOver S.Store conn result.conn query (W.contents output.old)
-        (W.contents output.new) (W.calls output.old) (W.calls output.new) result.told }
+        (W.contents output.new) (W.calls output.old) (W.calls output.new) result.end }
     ensures idle { result.conn.in_transaction ≡ false }
 {
     let mut bank = match find(alloc, conn) {
         Ok(bank) => bank,
         Err(ended) => return ended,
     };
-    let told = all_stated(write_statements(&mut bank, query, output));
+    let end = all_stated(write_statements(&mut bank, query, output));
     Ended {
-        told,
+        end,
         conn: bank.release(),
     }
 }
@@ -138,8 +138,8 @@ pub fn why_over<S: Alter + Drop, W: Sink>(
 ) -> Ended<S>
     requires { conn.in_transaction ≡ false }
     ensures looks { LooksOver S.Store conn result.conn (W.contents output.old) (W.contents output.new)
-        result.told }
-    ensures unprinted { IsErrOf result.told CommandFault.Write
+        result.end }
+    ensures unprinted { IsErrOf result.end CommandFault.Write
         → HasWriteFailed (W.calls output.old) (W.calls output.new) }
     ensures idle { result.conn.in_transaction ≡ false }
 {
@@ -147,19 +147,19 @@ pub fn why_over<S: Alter + Drop, W: Sink>(
         Ok(bank) => bank,
         Err(ended) => return ended,
     };
-    let told = done(print_usable(output));
+    let end = done(print_usable(output));
     Ended {
-        told,
+        end,
         conn: bank.release(),
     }
 }
 
 // How the program ends after the statements of all accounts.
-fn all_stated(told: Result<(), ReportFault>) -> Result<Status, CommandFault>
-    requires { told ≢ Err ReportFault.NoAccount }
-    ensures { EndsAllStated told result }
+fn all_stated(end: Result<(), ReportFault>) -> Result<Status, CommandFault>
+    requires { end ≢ Err ReportFault.NoAccount }
+    ensures { EndsAllStated end result }
 {
-    match told {
+    match end {
         Ok(()) => Ok(Status::Done),
         Err(ReportFault::NoAccount) => unreachable!(),
         Err(ReportFault::Write) => Err(CommandFault::Write),
@@ -168,10 +168,10 @@ fn all_stated(told: Result<(), ReportFault>) -> Result<Status, CommandFault>
 }
 
 // How it ends after a statement.
-fn stated(account: Account, told: Result<(), ReportFault>) -> Result<Status, CommandFault>
-    ensures { result ≡ stated_by account told }
+fn stated(account: Account, end: Result<(), ReportFault>) -> Result<Status, CommandFault>
+    ensures { result ≡ stated_by account end }
 {
-    match told {
+    match end {
         Ok(()) => Ok(Status::Done),
         Err(ReportFault::NoAccount) => Err(CommandFault::NoAccount(account)),
         Err(ReportFault::Write) => Err(CommandFault::Write),

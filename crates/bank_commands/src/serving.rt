@@ -25,9 +25,9 @@ pub fn serve_over<S: Alter + Drop, N: Network, V: ServeWatch + Drop, W: Sink, K:
 ) -> Ended<S>
     requires { conn.in_transaction ≡ false }
     ensures serves { Serves S.Store conn result.conn (W.contents output.old) (W.contents output.new)
-        (K.readings clock.old) (K.readings clock.new) connections result.told }
-    ensures prints { PrintsServe (W.contents output.old) (W.contents output.new) result.told }
-    ensures unprinted { IsErrOf result.told CommandFault.Write
+        (K.readings clock.old) (K.readings clock.new) connections result.end }
+    ensures prints { PrintsServe (W.contents output.old) (W.contents output.new) result.end }
+    ensures unprinted { IsErrOf result.end CommandFault.Write
         → HasWriteFailed (W.calls output.old) (W.calls output.new) }
     ensures idle { result.conn.in_transaction ≡ false }
 {
@@ -35,7 +35,7 @@ pub fn serve_over<S: Alter + Drop, N: Network, V: ServeWatch + Drop, W: Sink, K:
         Ok(bank) => bank,
         Err(ended) => return ended,
     };
-    let told = done(listen(
+    let end = done(listen(
         network,
         address,
         connections,
@@ -45,7 +45,7 @@ pub fn serve_over<S: Alter + Drop, N: Network, V: ServeWatch + Drop, W: Sink, K:
         clock,
     ));
     Ended {
-        told,
+        end,
         conn: bank.release(),
     }
 }

@@ -1,7 +1,7 @@
 //! Laws of a counter's life. Each is a function that does nothing and can't fail: its contract is the law. A
 //! caller that calls one has its clauses at hand.
 ghost use Rattle.std.specs.Prelude.{◌≡◌, ◌≤◌, ℕ, List, length};
-ghost use Rattle.posting_rules.specs.declared.fault.Fault.{Fault as Told};
+ghost use Rattle.posting_rules.specs.declared.fault.Fault.{Fault as Cause};
 ghost use Rattle.posting_rules.specs.declared.fault.Fault.TheVariants.{Down};
 ghost use Rattle.posting_rules.specs.believed.Commands.{Command, AreCommands};
 ghost use Rattle.posting_rules.specs.believed.Counter.{Takes, Refuses, StandsAt, LeavesOnly, ShowsPrefix};
@@ -20,7 +20,7 @@ pub fn calls_law<C: Counter>(_counter: &C)
         → Takes (C.seen old) (C.seen new) commands
         → ((C.seen old).is_down → ⊥) → ((C.seen new).honest → (C.seen old).honest)
         → IsCall (C.seen old) (C.seen new) commands (length commands) }
-    ensures refused { (fault : Told) (old new : _) (commands : List Command)
+    ensures refused { (fault : Cause) (old new : _) (commands : List Command)
         → Refuses fault (C.seen old) (C.seen new) commands → ((C.seen old).is_down → fault ≡ Down)
         → ((C.seen new).honest → (C.seen old).honest)
         → IsCall (C.seen old) (C.seen new) (given_to fault commands) 0 }

@@ -18,7 +18,7 @@ use sqlite::Alter;
 /// a crash. One that was answered takes no commands, and is a call by `calls_law`.
 pub fn reports_law<C: Counter>(_counter: &C)
     // It stands where it stood, as it does while its store is open, or a fault brought it down.
-    ensures told { (old new : _) → ((C.seen old).is_down → ⊥) → ((C.seen new).honest → (C.seen old).honest)
+    ensures answers { (old new : _) → ((C.seen old).is_down → ⊥) → ((C.seen new).honest → (C.seen old).honest)
         → ((C.seen new).honest → (log : List Command) → StandsAt (C.seen old) log
         → LeavesOnly (C.seen new) (λ t. AreTablesOf t log))
         → ((C.seen new).honest → (log : List Command) → StandsAt (C.seen old) log

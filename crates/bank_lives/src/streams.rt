@@ -4,7 +4,7 @@ ghost use Rattle.std.specs.Prelude.{◌≡◌, ◌≤◌, ◌++◌, ℕ, List, O
 ghost use Rattle.posting_rules.specs.believed.Commands.{Command};
 ghost use Rattle.posting_rules.specs.believed.Counter.{LeavesOnly, ShowsLog, ShowsPrefix, StandsAt};
 ghost use Rattle.posting_rules.specs.believed.Runs.{replies_to};
-ghost use Rattle.posting_rules.specs.declared.fault.Fault.{Fault as Told};
+ghost use Rattle.posting_rules.specs.declared.fault.Fault.{Fault as Cause};
 ghost use Rattle.posting_core.specs.believed.Batches.{posts_of};
 ghost use Rattle.posting_core.specs.believed.Stream.{IfBank, IsRefusedAfterBatches, Streamed, acknowledged};
 ghost use Rattle.posting_core.specs.believed.EndCalls.{ReadCall};
@@ -50,7 +50,7 @@ pub fn streams_law<C: Counter>(_counter: &C)
         → (C.seen new).honest → (log : List Command) → StandsAt (C.seen old) log
         → LeavesOnly (C.seen new) (ShowsPrefix log (commands_of (did.taken ++ did.refused))
         (acknowledged_records log did.taken (length did.written))) }
-    ensures loaded { (old new : _) (openings : List Command) (fault : Told) (answered : ℕ)
+    ensures loaded { (old new : _) (openings : List Command) (fault : Cause) (answered : ℕ)
         → IsRefusedAfter C.seen old new openings fault answered
         → ((C.seen old).is_down → ⊥) → ((C.seen new).honest → (C.seen old).honest)
         → IsStream (C.seen old) (C.seen new) (take answered openings) (take 1 (drop answered openings)) }

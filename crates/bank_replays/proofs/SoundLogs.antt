@@ -80,4 +80,4 @@ module _ {S : Type 0} {g : Ghosts S} {old new : Bank S g} (clean : HasCleanDisk 
       none_broken s.tables log s.commands s.shows rule
       (subst (Tells g old new (rows_due s.tables)) same
       (subst (λ (r : Result X E). IfErr r (λ e. Tells g old new (rows_due s.tables) (fault_of e))) is
-      (why.told clean (rows_due s.tables) (due_tables (database_of g old) s.tables s.are))))
+      (why.answers clean (rows_due s.tables) (due_tables (database_of g old) s.tables s.are))))

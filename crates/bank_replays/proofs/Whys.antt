@@ -4,7 +4,7 @@ use Rattle.std.specs.Prelude.{IfErr, IsSome}
 use Rattle.sqlite.specs.{Effect.Database, State.HasCleanDisk, Held.Held, Held.state}
 use Rattle.sqlite_trees.specs.declared.store.Store.{Ghosts}
 use Rattle.posting_rules.specs.declared.fault.{Fault.Fault, Rule.Rule}
-use Rattle.posting_rules.specs.declared.fault.Fault.TheVariants as told
+use Rattle.posting_rules.specs.declared.fault.Fault.TheVariants as faults
 use Rattle.bank_transactions.specs.believed.Causes.{IsBefore}
 use Rattle.bank_transactions.proofs.Blamed.{comes, then_moment}
 use Rattle.bank_store.specs.{Failures.HasFailedToRead, believed.Seen.bank_seen, believed.Seen.connection_of}
@@ -32,16 +32,16 @@ module _ {S : Type 0} {g : Ghosts S} where
   -- there was no fault
   pub why_none : {X E : Type 0} {fault_of : E → Fault} {old new : Bank S g} (x : X)
       → TellsWhy g fault_of old new (Ok x)
-  why_none x = record { told = λ clean f has. tt }
+  why_none x = record { answers = λ clean f has. tt }
 
   -- memory is no row's fault
-  pub why_memory : {X E : Type 0} {fault_of : E → Fault} {old new : Bank S g} (e : E) → fault_of e ≡ told.Memory
+  pub why_memory : {X E : Type 0} {fault_of : E → Fault} {old new : Bank S g} (e : E) → fault_of e ≡ faults.Memory
       → TellsWhy {X = X} g fault_of old new (Err e)
-  why_memory {old = old} {new = new} e is = record { told = λ clean f has. rw is tt }
+  why_memory {old = old} {new = new} e is = record { answers = λ clean f has. rw is tt }
 
   -- nor is it where a second bank was filled
   pub why_memories : {X : Type 0} {old new : Bank S g} (r : Result X ReplayFault)
-      → IfErr r (λ fault. fault ≡ OfBank told.Memory) → TellsWhy g fault_in old new r
+      → IfErr r (λ fault. fault ≡ OfBank faults.Memory) → TellsWhy g fault_in old new r
   why_memories (Ok x) memory = why_none x
   why_memories (Err e) memory = why_memory e (rw memory refl)
 
@@ -50,24 +50,24 @@ module _ {S : Type 0} {g : Ghosts S} where
       → fault_of e ≡ fault_of' e' → TellsWhy {X = X} g fault_of old new (Err e)
       → TellsWhy {X = Y} g fault_of' old new (Err e')
   why_err {old = old} {new = new} e e' same why =
-      record { told = λ clean f has. subst (Tells g old new f) same (why.told clean f has) }
+      record { answers = λ clean f has. subst (Tells g old new f) same (why.answers clean f has) }
 
   tells_later : (old mid new : Bank S g) (f : FileTables) → IsBefore (file_of old) (file_of mid)
       → ((bank_seen g mid).is_down → (bank_seen g old).is_down) → (fault : Fault) → Tells g mid new f fault
       → Tells g old new f fault
-  tells_later old mid new f later down told.Memory tells = tt
-  tells_later old mid new f later down told.Store tells =
+  tells_later old mid new f later down faults.Memory tells = tt
+  tells_later old mid new f later down faults.Store tells =
       failed_later g (connection_of old) (connection_of mid) (connection_of new) later tells
-  tells_later old mid new f later down told.Down tells = down tells
-  tells_later old mid new f later down (told.Damaged rule) tells = tells
+  tells_later old mid new f later down faults.Down tells = down tells
+  tells_later old mid new f later down (faults.Damaged rule) tells = tells
 
   -- a read more
   pub why_then : {X Y Z E F G : Type 0} {fault_of : F → Fault} {old mid new : Bank S g} {x : X} {r : Result Y F}
       {r' : Result Z G} → ReadsBank {E = E} g old mid (Ok x) → ReadsBank g mid new r'
       → TellsWhy g fault_of mid new r → TellsWhy g fault_of old new r
   why_then {fault_of = fault_of} {old = old} {mid = mid} {new = new} {r = r} one two why = record {
-    told = λ clean f has.
-        later fault_of f r (why.told clean f
+    answers = λ clean f has.
+        later fault_of f r (why.answers clean f
         (subst (λ (db : Database). HasTables db f) (sym (one.still (clean_before two clean)).0) has));
   }
     where
@@ -82,10 +82,10 @@ module _ {S : Type 0} {g : Ghosts S} where
       → ((rule : Rule) → HasBroken (Breaks rule) all → HasBrokenRow rule f) → (fault : Fault)
       → Stops Breaks (HasFailedToRead g (connection_of old) (connection_of new)) (bank_seen g old).is_down all fault
       → Tells g old new f fault
-  stop_tells old new f all broken told.Memory stops = tt
-  stop_tells old new f all broken told.Store stops = stops
-  stop_tells old new f all broken told.Down stops = stops
-  stop_tells old new f all broken (told.Damaged rule) stops = broken rule stops
+  stop_tells old new f all broken faults.Memory stops = tt
+  stop_tells old new f all broken faults.Store stops = stops
+  stop_tells old new f all broken faults.Down stops = stops
+  stop_tells old new f all broken (faults.Damaged rule) stops = broken rule stops
 
 -- ---- rows that were visited
 
@@ -109,7 +109,7 @@ module _ {S R X : Type 0} {g : Ghosts S} (old new : Bank S g) (item : R → X) (
         → TellsWhy g fault_in old new r
     visited_why most (Ok count) it = why_none count
     visited_why most (Err fault) it = record {
-      told = λ clean f has.
+      answers = λ clean f has.
           let rows = held (database_of g old) f has in
           let more = it.4 clean rows.0 rows.1 in
           refusal_tells f (map item it.0) (refused_of item it.1 ++ more.0) rows.0 more.1 rows.2 fault more.2;
@@ -124,7 +124,7 @@ pub stopped_why : {S X A : Type 0} {g : Ghosts S} {old new : Bank S g} (Breaks :
     → TellsWhy g (λ fault. fault) old new r
 stopped_why Breaks HasItems held (Ok x) stops = why_none x
 stopped_why {g = g} {old = old} {new = new} Breaks HasItems held (Err fault) stops = record {
-  told = λ clean f has.
+  answers = λ clean f has.
       let rows = held (database_of g old) f has in
       stop_tells old new f rows.0 rows.2 fault (stops clean rows.0 rows.1);
 }

@@ -4,7 +4,7 @@ use Rattle.sqlite.specs.Effect.{Database}
 use Rattle.sqlite.specs.State.{HasCleanDisk}
 use Rattle.sqlite_trees.specs.declared.store.Store.{Ghosts}
 use Rattle.posting_rules.specs.declared.fault.Fault.{Fault}
-use Rattle.posting_rules.specs.declared.fault.Fault.TheVariants as told
+use Rattle.posting_rules.specs.declared.fault.Fault.TheVariants as faults
 use Rattle.posting_rules.specs.declared.fault.Rule.{Rule}
 use Rattle.posting_rules.specs.declared.fault.Rule.TheVariants.{Request}
 use Rattle.walked_rows.specs.Broken.{HasBroken}
@@ -44,25 +44,25 @@ AreHeld {X} HasItems Breaks =
 
 -- of rows that were to come: one breaks the rule, or a read failed, or the bank was down
 abbrev pub Stops : {X : Type 0} → (Rule → X → Type 0) → (Failed WasDown : Type 0) → List X → Fault → Type 0
-Stops Breaks Failed WasDown coming told.Memory = ⊤
-Stops Breaks Failed WasDown coming told.Store = Failed
-Stops Breaks Failed WasDown coming told.Down = WasDown
-Stops Breaks Failed WasDown coming (told.Damaged rule) = HasBroken (Breaks rule) coming
+Stops Breaks Failed WasDown coming faults.Memory = ⊤
+Stops Breaks Failed WasDown coming faults.Store = Failed
+Stops Breaks Failed WasDown coming faults.Down = WasDown
+Stops Breaks Failed WasDown coming (faults.Damaged rule) = HasBroken (Breaks rule) coming
 
 -- of a file: a row breaks the rule, or a read failed, or the bank was down
 abbrev pub Tells : {S : Type 0} (g : Ghosts S) → Bank S g → Bank S g → FileTables → Fault → Type 0
-Tells g old new f told.Memory = ⊤
-Tells g old new f told.Store = HasFailedToRead g (connection_of old) (connection_of new)
-Tells g old new f told.Down = (bank_seen g old).is_down
-Tells g old new f (told.Damaged rule) = HasBrokenRow rule f
+Tells g old new f faults.Memory = ⊤
+Tells g old new f faults.Store = HasFailedToRead g (connection_of old) (connection_of new)
+Tells g old new f faults.Down = (bank_seen g old).is_down
+Tells g old new f (faults.Damaged rule) = HasBrokenRow rule f
 
 -- the bank's fault, of which the writer's tells nothing
 abbrev pub fault_in : ReplayFault → Fault
-fault_in Write = told.Memory
+fault_in Write = faults.Memory
 fault_in (OfBank fault) = fault
 
 -- a bank was read, whatever rows it has, and a fault says so
 pub record TellsWhy {S X E : Type 0} (g : Ghosts S) (fault_of : E → Fault) (old new : Bank S g) (result : Result X E)
     : Type 0 where
-  pub told : HasCleanDisk (file_of new) → (f : FileTables) → HasTables (database_of g old) f
+  pub answers : HasCleanDisk (file_of new) → (f : FileTables) → HasTables (database_of g old) f
       → IfErr result (λ e. Tells g old new f (fault_of e))

@@ -15,7 +15,7 @@ ghost use Rattle.bank_replays.specs.Reading.{ReadsBank};
 ghost use Rattle.bank_replays.specs.Replays.{HasAnswered};
 
 use crate::chain::{Chaining, Digest};
-use crate::fault::told;
+use crate::fault::bank_fault;
 use crate::visitors::{visit_all, visit_first};
 use bank_store::Bank;
 use posting_rules::{Counter, Fault};
@@ -32,7 +32,7 @@ pub(crate) fn digest_all<S: Alter>(bank: &mut Bank<S>) -> Result<Digest, Fault>
     let mut digest = Digest::none();
     match visit_all::<S, KeptRequest, Digest, Chaining>(bank, &Chaining, &mut digest) {
         Ok(()) => Ok(digest),
-        Err(fault) => Err(told(fault)),
+        Err(fault) => Err(bank_fault(fault)),
     }
 }
 
@@ -47,7 +47,7 @@ fn digest_first<S: Alter>(bank: &mut Bank<S>, count: u64) -> Result<Digest, Faul
     let mut digest = Digest::none();
     match visit_first::<S, KeptRequest, Digest, Chaining>(bank, count, &Chaining, &mut digest) {
         Ok(_) => Ok(digest),
-        Err(fault) => Err(told(fault)),
+        Err(fault) => Err(bank_fault(fault)),
     }
 }
 

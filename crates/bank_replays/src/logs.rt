@@ -24,7 +24,7 @@ ghost use Rattle.bank_replays.specs.declared.fault.ReplayFault.TheVariants.{Bank
 
 use crate::chain::NO_REQUEST;
 use crate::exports::is_after;
-use crate::fault::{ReplayFault, told};
+use crate::fault::{ReplayFault, bank_fault};
 use crate::visitors::{Visitor, visit_all, visit_first};
 use crate::writes::put_bytes;
 use bank_store::{Bank, entry_in};
@@ -182,7 +182,7 @@ fn stored_count<S: Alter>(bank: &mut Bank<S>) -> Result<u64, Fault>
     let mut last = StoredMeta::default();
     match visit_all::<S, StoredMeta, StoredMeta, LastMeta>(bank, &LastMeta, &mut last) {
         Ok(()) => counted(&last),
-        Err(fault) => Err(told(fault)),
+        Err(fault) => Err(bank_fault(fault)),
     }
 }
 

@@ -21,7 +21,7 @@ ghost use Rattle.bank_replays.specs.Writing.{LeavesWriter, Wrote, WrotePart, Wri
 ghost use Rattle.bank_replays.specs.Writing.{line_with, lowest_of, plan_line, plan_lines, plan_text, text_of_floor};
 ghost use Rattle.bank_replays.specs.declared.fault.ReplayFault.TheVariants.{Bank as OfBank};
 
-use crate::fault::{ReplayFault, told};
+use crate::fault::{ReplayFault, bank_fault};
 use crate::lines::{LINE, Line, NUMBER, push_number};
 use crate::visitors::{Visitor, visit_all};
 use arrayvec::ArrayString;
@@ -145,7 +145,7 @@ pub(crate) fn floors_of<S: Alter>(bank: &mut Bank<S>) -> Result<Lines, Fault>
     let mut floors = Vec::new(bank.alloc());
     match visit_all::<S, StoredFloor, Vec<StoredFloor>, Listing>(bank, &Listing, &mut floors) {
         Ok(()) => Ok(Lines { floors }),
-        Err(fault) => Err(told(fault)),
+        Err(fault) => Err(bank_fault(fault)),
     }
 }
 

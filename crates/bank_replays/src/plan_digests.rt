@@ -10,7 +10,7 @@ ghost use Rattle.bank_replays.specs.PlanDigests.{IsPlanDigestIn};
 ghost use Rattle.bank_replays.specs.Reading.{ReadsBank};
 ghost use Rattle.bank_replays.specs.Writing.{plan_lines};
 
-use crate::fault::{ReplayFault, told};
+use crate::fault::{ReplayFault, bank_fault};
 use crate::plan::{Lines, NAMES, floors_of, plan_line};
 use crate::visitors::{Visitor, visit_all};
 use bank_store::Bank;
@@ -58,6 +58,6 @@ pub(crate) fn digest_plan<S: Alter>(bank: &mut Bank<S>) -> Result<[u8; 32], Faul
     hasher.update(NAMES);
     match visit_all::<S, StoredBranch, Sha256, Hashing>(bank, &visitor, &mut hasher) {
         Ok(()) => Ok(hasher.finalize()),
-        Err(fault) => Err(told(fault)),
+        Err(fault) => Err(bank_fault(fault)),
     }
 }

@@ -21,7 +21,7 @@ ghost use Rattle.bank_replays.specs.Replays.{TellsTables};
 use crate::comparing::compare_all;
 use crate::difference::{Agreed, Replay};
 use crate::digests::digest_all;
-use crate::fault::{ReplayFault, told};
+use crate::fault::{ReplayFault, bank_fault};
 use crate::plan_digests::digest_plan;
 use crate::ram::Ram;
 use crate::refill::{Filling, Refill};
@@ -68,7 +68,7 @@ fn refilled<S: Alter, T: Alter + Drop, W: Watch + Drop>(
         Ok(()) => Ok(refill.into_bank()),
         Err(fault) => {
             refill.end();
-            Err(told(fault))
+            Err(bank_fault(fault))
         }
     }
 }

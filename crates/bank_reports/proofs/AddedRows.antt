@@ -5,7 +5,7 @@ use Rattle.std.specs.Prelude.{ℤ, pos, ◌+ℤ◌, ◌≤ℤ◌, ◌<ℤ◌}
 use Rattle.std.proofs.lemmas.{Int.ints, List.length-append, List.map-append}
 use Rattle.sqlite.specs.{Effect.Database, State.State, State.HasCleanDisk, State.Survives}
 use Rattle.posting_rules.specs.declared.fault.{Fault.Fault, Rule.Rule}
-use Rattle.posting_rules.specs.declared.fault.Fault.TheVariants as told
+use Rattle.posting_rules.specs.declared.fault.Fault.TheVariants as faults
 use Rattle.bank_store.specs.{Walking.Steps, Walks.IsStill, Walks.IsUntouchedIfOpen}
 use Rattle.report_contents.specs.{Beside.AuditRows, declared.limits.TheConstants.MAX_ROWS}
 use Rattle.bank_reports.specs.Adding.{AddsToSums, HasSums, IsPassed}
@@ -70,12 +70,12 @@ module _ {R X : Type 0} (item : R → X) (HasItems : Database → List X → Typ
   pub failed_row : (Breaks : Rule → X → Type 0) (Failed : Type 0) → Later → (items : List X)
       → HasItems db items → (left : List X)
       → (fault : Fault) → Steps {R = R} item Breaks (coming items) left (Err fault)
-      → (fault ≡ told.Store → Failed)
+      → (fault ≡ faults.Store → Failed)
       → SaysOf (λ rule. HasBroken (Breaks rule) (all items)) Failed fault
-  failed_row Breaks Failed late items there left told.Memory step failed = step
-  failed_row Breaks Failed late items there left told.Store step failed = failed refl
-  failed_row Breaks Failed late items there left told.Down step failed = tt
-  failed_row Breaks Failed late items there left (told.Damaged rule) step failed =
+  failed_row Breaks Failed late items there left faults.Memory step failed = step
+  failed_row Breaks Failed late items there left faults.Store step failed = failed refl
+  failed_row Breaks Failed late items there left faults.Down step failed = tt
+  failed_row Breaks Failed late items there left (faults.Damaged rule) step failed =
       broken_row (Breaks rule) late items there step.0 step.1 step.2 step.3
 
 -- ---- how many there are

@@ -119,11 +119,11 @@ module _ (log : List Command) (are : AreCommands log) (query : Query) where
   all_gathered gathered (s ∷ more) is none = absurd cc
 
   module _ (all : List Pair) (rows : all ≡ map stated_pair ps) (old new : Option (List ℕ)) where
-    parts : {told : Result (Unit {0}) ReportFault} (w : WritesStatements query all old new told)
+    parts : {end : Result (Unit {0}) ReportFault} (w : WritesStatements query all old new end)
         → (more : List StatedPosting) × (ps ≡ w.gathered ++ more) × (w.rest ≡ map stated_pair more)
     parts w = prefix w.gathered ps w.rest (w.are ∙ rows)
 
-    gathered_are : {told : Result (Unit {0}) ReportFault} (w : WritesStatements query all old new told) → w.rest ≡ []
+    gathered_are : {end : Result (Unit {0}) ReportFault} (w : WritesStatements query all old new end) → w.rest ≡ []
         → w.gathered ≡ ps
     gathered_are w none = let b = parts w in all_gathered w.gathered b.0 b.1 (sym none ∙ b.2)
 

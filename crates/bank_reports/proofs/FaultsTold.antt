@@ -31,9 +31,9 @@ memory_is_sound old new rule is clean log s = memory_not_damaged Memory rule ref
 
 -- ---- an audit
 
-pub unaudited : (old new : Seen) (told : Result Audit Fault) (fault : Fault) → told ≡ Err fault
-    → NeverSound old new fault → TakesNone old new (HasAudited told) → Audits old new told
-unaudited old new told fault is sound takes = record {
+pub unaudited : (old new : Seen) (end : Result Audit Fault) (fault : Fault) → end ≡ Err fault
+    → NeverSound old new fault → TakesNone old new (HasAudited end) → Audits old new end
+unaudited old new end fault is sound takes = record {
   tables = λ clean t shown. rw is tt;
   condition = λ clean t shown. rw is tt;
   once = rw is tt;
@@ -45,27 +45,27 @@ unaudited old new told fault is sound takes = record {
 
 -- ---- statements of which nothing was written
 
-pub unstated_all : (old new : Seen) (query : Query) (w : Option (List ℕ)) (told : Result (Unit {0}) ReportFault)
-    (fault : Fault) → told ≡ Err (Bank fault)
-    → NeverSound old new fault → TakesNone old new (HasAnswered told) → StatesAll old new query w w told
-unstated_all old new query w told fault is sound takes = record {
+pub unstated_all : (old new : Seen) (query : Query) (w : Option (List ℕ)) (end : Result (Unit {0}) ReportFault)
+    (fault : Fault) → end ≡ Err (Bank fault)
+    → NeverSound old new fault → TakesNone old new (HasAnswered end) → StatesAll old new query w w end
+unstated_all old new query w end fault is sound takes = record {
   text = rw is tt;
-  part = on_err_any told (λ clean log s.
+  part = on_err_any end (λ clean log s.
       let some = some_text log s.commands query in (some.0, some.1, nothing_written w some.0));
-  found = not_missing told fault is;
-  sound = λ rule damaged. sound rule (same_fault told fault (Damaged rule) is damaged);
+  found = not_missing end fault is;
+  sound = λ rule damaged. sound rule (same_fault end fault (Damaged rule) is damaged);
   takes = takes;
 }
 
-pub unstated : (old new : Seen) (account : ℕ) (query : Query) (w : Option (List ℕ)) (told : Result (Unit {0}) ReportFault)
-    (fault : Fault) → told ≡ Err (Bank fault)
-    → NeverSound old new fault → TakesNone old new (HasAnswered told) → StatesSelected old new account query w w told
-unstated old new account query w told fault is sound takes = record {
+pub unstated : (old new : Seen) (account : ℕ) (query : Query) (w : Option (List ℕ)) (end : Result (Unit {0}) ReportFault)
+    (fault : Fault) → end ≡ Err (Bank fault)
+    → NeverSound old new fault → TakesNone old new (HasAnswered end) → StatesSelected old new account query w w end
+unstated old new account query w end fault is sound takes = record {
   text = rw is tt;
   found = rw is tt;
-  missing = λ none. absurd (not_missing told fault is none);
+  missing = λ none. absurd (not_missing end fault is none);
   silent = λ none. refl;
-  part = on_err_any told (λ clean log s. nothing_written w (statement_after log account query));
-  sound = λ rule damaged. sound rule (same_fault told fault (Damaged rule) is damaged);
+  part = on_err_any end (λ clean log s. nothing_written w (statement_after log account query));
+  sound = λ rule damaged. sound rule (same_fault end fault (Damaged rule) is damaged);
   takes = takes;
 }

@@ -59,18 +59,18 @@ module _ {first now : Gathered} {rows : List Pair} {old mid : Option (List ℕ)}
   ]
 
   -- all were, and then their statements were written
-  pub gathered_then : (query : Query) (new : Option (List ℕ)) (told : Result (Unit {0}) ReportFault)
+  pub gathered_then : (query : Query) (new : Option (List ℕ)) (end : Result (Unit {0}) ReportFault)
       → VisitsPostings HasGathered RefusesRow first now rows old mid (Ok tt)
-      → WritesGathered query now.rows.items mid new told → WritesStatements query rows old new told
-  gathered_then query new told it written = elim it.ends [
+      → WritesGathered query now.rows.items mid new end → WritesStatements query rows old new end
+  gathered_then query new end it written = elim it.ends [
     | inl read ↦ record {
       gathered = it.given;
       rest = it.rest;
       are = it.are;
       ends = inl (
         read.why,
-        subst (λ (o : Option (List ℕ)). WritesGathered query it.given o new told) read.visited.silent
-            (subst (λ rs. WritesGathered query rs mid new told) read.visited.rows written),
+        subst (λ (o : Option (List ℕ)). WritesGathered query it.given o new end) read.visited.silent
+            (subst (λ rs. WritesGathered query rs mid new end) read.visited.rows written),
       );
     }
     | inr ended ↦ absurd (not_ok _ _ _ refl ended.is)
@@ -83,20 +83,20 @@ silent_so_far first now old mid fault it = elim it.1 [ inl visited ↦ visited.s
 
 -- ---- how statements of what was gathered end
 
-pub record OnlyWrites (old new : Option (List ℕ)) (told : Result (Unit {0}) ReportFault) : Type 0 where
-  pub found : told ≡ Err NoAccount → ⊥
-  pub store : told ≡ Err (Bank Store) → ⊥
-  pub down : told ≡ Err (Bank Down) → ⊥
-  pub memory : told ≡ Err (Bank Memory) → new ≡ old
+pub record OnlyWrites (old new : Option (List ℕ)) (end : Result (Unit {0}) ReportFault) : Type 0 where
+  pub found : end ≡ Err NoAccount → ⊥
+  pub store : end ≡ Err (Bank Store) → ⊥
+  pub down : end ≡ Err (Bank Down) → ⊥
+  pub memory : end ≡ Err (Bank Memory) → new ≡ old
 
 pub gathered_ends : (query : Query) (gathered : List StatedPosting) (old new : Option (List ℕ))
-    (told : Result (Unit {0}) ReportFault) → WritesGathered query gathered old new told → OnlyWrites old new told
-gathered_ends query gathered old new told written = record {
+    (end : Result (Unit {0}) ReportFault) → WritesGathered query gathered old new end → OnlyWrites old new end
+gathered_ends query gathered old new end written = record {
   found = λ is. as_told (Err NoAccount) is;
   store = λ is. as_told (Err (Bank Store)) is;
   down = λ is. as_told (Err (Bank Down)) is;
   memory = λ is. as_told (Err (Bank Memory)) is;
 }
   where
-    as_told : (other : Result (Unit {0}) ReportFault) → told ≡ other → WritesGathered query gathered old new other
+    as_told : (other : Result (Unit {0}) ReportFault) → end ≡ other → WritesGathered query gathered old new other
     as_told other is = subst (λ r. WritesGathered query gathered old new r) is written

@@ -31,7 +31,7 @@ module _ {S R X : Type 0} {g : Ghosts S} {key : X → ℤ} {item : R → X} {is_
       (HasFailedToRead g (connection_of (lent walk)) last)))
       → last ≡ new → (Later → Clean) → Later → (all : List X) → HasItems (database_of g old) all
       → IfErr r (SaysOf (λ rule. HasBroken (Breaks rule) all) (HasFailedToRead g (connection_of old) new))
-  told_of_all Breaks {last = last} {new = new} told two before late all has =
+  told_of_all Breaks {last = last} {new = new} answers two before late all has =
       subst (λ conn. IfErr r (SaysOf (λ rule. HasBroken (Breaks rule) all)
       (HasFailedToRead g (connection_of old) conn))) two
       (subst (λ bank. IfErr r (SaysOf (λ rule. HasBroken (Breaks rule) all)
@@ -39,7 +39,7 @@ module _ {S R X : Type 0} {g : Ghosts S} {key : X → ℤ} {item : R → X} {is_
       begins.same
       (subst (λ xs. IfErr r (SaysOf (λ rule. HasBroken (Breaks rule) xs)
       (HasFailedToRead g (connection_of (lent walk)) last)))
-      (begins.all all has) (told (before late) all (there all has))))
+      (begins.all all has) (answers (before late) all (there all has))))
 
   pub added_of_all : (with_rows : AuditRows → List R → AuditRows) (from to : Sums) {Clean Later : Type 0}
       → IfOk r (λ _. (given : List R) × AddsToSums with_rows from to given

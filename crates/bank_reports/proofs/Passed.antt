@@ -4,7 +4,7 @@ use Rattle.std.proofs.Common.{arith}
 use Rattle.std.specs.Prelude.{OnOk}
 use Rattle.sqlite.specs.{Effect.Database, State.State, State.HasCleanDisk, Held.Held, Held.state}
 use Rattle.posting_rules.specs.declared.fault.{Fault.Fault, Rule.Rule}
-use Rattle.posting_rules.specs.declared.fault.Fault.TheVariants as told
+use Rattle.posting_rules.specs.declared.fault.Fault.TheVariants as faults
 use Rattle.sqlite_trees.specs.declared.store.Store.{Ghosts}
 use Rattle.bank_transactions.specs.believed.Causes.{IsBefore}
 use Rattle.bank_transactions.proofs.Blamed.{comes, then_moment}
@@ -63,10 +63,10 @@ has_mid {old} {mid} {new} {r} f one two clean =
 pub says_any : {Breaks AnyBreaks : Rule → Type 0} (Failed : Type 0) (fault : Fault)
     → ((rule : Rule) → Breaks rule → AnyBreaks rule)
     → SaysOf Breaks Failed fault → SaysOf AnyBreaks Failed fault
-says_any Failed told.Memory any says = says
-says_any Failed told.Store any says = says
-says_any Failed told.Down any says = tt
-says_any Failed (told.Damaged rule) any says = any rule says
+says_any Failed faults.Memory any says = says
+says_any Failed faults.Store any says = says
+says_any Failed faults.Down any says = tt
+says_any Failed (faults.Damaged rule) any says = any rule says
 
 -- a read that failed later has failed since before
 pub failed_later : {S : Type 0} (g : Ghosts S) (old mid new : Held S) → IsBefore (state g old) (state g mid)
@@ -82,11 +82,11 @@ pub says_after : {S : Type 0} {Breaks AnyBreaks : Rule → Type 0} (g : Ghosts S
     (fault : Fault) → ((rule : Rule) → Breaks rule → AnyBreaks rule)
     → IsPassed (state g old) (state g mid) (Ok tt) → SaysOf Breaks (HasFailedToRead g mid new) fault
     → SaysOf AnyBreaks (HasFailedToRead g old new) fault
-says_after g old mid new told.Memory any pass says = says
-says_after g old mid new told.Store any pass says =
+says_after g old mid new faults.Memory any pass says = says
+says_after g old mid new faults.Store any pass says =
     failed_later g old mid new (comes pass.survives) says
-says_after g old mid new told.Down any pass says = tt
-says_after g old mid new (told.Damaged rule) any pass says = any rule says
+says_after g old mid new faults.Down any pass says = tt
+says_after g old mid new (faults.Damaged rule) any pass says = any rule says
 
 -- the connection is as that read left it
 pub failed_at_end : {S : Type 0} {g : Ghosts S} {old last new : Held S} → HasFailedToRead g old last

@@ -11,12 +11,12 @@ use Rattle.bank_store.proofs.StepsKeep.{undone_then}
 use Rattle.bank_reports.specs.{declared.fault.ReportFault.ReportFault, Leaving.ReadsRows}
 use Rattle.bank_reports.proofs.Passed.{failed_later}
 
-module _ {S : Type 0} (g : Ghosts S) (old mid new : Bank S g) (told : Result (Unit {0}) ReportFault)
-    (first : ReadsRows g ⊥ old mid (Ok tt)) (second : ReadsRows g ⊥ mid new told) where
+module _ {S : Type 0} (g : Ghosts S) (old mid new : Bank S g) (end : Result (Unit {0}) ReportFault)
+    (first : ReadsRows g ⊥ old mid (Ok tt)) (second : ReadsRows g ⊥ mid new end) where
   clean_at : HasCleanDisk (file_of new) → HasCleanDisk (file_of mid)
   clean_at clean = clean_before (file_of mid) (file_of new) second.survives clean
 
-  pub reads_then : ReadsRows g ⊥ old new told
+  pub reads_then : ReadsRows g ⊥ old new end
   reads_then = record {
     found = second.found;
     frugal = second.frugal;

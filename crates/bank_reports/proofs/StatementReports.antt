@@ -267,7 +267,7 @@ pub record ToldOfLog (a : ℕ) (log : List Command) (query : Query) (old new : O
   pub is : Some balance ≡ balance_after log a
   pub all : List Pair
   pub rows : all ≡ map stated_pair (postings_to a (decided log))
-  pub told : WritesSelected a balance query all old new answer
+  pub answers : WritesSelected a balance query all old new answer
   pub commands : AreCommands log
 
 module _ {a : ℕ} {log : List Command} {query : Query} {old new : Option (List ℕ)}
@@ -275,7 +275,7 @@ module _ {a : ℕ} {log : List Command} {query : Query} {old new : Option (List 
     (it : ToldOfLog a log query old new answer) where
   as_told : (other : Result (Unit {0}) ReportFault) → answer ≡ other
       → WritesSelected a it.balance query it.all old new other
-  as_told other is = subst (λ r. WritesSelected a it.balance query it.all old new r) is it.told
+  as_told other is = subst (λ r. WritesSelected a it.balance query it.all old new r) is it.answers
 
   pub log_whole : answer ≡ Ok tt → Appends old new (statement_after log a query)
   log_whole is =

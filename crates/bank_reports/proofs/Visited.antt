@@ -17,10 +17,10 @@ use Rattle.bank_reports.proofs.Further.{are_more, error_is}
 pub step_why : (given : List StatedPosting) (coming after : List Pair) (fault : Fault)
     → Steps {R = StatedPosting} stated_pair BreaksStated coming after (Err fault)
     → WhyRead given coming (Err (Bank fault))
-step_why given coming after Memory told = absurd told
-step_why given coming after Store told = tt
-step_why given coming after Down told = tt
-step_why given coming after (Damaged rule) told = inl told
+step_why given coming after Memory answers = absurd answers
+step_why given coming after Store answers = tt
+step_why given coming after Down answers = tt
+step_why given coming after (Damaged rule) answers = inl answers
 
 -- what ended the visits is a refusal, by whatever name
 pub refusal_is : (takes_memory : Type 0) (r : Result (Unit {0}) ReportFault) (e f : ReportFault) → r ≡ Err e

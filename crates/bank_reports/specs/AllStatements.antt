@@ -30,31 +30,31 @@ AreStatementsAfter log query text = AreStatements query (all_postings (decided l
 
 -- what is asked for of all accounts of a bank was stated; w and w' are the known bytes of the writer before and after
 pub record StatesAll (old new : Seen) (query : Query) (w w' : Option (List ℕ))
-    (told : Result (Unit {0}) ReportFault) : Type 0 where
+    (end : Result (Unit {0}) ReportFault) : Type 0 where
   -- the statements after the bank's log were written
-  pub text : OnOk told (new.honest → (log : List Command) → ShowsLog old log
+  pub text : OnOk end (new.honest → (log : List Command) → ShowsLog old log
       → (text : List ℕ) × AreStatementsAfter log query text × Appends w w' text)
   -- at a fault a prefix of them was
-  pub part : OnErr told (new.honest → (log : List Command) → ShowsLog old log
+  pub part : OnErr end (new.honest → (log : List Command) → ShowsLog old log
       → (text : List ℕ) × AreStatementsAfter log query text × AppendsPart w w' text)
   -- whether an account is open isn't asked
-  pub found : told ≢ Err NoAccount
+  pub found : end ≢ Err NoAccount
   -- a bank that shows a log is never told to be damaged
-  pub sound : (rule : Rule) → told ≡ Err (OfBank (Damaged rule)) → new.honest → (log : List Command)
+  pub sound : (rule : Rule) → end ≡ Err (OfBank (Damaged rule)) → new.honest → (log : List Command)
       → ShowsLog old log → ⊥
-  pub takes : TakesNone old new (HasAnswered told)
+  pub takes : TakesNone old new (HasAnswered end)
 
 -- what is asked for of all accounts of a file was stated, whatever rows it has
 pub record StatesAllOfFile {S : Type 0} (g : Ghosts S) (old new : Bank S g) (query : Query) (w w' : Option (List ℕ))
-    (told : Result (Unit {0}) ReportFault) : Type 0 where
+    (end : Result (Unit {0}) ReportFault) : Type 0 where
   -- the rows of history that the file holds are gathered, each with the reference that is held under its ordinal,
   -- and then their statements are written
   pub rows : (rows : List Pair) → HasPairs (database_of g old) history_table reference_table rows
-      → WritesStatements query rows w w' told
+      → WritesStatements query rows w w' end
   -- so are those of a bank's tables, be they of a log or not
   pub tables : (t : Tables) → (bank_seen g old).tables t
-      → WritesStatements query (paired (map reference_entry t.references) (map history_entry t.history)) w w' told
+      → WritesStatements query (paired (map reference_entry t.references) (map history_entry t.history)) w w' end
   -- the store is said to have failed where a read of the postings did
-  pub store : told ≡ Err (OfBank Store) → (rows : List Pair)
+  pub store : end ≡ Err (OfBank Store) → (rows : List Pair)
       → HasPairs (database_of g old) history_table reference_table rows
       → HasFailedToRead g (connection_of old) (connection_of new)

@@ -34,37 +34,37 @@ AccountsAreAbove t = (r : AccountRow) → Contains t.accounts r
     → IfSome (floor_in t (branch_of_account r.account)) (λ floor. floor ≤ℤ r.balance)
 
 -- a bank was audited
-pub record Audits (old new : Seen) (told : Result Audit Fault) : Type 0 where
+pub record Audits (old new : Seen) (end : Result Audit Fault) : Type 0 where
   -- of its tables, be they of a log or not, the audit is theirs
-  pub tables : new.honest → (t : Tables) → old.tables t → IfOk told (λ a. a ≡ audit_of (stored t))
+  pub tables : new.honest → (t : Tables) → old.tables t → IfOk end (λ a. a ≡ audit_of (stored t))
   -- and says whether they are consistent (TPC-B clause 2)
   pub condition : new.honest → (t : Tables) → old.tables t
-      → IfOk told (λ a. IsTrue (is_sound a) ↔ IsConsistent t)
+      → IfOk end (λ a. IsTrue (is_sound a) ↔ IsConsistent t)
   -- where they are of a log, no two posted requests share teller and number
-  pub once : OnOk told (new.honest → (log : List Command) → (t : Tables) → old.tables t
+  pub once : OnOk end (new.honest → (log : List Command) → (t : Tables) → old.tables t
       → AreTablesOf t log → EachPostedOnce t)
   -- and each account is at its floor or above it
-  pub above : OnOk told (new.honest → (log : List Command) → AreCommands log → (t : Tables) → old.tables t
+  pub above : OnOk end (new.honest → (log : List Command) → AreCommands log → (t : Tables) → old.tables t
       → AreTablesOf t log → AccountsAreAbove t)
   -- a bank that shows a log is consistent
-  pub balanced : new.honest → (log : List Command) → ShowsLog old log → IfOk told (λ a. IsTrue (is_sound a))
+  pub balanced : new.honest → (log : List Command) → ShowsLog old log → IfOk end (λ a. IsTrue (is_sound a))
   -- and is never told to be damaged
-  pub sound : (rule : Rule) → told ≡ Err (Damaged rule) → new.honest → (log : List Command) → ShowsLog old log
+  pub sound : (rule : Rule) → end ≡ Err (Damaged rule) → new.honest → (log : List Command) → ShowsLog old log
       → ⊥
-  pub takes : TakesNone old new (HasAudited told)
+  pub takes : TakesNone old new (HasAudited end)
 
 -- a file was audited, whatever rows it has
-pub record AuditsFile {S : Type 0} (g : Ghosts S) (old new : Bank S g) (told : Result Audit Fault)
+pub record AuditsFile {S : Type 0} (g : Ghosts S) (old new : Bank S g) (end : Result Audit Fault)
     : Type 0 where
   -- the audit is that of its rows
   pub numbers : (f : FileRows) → HasFile (database_of g old) f
-      → IfOk told (λ a. (t : StoredTables) × (rows_in t ≡ f) × (a ≡ audit_of t))
+      → IfOk end (λ a. (t : StoredTables) × (rows_in t ≡ f) × (a ≡ audit_of t))
   -- and says whether they are consistent
   pub consistent : (t : StoredTables) → HasFile (database_of g old) (rows_in t)
-      → IfOk told (λ a. IsTrue (is_sound a) ↔ IsSoundFile t)
+      → IfOk end (λ a. IsTrue (is_sound a) ↔ IsSoundFile t)
   -- it is told to be damaged where a number of a row is out of its range
-  pub damaged : (rule : Rule) → told ≡ Err (Damaged rule) → (f : FileRows) → HasFile (database_of g old) f
+  pub damaged : (rule : Rule) → end ≡ Err (Damaged rule) → (f : FileRows) → HasFile (database_of g old) f
       → HasBrokenRow rule f
   -- the store is said to have failed where a read did
-  pub store : told ≡ Err Store → (f : FileRows) → HasFile (database_of g old) f
+  pub store : end ≡ Err Store → (f : FileRows) → HasFile (database_of g old) f
       → HasFailedToRead g (connection_of old) (connection_of new)

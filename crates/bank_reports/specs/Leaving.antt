@@ -14,27 +14,27 @@ use Rattle.bank_store.specs.Failures.{HasFailedToRead}
 use Rattle.bank_reports.specs.Postings.{HasWritten}
 
 -- a bank that was down, and no other, is told to be, and nothing is done
-pub record TellsDown (was_down told nothing_done : Type 0) : Type 0 where
-  pub down : was_down → told
-  pub tried : told → was_down
-  pub idle : told → nothing_done
+pub record TellsDown (was_down answered nothing_done : Type 0) : Type 0 where
+  pub down : was_down → answered
+  pub tried : answered → was_down
+  pub idle : answered → nothing_done
 
 -- rows of history were read, each with its reference, and visited by what takes memory or doesn't
 pub record ReadsRows {S : Type 0} (g : Ghosts S) (takes_memory : Type 0) (old new : Bank S g)
-    (told : Result (Unit {0}) ReportFault) : Type 0 where
+    (end : Result (Unit {0}) ReportFault) : Type 0 where
   -- whether the account is open isn't asked
-  pub found : told ≢ Err NoAccount
-  pub frugal : told ≡ Err (OfBank Memory) → takes_memory
+  pub found : end ≢ Err NoAccount
+  pub frugal : end ≡ Err (OfBank Memory) → takes_memory
   -- Down is told of a bank that was down, and none goes down
-  pub tried : told ≡ Err (OfBank Down) → (bank_seen g old).is_down
+  pub tried : end ≡ Err (OfBank Down) → (bank_seen g old).is_down
   pub up : (bank_seen g new).is_down → (bank_seen g old).is_down
   -- the store is said to have failed where a read did
-  pub store : told ≡ Err (OfBank Store) → HasCleanDisk (file_of new) → (rows : List Pair)
+  pub store : end ≡ Err (OfBank Store) → HasCleanDisk (file_of new) → (rows : List Pair)
       → HasPairs (database_of g old) history_table reference_table rows
       → HasFailedToRead g (connection_of old) (connection_of new)
   -- where all was written, or the writer failed, the connection sees what it saw, and else it does as long as
   -- the store is open
-  pub still : HasCleanDisk (file_of new) → HasWritten told → IsStill (file_of old) (file_of new)
+  pub still : HasCleanDisk (file_of new) → HasWritten end → IsStill (file_of old) (file_of new)
   pub undone : HasCleanDisk (file_of new) → IsUntouchedIfOpen (file_of old) (file_of new)
   -- a crash leaves what it could leave before
   pub survives : Survives (file_of old) (file_of new) (λ _. ⊥)

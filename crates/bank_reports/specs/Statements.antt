@@ -31,72 +31,72 @@ use Rattle.bank_reports.specs.Postings.{HasAnswered, StatesRows}
 
 -- what is asked for of an account of a bank was stated; w and w' are the known bytes of the writer before and after
 pub record StatesSelected (old new : Seen) (account : ℕ) (query : Query) (w w' : Option (List ℕ))
-    (told : Result (Unit {0}) ReportFault) : Type 0 where
+    (end : Result (Unit {0}) ReportFault) : Type 0 where
   -- the statement after the bank's log was written
-  pub text : OnOk told (new.honest → (log : List Command) → ShowsLog old log
+  pub text : OnOk end (new.honest → (log : List Command) → ShowsLog old log
       → Appends w w' (statement_after log account query))
   -- of an account that is open
-  pub found : OnOk told (new.honest → (log : List Command) → ShowsLog old log
+  pub found : OnOk end (new.honest → (log : List Command) → ShowsLog old log
       → IsSome (balance_after log account))
   -- where it isn't that is told, and nothing was written
-  pub missing : told ≡ Err NoAccount → new.honest → (log : List Command) → ShowsLog old log
+  pub missing : end ≡ Err NoAccount → new.honest → (log : List Command) → ShowsLog old log
       → balance_after log account ≡ None
-  pub silent : told ≡ Err NoAccount → w' ≡ w
+  pub silent : end ≡ Err NoAccount → w' ≡ w
   -- at a fault a prefix of it was
-  pub part : OnErr told (new.honest → (log : List Command) → ShowsLog old log
+  pub part : OnErr end (new.honest → (log : List Command) → ShowsLog old log
       → AppendsPart w w' (statement_after log account query))
   -- a bank that shows a log is never told to be damaged
-  pub sound : (rule : Rule) → told ≡ Err (OfBank (Damaged rule)) → new.honest → (log : List Command)
+  pub sound : (rule : Rule) → end ≡ Err (OfBank (Damaged rule)) → new.honest → (log : List Command)
       → ShowsLog old log → ⊥
-  pub takes : TakesNone old new (HasAnswered told)
+  pub takes : TakesNone old new (HasAnswered end)
 
 -- all of it was
 abbrev pub States : Seen → Seen → ℕ → Option (List ℕ) → Option (List ℕ) → Result (Unit {0}) ReportFault → Type 0
-States old new account w w' told = StatesSelected old new account whole_query w w' told
+States old new account w w' end = StatesSelected old new account whole_query w w' end
 
 -- what is asked for of an account of a file was stated, whatever rows it has
 pub record StatesFileSelected {S : Type 0} (g : Ghosts S) (old new : Bank S g) (account : ℕ) (query : Query) (w w' : Option (List ℕ))
-    (told : Result (Unit {0}) ReportFault) : Type 0 where
+    (end : Result (Unit {0}) ReportFault) : Type 0 where
   -- of the rows of history that the file holds, the account's are written by their ordinals, each with the
   -- reference that is held under its ordinal, all of them or, at a fault, the first, and then the balance
   -- that its row has
-  pub rows : told ≢ Err NoAccount → (rows : List Pair)
+  pub rows : end ≢ Err NoAccount → (rows : List Pair)
       → HasPairs (database_of g old) history_table reference_table rows
-      → StatesRows (database_of g old) account query rows w w' told
+      → StatesRows (database_of g old) account query rows w w' end
   -- so are those of a bank's tables, be they of a log or not
-  pub tables : told ≢ Err NoAccount → (t : Tables) → (bank_seen g old).tables t
+  pub tables : end ≢ Err NoAccount → (t : Tables) → (bank_seen g old).tables t
       → StatesRows (database_of g old) account query
-      (paired (map reference_entry t.references) (map history_entry t.history)) w w' told
+      (paired (map reference_entry t.references) (map history_entry t.history)) w w' end
   -- or the account has no row, and none is due by its branch's count
-  pub absent : told ≡ Err NoAccount → IsStoredBalance (database_of g old) account None
+  pub absent : end ≡ Err NoAccount → IsStoredBalance (database_of g old) account None
   -- the store is said to have failed where a read of the postings did
-  pub store : told ≡ Err (OfBank Store) → (rows : List Pair)
+  pub store : end ≡ Err (OfBank Store) → (rows : List Pair)
       → HasPairs (database_of g old) history_table reference_table rows
       → HasFailedToRead g (connection_of old) (connection_of new)
 
 -- all of it was
 abbrev pub StatesFile : {S : Type 0} (g : Ghosts S) (old new : Bank S g) → ℕ → Option (List ℕ) → Option (List ℕ)
     → Result (Unit {0}) ReportFault → Type 0
-StatesFile g old new account w w' told = StatesFileSelected g old new account whole_query w w' told
+StatesFile g old new account w w' end = StatesFileSelected g old new account whole_query w w' end
 
 -- the bank is down after a statement: it refused the balance, or was down before
 pub record RefusesBalance {S : Type 0} (g : Ghosts S) (old new : Bank S g)
-    (told : Result (Unit {0}) ReportFault) : Type 0 where
+    (end : Result (Unit {0}) ReportFault) : Type 0 where
   -- a fault of the bank is told
-  pub fault : (fault : Fault) × (told ≡ Err (OfBank fault))
+  pub fault : (fault : Fault) × (end ≡ Err (OfBank fault))
   -- the store is said to have failed where the bank went down with its error
-  pub cause : told ≡ Err (OfBank Store) → KeepsCause g old new
+  pub cause : end ≡ Err (OfBank Store) → KeepsCause g old new
   -- it is told to be damaged where the rows that the file held break that rule, and it holds them yet
-  pub broken : (rule : Rule) → told ≡ Err (OfBank (Damaged rule)) → WasBroken g old new rule
-  pub unchanged : (rule : Rule) → told ≡ Err (OfBank (Damaged rule)) → (bank_seen g new).honest
+  pub broken : (rule : Rule) → end ≡ Err (OfBank (Damaged rule)) → WasBroken g old new rule
+  pub unchanged : (rule : Rule) → end ≡ Err (OfBank (Damaged rule)) → (bank_seen g new).honest
       → database_of g new ≡ database_of g old
 
 -- what is left of the writer, of which it is known what its calls returned
 pub record LeavesWriter {W : Type 0} (calls : W → Option (List WriteCall)) (old new : W) (refused : Type 0)
-    (told : Result (Unit {0}) ReportFault) : Type 0 where
+    (end : Result (Unit {0}) ReportFault) : Type 0 where
   -- where the account isn't open, or its balance was refused, nothing was written
-  pub silent : (told ≡ Err NoAccount) ⊎ refused → new ≡ old
+  pub silent : (end ≡ Err NoAccount) ⊎ refused → new ≡ old
   -- after Ok all is flushed
-  pub flushed : OnOk told (EndsWith IsFlush (calls old) (calls new))
+  pub flushed : OnOk end (EndsWith IsFlush (calls old) (calls new))
   -- the last write or flush failed, or it was asked too often
-  pub failed : told ≡ Err Write → HasWriteFailed (calls old) (calls new)
+  pub failed : end ≡ Err Write → HasWriteFailed (calls old) (calls new)

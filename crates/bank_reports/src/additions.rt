@@ -25,7 +25,7 @@ pub(crate) fn add_all<S: Alter>(bank: &mut Bank<S>, sums: &mut Sums) -> Result<(
     ensures added { HasCleanDisk (file_of bank.new) → (f : FileRows)
         → HasFile (database_of S.Store bank.old) f
         → OnOk result ((t : StoredTables) × (rows_in t ≡ f) × HasSums sums.new (rows_of t)) }
-    ensures told { HasCleanDisk (file_of bank.new) → (f : FileRows)
+    ensures answers { HasCleanDisk (file_of bank.new) → (f : FileRows)
         → HasFile (database_of S.Store bank.old) f
         → IfErr result (SaysOf (λ rule. HasBrokenRow rule f)
         (HasFailedToRead S.Store (connection_of bank.old) (connection_of bank.new))) }

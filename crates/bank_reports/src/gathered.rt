@@ -30,7 +30,7 @@ pub(crate) fn add_rows<S: Alter, R: Summed>(
         → R.WalkedRow.HasItems (lent_state S.Store walk.old).now all
         → map R.WalkedRow.item given
         ≡ items_to_come R.WalkedRow.key R.WalkedRow.item R.WalkedRow.is_given all walk.old)) }
-    ensures told { HasCleanDisk (lent_state S.Store walk.new) → (all : List R.WalkedRow.Item)
+    ensures answers { HasCleanDisk (lent_state S.Store walk.new) → (all : List R.WalkedRow.Item)
         → R.WalkedRow.HasItems (lent_state S.Store walk.old).now all → let coming =
         items_to_come R.WalkedRow.key R.WalkedRow.item R.WalkedRow.is_given all walk.old
         in IfErr result (SaysOf (λ rule. HasBroken (R.WalkedRow.Breaks rule) coming)

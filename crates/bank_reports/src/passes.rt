@@ -26,7 +26,7 @@ pub(crate) fn add_each<S: Alter, R: Summed>(
         × (HasCleanDisk (file_of bank.new) → (all : List R.WalkedRow.Item)
         → R.WalkedRow.HasItems (database_of S.Store bank.old) all
         → map R.WalkedRow.item given ≡ all)) }
-    ensures told { HasCleanDisk (file_of bank.new) → (all : List R.WalkedRow.Item)
+    ensures answers { HasCleanDisk (file_of bank.new) → (all : List R.WalkedRow.Item)
         → R.WalkedRow.HasItems (database_of S.Store bank.old) all
         → IfErr result (SaysOf (λ rule. HasBroken (R.WalkedRow.Breaks rule) all)
         (HasFailedToRead S.Store (connection_of bank.old) (connection_of bank.new))) }

@@ -32,7 +32,7 @@ fn visit_rows<S: Alter, V: Visitor, W: Sink>(
     requires fresh { HasToldFault walk.old → ⊥ }
     requires none { V.Visited visitor.old (W.contents writer.old) [] visitor.old (W.contents writer.old) }
     ensures same_reference { loan_of walk.new ≡ loan_of walk.old }
-    ensures told { HasCleanDisk (lent_state S.Store walk.new) → (rows : List Pair)
+    ensures answers { HasCleanDisk (lent_state S.Store walk.new) → (rows : List Pair)
         → HasPairs (lent_state S.Store walk.old).now history_table reference_table rows
         → VisitsPostings V.Visited V.Refused visitor.old visitor.new (postings_to_come rows walk.old) (W.contents writer.old)
         (W.contents writer.new) result }
@@ -75,7 +75,7 @@ pub(crate) fn visit_postings<S: Alter, V: Visitor, W: Sink>(
     writer: &mut W,
 ) -> Result<(), ReportFault>
     requires none { V.Visited visitor.old (W.contents writer.old) [] visitor.old (W.contents writer.old) }
-    ensures told { HasCleanDisk (file_of bank.new) → (rows : List Pair)
+    ensures answers { HasCleanDisk (file_of bank.new) → (rows : List Pair)
         → HasPairs (database_of S.Store bank.old) history_table reference_table rows
         → VisitsPostings V.Visited V.Refused visitor.old visitor.new (given_of is_stated_of of rows)
         (W.contents writer.old) (W.contents writer.new) result }

@@ -32,7 +32,7 @@ fn write_lines<S: Alter, W: Sink>(
     form: &Form,
     writer: &mut W,
 ) -> Result<(), ReportFault>
-    ensures told { HasCleanDisk (file_of bank.new) → (rows : List Pair)
+    ensures answers { HasCleanDisk (file_of bank.new) → (rows : List Pair)
         → HasPairs (database_of S.Store bank.old) history_table reference_table rows
         → WritesStatement account form.now (filter (is_stated_of (Some account)) rows) (W.contents writer.old)
         (W.contents writer.new) result }
@@ -56,7 +56,7 @@ fn write_part<S: Alter, W: Sink>(
     range: Range,
     writer: &mut W,
 ) -> Result<(), ReportFault>
-    ensures told { HasCleanDisk (file_of bank.new) → (rows : List Pair)
+    ensures answers { HasCleanDisk (file_of bank.new) → (rows : List Pair)
         → HasPairs (database_of S.Store bank.old) history_table reference_table rows
         → WritesPart account selection range (filter (is_stated_of (Some account)) rows) (W.contents writer.old)
         (W.contents writer.new) result }
@@ -78,7 +78,7 @@ fn write_open<S: Alter, W: Sink>(
     query: Query,
     writer: &mut W,
 ) -> Result<(), ReportFault>
-    ensures told { HasCleanDisk (file_of bank.new) → (rows : List Pair)
+    ensures answers { HasCleanDisk (file_of bank.new) → (rows : List Pair)
         → HasPairs (database_of S.Store bank.old) history_table reference_table rows
         → WritesSelected account balance query (filter (is_stated_of (Some account)) rows) (W.contents writer.old)
         (W.contents writer.new) result }

@@ -143,7 +143,7 @@ fn posted<C: Counter>(
         return "no record".to_string(alloc);
     };
     match bank.submit(moment, &record.bytes) {
-        Ok(reply) => record.told(alloc, &reply),
+        Ok(reply) => record.answer_text(alloc, &reply),
         Err(fault) => fault.to_string(alloc),
     }
 }
@@ -207,7 +207,7 @@ fn told_each(
 ) -> Result<String, AllocError> {
     let mut answers = String::new(alloc);
     for (record, reply) in records.iter().zip(replies) {
-        add(&mut answers, record.told(alloc, reply))?;
+        add(&mut answers, record.answer_text(alloc, reply))?;
     }
     Ok(answers)
 }

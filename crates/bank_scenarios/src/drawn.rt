@@ -119,7 +119,7 @@ fn balances_of<C: Counter>(
 }
 
 // The outcomes that came.
-fn told(alloc: Global, came: &[Outcome]) -> Result<String, AllocError> {
+fn outcomes_text(alloc: Global, came: &[Outcome]) -> Result<String, AllocError> {
     let mut said = "agree:".to_string(alloc)?;
     for outcome in [
         Outcome::Posted,
@@ -298,5 +298,5 @@ pub fn play_run<S: Alter + Drop>(
     };
     course.play(plain, stored)?;
     stored.release();
-    Ok(told(alloc, course.outcomes.as_slice())?)
+    Ok(outcomes_text(alloc, course.outcomes.as_slice())?)
 }

@@ -79,7 +79,11 @@ impl Record {
     }
 
     /// The text of the reply to it.
-    pub fn told(&self, alloc: Global, reply: &[u8; REPLY_BYTES]) -> Result<String, AllocError> {
+    pub fn answer_text(
+        &self,
+        alloc: Global,
+        reply: &[u8; REPLY_BYTES],
+    ) -> Result<String, AllocError> {
         if !self.is_request {
             let text = String::from_utf8_lossy(alloc, reply)?;
             return text.trim_end_matches(' ').to_string(alloc);

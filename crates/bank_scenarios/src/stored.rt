@@ -94,7 +94,7 @@ impl<S: Alter + Drop> Stored<S> {
     }
 
     // The word if a bank is taken up, and else the fault that tells why none is.
-    fn told(&self, word: &str) -> Result<String, AllocError> {
+    fn word_or_fault(&self, word: &str) -> Result<String, AllocError> {
         match &self.kept {
             Kept::Taken(_) => word.to_string(self.alloc),
             _ => self.fault.to_string(self.alloc),
@@ -104,13 +104,13 @@ impl<S: Alter + Drop> Stored<S> {
     /// Makes a bank there, and returns whether it was made.
     pub fn make(&mut self) -> Result<String, AllocError> {
         self.create();
-        self.told("made")
+        self.word_or_fault("made")
     }
 
     /// Takes the bank up, and returns whether it was found.
     pub fn adopt(&mut self) -> Result<String, AllocError> {
         self.take_up();
-        self.told("adopted")
+        self.word_or_fault("adopted")
     }
 
     /// The bank, taken up anew, or why there is none.

@@ -40,7 +40,7 @@ module _ {S X : Type 0} {So : Tables → Type 0} {after : Tables → Tables} {wa
       subst (λ (f : Fault). OfDamage f (BreaksShown So (state g old).now (HasCleanDisk (state g new)))) (sym went.1) tt
   breaks_shown Met (Damaged rule) does (inl went) =
       subst (λ (f : Fault). OfDamage f (BreaksShown So (state g old).now (HasCleanDisk (state g new)))) (sym went.1)
-      (λ clean t shows so. does.told (omega (arith, quiet.clean)) t shows so)
+      (λ clean t shows so. does.answers (omega (arith, quiet.clean)) t shows so)
   breaks_shown Met (Damaged rule) does (inr went) =
       subst (λ (f : Fault). OfDamage f (BreaksShown So (state g old).now (HasCleanDisk (state g new)))) (sym went.0) tt
 

@@ -33,17 +33,17 @@ module _ {S : Type 0} (g : Ghosts S) (conn : Held S) (bank : Bank S g) (up : (ba
   pub is_migrated : (migrated : Migrated)
       → (HasCleanDisk (file_of bank) → Migrates (state g conn) (file_of bank) (Ok migrated)) → IsFromEarlier migrated
       → Survives (state g conn) (file_of bank) (HasCarriedOver (state g conn)) → IsMigrated g conn (bank, migrated)
-  is_migrated Already told from survives =
-      taken_up g conn bank (HasCarriedOver (state g conn)) told survives
+  is_migrated Already answers from survives =
+      taken_up g conn bank (HasCarriedOver (state g conn)) answers survives
       (λ log s left carried. not_earlier (state g conn) s.tables log s.are s.commands s.shows carried.0 carried.1) up
-  is_migrated (Moved version) told (from, is) survives = (
+  is_migrated (Moved version) answers (from, is) survives = (
     from,
     is,
     record {
-      was = λ clean. ((told clean from is).0, (told clean from is).1);
-      moved = λ clean. (told clean from is).2;
+      was = λ clean. ((answers clean from is).0, (answers clean from is).1);
+      moved = λ clean. (answers clean from is).2;
       stands = λ clean log it.
-          stands_plain from (state g conn) (file_of bank) (bank_seen g bank).is_down log up it (told clean from is).2;
+          stands_plain from (state g conn) (file_of bank) (bank_seen g bank).is_down log up it (answers clean from is).2;
       up = up;
     },
   )
@@ -51,15 +51,15 @@ module _ {S : Type 0} (g : Ghosts S) (conn : Held S) (bank : Bank S g) (up : (ba
   pub knows_migrated : (migrated : Migrated)
       → (HasCleanDisk (file_of bank) → Migrates (state g conn) (file_of bank) (Ok migrated)) → IsFromEarlier migrated
       → KnowsAnswer g conn (Ok (bank, migrated))
-  knows_migrated Already told from = record {
+  knows_migrated Already answers from = record {
     ours = λ clean log s. (refl, tt);
-    earlier = λ clean from log it takes. absurd (not_found from (state g conn) log it (file_of bank) (told clean));
+    earlier = λ clean from log it takes. absurd (not_found from (state g conn) log it (file_of bank) (answers clean));
   }
-  knows_migrated (Moved version) told (from, is) = record {
+  knows_migrated (Moved version) answers (from, is) = record {
     ours = λ clean log s.
-        absurd (not_earlier (state g conn) s.tables log s.are s.commands s.shows from (told clean from is).0);
+        absurd (not_earlier (state g conn) s.tables log s.are s.commands s.shows from (answers clean from is).0);
     earlier = λ clean other log it takes. (
-      ap Moved (is.0 ∙ ap pos (same_version other (state g conn) log it from (told clean from is).0)),
+      ap Moved (is.0 ∙ ap pos (same_version other (state g conn) log it from (answers clean from is).0)),
       tt,
     );
   }

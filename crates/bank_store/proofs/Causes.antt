@@ -21,7 +21,7 @@ module _ {S : Type 0} (g : Ghosts S) (old new : Held S) where
   -- a probe failed
   pub probe_failed : (probe : List ℕ × Table) (e : Error) → Probes g old new probe (Err e)
       → KnowsCause g old new Store
-  probe_failed probe e told = λ clean. (e, failed_here g old new e (Committing (told.told clean)))
+  probe_failed probe e inner = λ clean. (e, failed_here g old new e (Committing (inner.answers clean)))
 
   -- a row wasn't read
   pub read_failed : (fault : TableFault)
@@ -110,26 +110,26 @@ module _ {S : Type 0} (g : Ghosts S) (old new : Held S) where
 -- ---- one call after another
 
 -- a call after a look, and what is answered then
-module _ {S X Y : Type 0} (g : Ghosts S) (old mid new : Held S) (told : Result X OpenFault)
-    (result : Result Y OpenFault) (answers : IfErr told (KnowsCause g old new) → IfErr result (KnowsCause g old new))
+module _ {S X Y : Type 0} (g : Ghosts S) (old mid new : Held S) (inner : Result X OpenFault)
+    (result : Result Y OpenFault) (answers : IfErr inner (KnowsCause g old new) → IfErr result (KnowsCause g old new))
     (first : Survives (state g old) (state g mid) (λ _. ⊥)) where
   pub call_then : (Then Commits : Trees → Type 0)
       → (HasCleanDisk (state g new) → (left : Trees) → Then left → Commits left)
-      → IsOpenCall g mid new Then told → IsOpenCall g old new Commits result
+      → IsOpenCall g mid new Then inner → IsOpenCall g old new Commits result
   call_then Then Commits commits it = record {
     cause = answers (if_err (KnowsCause g mid new) (KnowsCause g old new)
-        (known_within g old mid new new (comes first) (λ clean. clean) (same_moment (state g new))) told it.cause);
+        (known_within g old mid new new (comes first) (λ clean. clean) (same_moment (state g new))) inner it.cause);
     mode = it.mode;
     survives = survives_then (state g old) (state g mid) (state g new) (λ _. ⊥) Then Commits
         (λ clean left none. absurd none) commits first it.survives;
   }
 
-  pub looks_then : LooksIn g mid new told → LooksIn g old new result
+  pub looks_then : LooksIn g mid new inner → LooksIn g old new result
   looks_then = call_then (λ _. ⊥) (λ _. ⊥) (λ clean left none. none)
 
 -- a probe after a call
-module _ {S X : Type 0} (g : Ghosts S) (old mid new : Held S) (Commits : Trees → Type 0) (told : Result X OpenFault)
-    (it : IsOpenCall g old mid Commits told) (probe : List ℕ × Table) where
+module _ {S X : Type 0} (g : Ghosts S) (old mid new : Held S) (Commits : Trees → Type 0) (inner : Result X OpenFault)
+    (it : IsOpenCall g old mid Commits inner) (probe : List ℕ × Table) where
   then_asked : {Y : Type 0} (answer : Result Bool Error) (result : Result Y OpenFault)
       → Probes g mid new probe answer → IfErr result (KnowsCause g old new) → IsOpenCall g old new Commits result
   then_asked answer result asks cause = record {
@@ -139,12 +139,12 @@ module _ {S X : Type 0} (g : Ghosts S) (old mid new : Held S) (Commits : Trees �
         (λ clean left made. made) (λ clean left none. absurd none) it.survives asks.survives;
   }
 
-  pub still_answers : (answer : Result Bool Error) → Probes g mid new probe answer → IsOpenCall g old new Commits told
+  pub still_answers : (answer : Result Bool Error) → Probes g mid new probe answer → IsOpenCall g old new Commits inner
   still_answers answer asks =
-      then_asked answer told asks
+      then_asked answer inner asks
       (if_err (KnowsCause g old mid) (KnowsCause g old new)
       (known_within g old old mid new (same_moment (state g old)) (still_clean asks.survives) (comes asks.survives))
-      told it.cause)
+      inner it.cause)
 
   pub fails_then : {Y : Type 0} (e : Error) → Probes g mid new probe (Err e)
       → IsOpenCall {X = Y} g old new Commits (Err Store)

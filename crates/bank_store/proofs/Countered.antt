@@ -8,7 +8,7 @@ use Rattle.sqlite.specs.State.{State, HasCleanDisk, Survives}
 use Rattle.sqlite_trees.specs.declared.store.Store.{Ghosts}
 use Rattle.sqlite.proofs.StateLemmas.{survives_then}
 use Rattle.posting_rules.specs.{declared.fault.Fault.Fault, declared.fault.Rule.Rule, believed.Runs.followed_by}
-use Rattle.posting_rules.specs.declared.fault.Fault.TheVariants as told
+use Rattle.posting_rules.specs.declared.fault.Fault.TheVariants as faults
 use Rattle.posting_rules.specs.believed.Commands.{Command, AreCommands, Terms}
 use Rattle.posting_rules.specs.declared.limits.TheConstants.{MAX_ACCOUNTS}
 use Rattle.posting_rules.proofs.ChangesByKey.{sound_tables}
@@ -127,15 +127,15 @@ pub takes : {S X : Type 0} {So : Tables → Type 0} {after : Tables → Tables} 
     → TransactsBy Met Adds g old new So after wanted (Ok x)
     → Takes (seen_in (state g old) D) (seen_in (state g new) E) cs
 takes {S} {X} {So} {after} {wanted} {g} {old} {new} {x} {Met} {Adds} holds cs is are D E up does =
-    let told =
+    let answers =
     λ (clean : HasCleanDisk (state g new)) (log : List Command) (s : ShowsLog (seen_in (state g old) D) log).
-    does.told clean s.tables s.are (holds s.tables log s.commands s.shows) in
+    does.answers clean s.tables s.are (holds s.tables log s.commands s.shows) in
     let shows =
     λ (clean : HasCleanDisk (state g new)) (log : List Command) (s : ShowsLog (seen_in (state g old) D) log).
     let it : ShowsLog (seen_in (state g new) E) (followed_by log cs) = record {
       commands = commands_after log cs s.commands are;
       tables = after s.tables;
-      are = (told clean log s).1;
+      are = (answers clean log s).1;
       shows = is s.tables log s.shows;
     } in it in
     record {
@@ -146,7 +146,7 @@ takes {S} {X} {So} {after} {wanted} {g} {old} {new} {x} {Met} {Adds} holds cs is
         survives =
             λ trees may. (
               after at.shows.tables,
-              (told clean log at.shows).2 trees may,
+              (answers clean log at.shows).2 trees may,
               is at.shows.tables
                   log at.shows.shows,
             );
@@ -184,7 +184,7 @@ refuses {S} {X} {So} {after} {wanted} {Met} {Adds} g old mid new holds cs is are
     Refused : Fault → Type 0
     Refused f = Refuses f (seen_in (state g old) D) (seen_in (state g new) (IsSome cause)) cs
 
-    failed : (f : TableFault) → cause ≡ Some f → fault ≡ told.Store → Refused fault
+    failed : (f : TableFault) → cause ≡ Some f → fault ≡ faults.Store → Refused fault
     failed f keeps same =
         subst Refused (sym same)
         (cut_short holds cs is does are (state g new) D (IsSome cause) (goes_down cause f keeps)
@@ -200,7 +200,7 @@ refuses {S} {X} {So} {after} {wanted} {Met} {Adds} g old mid new holds cs is are
         subst Refused (sym went.1)
         (is_damaged So holds (state g old) (state g new) D (IsSome cause) rule
         (goes_down cause (Damaged rule) went.0)
-        (λ clean t shows sound. it.told (before clean) t shows sound)
+        (λ clean t shows sound. it.answers (before clean) t shows sound)
         (λ clean. let same = went.2 clean in same.0.now_is ∙ (it.undone (before clean) same.0.was_open).1))
     by_fault (Damaged rule) it (inr went) = failed (Sqlite went.1.0) went.1.1 went.0
 
@@ -218,7 +218,7 @@ keeps_file g old mid new (Damaged rule) cause fault does (inl went) quiet damage
 keeps_file g old mid new (Damaged rule) cause fault does (inr went) quiet damage clean =
     absurd (subst TellsDamage went.0 damage)
 
-damage_is_no_failure : (rule : Rule) → told.Damaged rule ≡ told.Store → ⊥
+damage_is_no_failure : (rule : Rule) → faults.Damaged rule ≡ faults.Store → ⊥
 damage_is_no_failure rule is = cc
 
 same_error : (cause : Option TableFault) (x e : Error) → cause ≡ Some (Sqlite e) → error_in cause ≡ Some x
@@ -249,7 +249,7 @@ module _ {S X : Type 0} {So : Tables → Type 0} {after : Tables → Tables} {wa
 
 -- and it is there, where the store is told to have failed
 pub cause_error : (old new : State) (cause : Option TableFault) (fault : Fault) (e : TableFault)
-    → GoesDown old new e cause fault → fault ≡ told.Store → IsSome (error_in cause)
+    → GoesDown old new e cause fault → fault ≡ faults.Store → IsSome (error_in cause)
 cause_error old new cause fault (Sqlite error) went tells = rw went.0 refl
 cause_error old new cause fault (Damaged rule) (inl went) tells =
     absurd (damage_is_no_failure rule (sym went.1 ∙ tells))

@@ -26,29 +26,29 @@ module _ {S : Type 0} (g : Ghosts S) (old new : Held S) (from : ℤ) where
       → ((all : List KeptItem) → HoldsKept (state g old).now all
       → MatchResult r (P all) (BreaksFirst Because BreaksKept (items_from kept_key from all)))
       → IfErr r (HasItsCause g old new) → Blames (IsFirstBroken g) g old new r
-  read_blames P Because (Ok rest) told cause = tt
-  read_blames P Because (Err (Sqlite e)) told cause = record {
+  read_blames P Because (Ok rest) answers cause = tt
+  read_blames P Because (Err (Sqlite e)) answers cause = record {
     at = cause.at;
     then = new;
     before = comes cause.before;
     failed = cause.failed;
     after = same_moment (state g new);
   }
-  read_blames P Because (Err (Damaged rule)) told cause =
+  read_blames P Because (Err (Damaged rule)) answers cause =
       row_broken (state g old).now rule from
-      (λ all has. let it = told all has in ([], it.0, it.1, it.2, inl it.3))
+      (λ all has. let it = answers all has in ([], it.0, it.1, it.2, inl it.3))
 
   -- one of the rows that were read is that of no request
   pub no_request_broken : (rows : List KeptItem) (After : List KeptItem → List KeptItem)
       → ((all : List KeptItem) → HoldsKept (state g old).now all → items_from kept_key from all ≡ rows ++ After all)
       → HasBroken IsNoRequest rows → IsBroken Request (state g old).now
-  no_request_broken rows After told broken =
+  no_request_broken rows After answers broken =
       row_broken (state g old).now Request from
       (λ all has. (
         broken.0,
         broken.1,
         broken.2 ++ After all,
-        told all has ∙ ap (λ (l : List KeptItem). l ++ After all) broken.3
+        answers all has ∙ ap (λ (l : List KeptItem). l ++ After all) broken.3
             ∙ append_assoc broken.0 (broken.1 ∷ broken.2) (After all),
         inr (refl, broken.4),
       ))

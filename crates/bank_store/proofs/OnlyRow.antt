@@ -10,17 +10,17 @@ use Rattle.bank_store.proofs.FoundBank.{decided_in, not_outside}
 
 -- it is the only one, with these numbers
 module _ (version : ℤ) (old new : State) (same : IsAsBefore old new) (m : StoredMeta)
-    (told : OfAnyMeta old.now (λ rows. TellsOnly rows (Some m))) where
+    (answers : OfAnyMeta old.now (λ rows. TellsOnly rows (Some m))) where
   pub only_counted : m.version ≡ version → (r : Result (Unit {0}) OpenFault) → ChecksCount m.decided r
       → ChecksOnly version old new r
   only_counted is (Ok done) (count, at, within) = (
-    λ checks rows has. let it = rw (is, at) at (told checks rows has) in (count, it, within),
+    λ checks rows has. let it = rw (is, at) at (answers checks rows has) in (count, it, within),
     same,
   )
   only_counted is (Err fault) (tells, outside) = inr (
     tells,
     λ checks rows has only.
         not_outside m.decided only.0 MAX_DECIDED
-        (ap (λ (rs : List Entry). decided_in (meta_in rs)) (sym (told checks rows has) ∙ only.1)) only.2 outside,
+        (ap (λ (rs : List Entry). decided_in (meta_in rs)) (sym (answers checks rows has) ∙ only.1)) only.2 outside,
     same,
   )

@@ -26,23 +26,23 @@ spares_done g old new x up spares =
     record { untried = λ down. absurd (up down); now = λ clean shown. spares.now clean; left = spares.left }
 
 -- a bank that goes down keeps what brought it down
-goes_down : (old new : State) (e : TableFault) (cause : Option TableFault) (told : Fault)
-    → GoesDown old new e cause told → IsSome cause
-goes_down old new (Sqlite e) cause told went = rw went.0 refl
-goes_down old new (Damaged rule) cause told (inl went) = rw went.0 refl
-goes_down old new (Damaged rule) cause told (inr went) = rw went.1.1 refl
+goes_down : (old new : State) (e : TableFault) (cause : Option TableFault) (refused : Fault)
+    → GoesDown old new e cause refused → IsSome cause
+goes_down old new (Sqlite e) cause refused went = rw went.0 refl
+goes_down old new (Damaged rule) cause refused (inl went) = rw went.0 refl
+goes_down old new (Damaged rule) cause refused (inr went) = rw went.1.1 refl
 
 -- a call that a fault brought down
-pub spares_down : {S X : Type 0} (g : Ghosts S) (old new : Bank S g) (mid : Held S) (e : TableFault) (told : Fault)
+pub spares_down : {S X : Type 0} (g : Ghosts S) (old new : Bank S g) (mid : Held S) (e : TableFault) (refused : Fault)
     → ((bank_seen g old).is_down → ⊥) → SparesTheirs {X = X} g (connection_of old) mid (Err e)
     → UndoesFaults {X = X} g (connection_of old) mid (Err e)
-    → GoesDown (state g mid) (file_of new) e (fault_of new) told
+    → GoesDown (state g mid) (file_of new) e (fault_of new) refused
     → (HasCleanDisk (file_of new) → IsUntouchedIfOpen (state g mid) (file_of new))
     → Survives (state g mid) (file_of new) (λ _. ⊥) → SparesOtherTables g old new
-spares_down g old new mid e told up spares undone went quiet none = record {
+spares_down g old new mid e refused up spares undone went quiet none = record {
   untried = λ down. absurd (up down);
   now = λ clean shown.
-      let same = quiet clean (shown (goes_down (state g mid) (file_of new) e (fault_of new) told went)) in
+      let same = quiet clean (shown (goes_down (state g mid) (file_of new) e (fault_of new) refused went)) in
       spares_same bank_names (database_of g old) (database_of g new)
       (same.now_is ∙ (undone (omega (arith, none.clean, clean)) same.was_open).1);
   left = survives_then (file_of old) (state g mid) (file_of new)
@@ -53,5 +53,5 @@ spares_down g old new mid e told up spares undone went quiet none = record {
 -- a probe that was answered changed nothing
 pub probe_unchanged : (old new : State) (table : Table) (there : Bool) → TellsProbe old new table (Ok there)
     → IsAsBefore old new
-probe_unchanged old new table true told = told.1.0
-probe_unchanged old new table false told = told.1.0
+probe_unchanged old new table true answers = answers.1.0
+probe_unchanged old new table false answers = answers.1.0

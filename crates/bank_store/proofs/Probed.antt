@@ -54,8 +54,8 @@ both_present db x xs y ys Whole Whole a b = all-append (IsReadable db) (x ∷ xs
 pub probed : (old new : State) (probe : Probe) (there : Bool) → TellsProbe old new probe.1 (Ok there)
     → TellsUnderstood old new probe.0 (Ok there)
     → IsPresent old.now (probe ∷ []) (presence_of there) × IsAsBefore old new
-probed old new probe true told text = (((text.0, told.0), tt), told.1.0)
-probed old new probe false told text = (((text.0, told.0), tt), told.1.0)
+probed old new probe true answers text = (((text.0, answers.0), tt), answers.1.0)
+probed old new probe false answers text = (((text.0, answers.0), tt), answers.1.0)
 
 -- nothing has changed, from one state to the next and the one after
 pub as_before : (a b c : State) → IsAsBefore a b → IsAsBefore b c → IsAsBefore a c
@@ -89,9 +89,9 @@ pub one_more : {S : Type 0} (g : Ghosts S) (old mid new : Held S) (x : Probe) (x
     → Probes g mid new y (Ok is) → HasCleanDisk (state g new)
     → IsPresent (state g old).now ((x ∷ xs) ++ y ∷ []) (joined p (presence_of is))
     × IsAsBefore (state g old) (state g new)
-one_more g old mid new x xs y p is so_far told clean =
+one_more g old mid new x xs y p is so_far answers clean =
     then_present (state g old) (state g mid) (state g new) x xs y [] p (presence_of is) so_far
-    (probed (state g mid) (state g new) y is (told.told clean) (told.text clean))
+    (probed (state g mid) (state g new) y is (answers.answers clean) (answers.text clean))
 
 -- the probes of the tables up to one, and of that one
 pub next_probe : (first : BankTable) (others : List BankTable) (at : ℕ) (d : BankTable) → at < length others

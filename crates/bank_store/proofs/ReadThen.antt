@@ -42,7 +42,7 @@ module _ {S X : Type 0} {So : Tables → Type 0} {wanted : Tables → X} (g : Gh
       → (HasCleanDisk (state g new) → IsFault (IsFirstBroken g) g old new fault)
       → TransactsBy {X = X} (IsFirstBroken g) Nothing g old new So (λ t. t) wanted (Err fault)
   reads_failed old new fault outside untouched quiet cause = record {
-    told = λ clean t shows so. completes fault (cause clean) t;
+    answers = λ clean t shows so. completes fault (cause clean) t;
     undone = λ clean. undoes fault (undone_by (state g old) (state g new) (untouched clean));
     survives = quiet_also (state g old) (state g new) _ quiet;
     cause = cause;
@@ -86,9 +86,9 @@ module _ {S X : Type 0} {So : Tables → Type 0} {wanted : Tables → X} (g : Gh
 
     pub reads_then : TransactsBy {X = X} (IsFirstBroken g) Nothing g old new So (λ t. t) wanted r
     reads_then = record {
-      told = λ clean t shows so.
+      answers = λ clean t shows so.
           completes_since clean t r
-          (two.told clean t (subst (λ (db : Database). Shows db t) (sym (same clean)) shows) so);
+          (two.answers clean t (subst (λ (db : Database). Shows db t) (sym (same clean)) shows) so);
       undone = λ clean. undoes_since clean r (two.undone clean);
       survives = survives_then (state g old) (state g mid) (state g new) (λ _. ⊥)
           (MayLeaveAfter (state g mid) So (λ t. t)) (MayLeaveAfter (state g old) So (λ t. t))
@@ -135,7 +135,7 @@ module _ {S X Y : Type 0} {So : Tables → Type 0} {wanted : Tables → X} {aske
       → TransactsBy (IsFirstBroken g) Nothing g old new So (λ t. t) wanted (Ok x)
       → TransactsBy (IsFirstBroken g) Nothing g old new So (λ t. t) asked (Ok y)
   answered_by x y same one = record {
-    told = λ clean t shows so. let it = one.told clean t shows so in (same t it.0, it.1, it.2);
+    answers = λ clean t shows so. let it = one.answers clean t shows so in (same t it.0, it.1, it.2);
     undone = λ clean. tt;
     survives = one.survives;
     cause = λ clean. tt;
@@ -148,7 +148,7 @@ module _ {S X Y : Type 0} {So : Tables → Type 0} {wanted : Tables → X} {aske
       → TransactsBy {X = X} (IsFirstBroken g) Nothing g old new So (λ t. t) wanted (Err fault)
       → TransactsBy {X = Y} (IsFirstBroken g) Nothing g old new So (λ t. t) asked (Err fault)
   failed_by fault one = record {
-    told = λ clean t shows so. completes fault t (one.told clean t shows so);
+    answers = λ clean t shows so. completes fault t (one.answers clean t shows so);
     undone = λ clean. undoes fault (one.undone clean);
     survives = one.survives;
     cause = one.cause;

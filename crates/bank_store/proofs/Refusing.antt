@@ -27,23 +27,23 @@ use Rattle.bank_store.proofs.Countered.{HoldsOfLogs, failed_between, has_room, k
 -- It is refused as the trait says, for its reason; damage leaves the file as it was, and says this; neither
 -- memory nor an earlier fault is told; and what is honest was.
 pub record Refusal {S : Type 0} (g : Ghosts S) (old new : Bank S g) (cs : List Command) (Met : Damage S)
-    (told : Fault) : Type 0 where
-  pub fault : Refuses told (bank_seen g old) (bank_seen g new) cs
-  pub why : bank_reason g told old new
-  pub unchanged : TellsDamage told → HasCleanDisk (state g (connection_of new))
+    (refused : Fault) : Type 0 where
+  pub fault : Refuses refused (bank_seen g old) (bank_seen g new) cs
+  pub why : bank_reason g refused old new
+  pub unchanged : TellsDamage refused → HasCleanDisk (state g (connection_of new))
       → database_of g new ≡ database_of g old
-  pub broken : OfDamage told (λ rule. HasCleanDisk (state g (connection_of new))
+  pub broken : OfDamage refused (λ rule. HasCleanDisk (state g (connection_of new))
       → Met (connection_of old) (connection_of new) rule)
-  pub frugal : told ≢ Memory
-  pub tried : told ≢ Down
+  pub frugal : refused ≢ Memory
+  pub tried : refused ≢ Down
   pub honest : HasCleanDisk (state g (connection_of new)) → HasCleanDisk (state g (connection_of old))
 
 -- so the call is one of the bank
 pub refused_call : {S X : Type 0} (g : Ghosts S) (old new : Bank S g) (cs : List Command) {Met : Damage S}
-    (told : Fault) → Refusal g old new cs Met told → ((bank_seen g old).is_down → ⊥)
-    → IsBankCall {X = X} g old new cs (Err told)
-refused_call g old new cs told it up =
-    call_refused (bank_seen g) (database_of g) (bank_reason g) old new cs up it.honest told it.frugal it.tried
+    (refused : Fault) → Refusal g old new cs Met refused → ((bank_seen g old).is_down → ⊥)
+    → IsBankCall {X = X} g old new cs (Err refused)
+refused_call g old new cs refused it up =
+    call_refused (bank_seen g) (database_of g) (bank_reason g) old new cs up it.honest refused it.frugal it.tried
     it.fault it.why it.unchanged
 
 -- a call that was answered
@@ -88,28 +88,28 @@ never_down old new (Damaged rule) cause fault (inl went) down = let both = sym w
 never_down old new (Damaged rule) cause fault (inr went) down = let both = sym went.0 ∙ down in cc
 
 -- what the bank's fault says of the call
-reason_of : {S : Type 0} (g : Ghosts S) (old new : Bank S g) (told : Fault)
-    → (told ≡ Store → KeepsCause g old new) → OfDamage told (WasBrokenOrMet g AnyRow old new)
-    → (TellsDamage told → cause_of new ≡ None) → bank_reason g told old new
+reason_of : {S : Type 0} (g : Ghosts S) (old new : Bank S g) (refused : Fault)
+    → (refused ≡ Store → KeepsCause g old new) → OfDamage refused (WasBrokenOrMet g AnyRow old new)
+    → (TellsDamage refused → cause_of new ≡ None) → bank_reason g refused old new
 reason_of g old new Memory cause broken none = tt
 reason_of g old new Store cause broken none = cause refl
 reason_of g old new Down cause broken none = tt
 reason_of g old new (Broken rule) cause broken none = (broken, none tt)
 
 -- damage that says one thing says another that follows
-of_wider : (told : Fault) (P Q : Rule → Type 0) → ((rule : Rule) → P rule → Q rule) → OfDamage told P
-    → OfDamage told Q
+of_wider : (refused : Fault) (P Q : Rule → Type 0) → ((rule : Rule) → P rule → Q rule) → OfDamage refused P
+    → OfDamage refused Q
 of_wider Memory P Q wide is = tt
 of_wider Store P Q wide is = tt
 of_wider Down P Q wide is = tt
 of_wider (Broken rule) P Q wide is = wide rule is
 
 -- of records: both are so of it, and tables that are ready for them break none
-pub breaks : {S : Type 0} (g : Ghosts S) (records : List (List ℕ)) (old new : Bank S g) (told : Fault)
-    → OfDamage told (WasBrokenOrMet g (AddsForRecords (database_of g old) records) old new)
-    → OfDamage told (BreaksShown (HasRoomFor (length records)) (database_of g old)
+pub breaks : {S : Type 0} (g : Ghosts S) (records : List (List ℕ)) (old new : Bank S g) (refused : Fault)
+    → OfDamage refused (WasBrokenOrMet g (AddsForRecords (database_of g old) records) old new)
+    → OfDamage refused (BreaksShown (HasRoomFor (length records)) (database_of g old)
     (HasCleanDisk (state g (connection_of new))))
-    → OfDamage told (BreaksRule g records old new)
+    → OfDamage refused (BreaksRule g records old new)
 breaks g records old new Memory met broken = tt
 breaks g records old new Store met broken = tt
 breaks g records old new Down met broken = tt
@@ -121,11 +121,11 @@ breaks g records old new (Broken rule) met broken = record {
 }
 
 -- of an opening
-pub breaks_opening : {S : Type 0} (g : Ghosts S) (branch : ℕ) (terms : Terms) (old new : Bank S g) (told : Fault)
-    → OfDamage told (WasBrokenOrMet g (AddsBranch branch terms) old new)
-    → OfDamage told (BreaksShown (IsReadyToOpen branch terms) (database_of g old)
+pub breaks_opening : {S : Type 0} (g : Ghosts S) (branch : ℕ) (terms : Terms) (old new : Bank S g) (refused : Fault)
+    → OfDamage refused (WasBrokenOrMet g (AddsBranch branch terms) old new)
+    → OfDamage refused (BreaksShown (IsReadyToOpen branch terms) (database_of g old)
     (HasCleanDisk (state g (connection_of new))))
-    → OfDamage told (BreaksOpening g branch terms old new)
+    → OfDamage refused (BreaksOpening g branch terms old new)
 breaks_opening g branch terms old new Memory met broken = tt
 breaks_opening g branch terms old new Store met broken = tt
 breaks_opening g branch terms old new Down met broken = tt
@@ -134,8 +134,8 @@ breaks_opening g branch terms old new (Broken rule) met broken = record { met = 
 module _ {S X : Type 0} {So : Tables → Type 0} {after : Tables → Tables} {wanted : Tables → X} (g : Ghosts S)
     (old new : Bank S g) (mid : Held S)
     (holds : HoldsOfLogs So) (cs : List Command) (is : IsChange after cs) (are : AreCommands cs)
-    (e : TableFault) (told : Fault)
-    (down : GoesDown (state g mid) (state g (connection_of new)) e (fault_of new) told)
+    (e : TableFault) (refused : Fault)
+    (down : GoesDown (state g mid) (state g (connection_of new)) e (fault_of new) refused)
     (quiet : Survives (state g mid) (state g (connection_of new)) (λ _. ⊥))
     (undone : HasCleanDisk (state g mid) → IsUndone (state g (connection_of old)) (state g mid))
     (back : HasCleanDisk (state g (connection_of new))
@@ -144,48 +144,48 @@ module _ {S X : Type 0} {So : Tables → Type 0} {after : Tables → Tables} {wa
       → ((rule : Rule) → Met (connection_of old) (connection_of new) rule
       → IsBrokenOrMet g AnyRow (connection_of old) (connection_of new) rule)
       → TransactsBy {X = X} Met Adds g (connection_of old) mid So after wanted (Err e)
-      → OfDamage told (λ rule. HasCleanDisk (state g (connection_of new))
+      → OfDamage refused (λ rule. HasCleanDisk (state g (connection_of new))
       → Met (connection_of old) (connection_of new) rule)
-      → Refusal g old new cs Met told
+      → Refusal g old new cs Met refused
   refusal Met wide does broken =
       let a = connection_of old in
       let c = connection_of new in
       record {
         fault =
-            refuses g a mid c holds cs is are (IsSome (fault_of old)) e (fault_of new) told does down quiet;
+            refuses g a mid c holds cs is are (IsSome (fault_of old)) e (fault_of new) refused does down quiet;
         why =
-            reason_of g old new told (λ tells. record {
-              cause = cause_error _ _ (fault_of new) told e down tells;
-              failed = failed_between g a mid c (fault_of new) told quiet e does down;
+            reason_of g old new refused (λ tells. record {
+              cause = cause_error _ _ (fault_of new) refused e down tells;
+              failed = failed_between g a mid c (fault_of new) refused quiet e does down;
               undone = λ clean is_open.
                   let same = back clean is_open in
                   same.now_is ∙ (undone (omega (arith, quiet.clean, clean)) same.was_open).1;
             })
-            (of_wider told (λ rule. HasCleanDisk (state g c) → Met a c rule) (WasBrokenOrMet g AnyRow old new)
+            (of_wider refused (λ rule. HasCleanDisk (state g c) → Met a c rule) (WasBrokenOrMet g AnyRow old new)
             (λ rule met clean. wide rule (met clean)) broken)
-            (no_error _ _ (fault_of new) told e down);
-        unchanged = λ damage clean. keeps_file g a mid c e (fault_of new) told does down quiet damage clean;
+            (no_error _ _ (fault_of new) refused e down);
+        unchanged = λ damage clean. keeps_file g a mid c e (fault_of new) refused does down quiet damage clean;
         broken = broken;
-        frugal = never_memory (state g mid) (state g c) e (fault_of new) told down;
-        tried = never_down (state g mid) (state g c) e (fault_of new) told down;
+        frugal = never_memory (state g mid) (state g c) e (fault_of new) refused down;
+        tried = never_down (state g mid) (state g c) e (fault_of new) refused down;
         honest = λ clean. omega (arith, quiet.clean, does.survives.clean);
       }
 
   -- of a call that only reads
   pub consult_refused : {Adds : Additions}
       → TransactsBy {X = X} (IsFirstBroken g) Adds g (connection_of old) mid So after wanted (Err e)
-      → Refusal g old new cs (IsFirstBroken g) told
+      → Refusal g old new cs (IsFirstBroken g) refused
   consult_refused does =
       refusal (IsFirstBroken g) (λ rule it. inl it) does
-      (consulted g (connection_of old) mid (connection_of new) (fault_of new) told quiet e does down)
+      (consulted g (connection_of old) mid (connection_of new) (fault_of new) refused quiet e does down)
 
   -- of a call that writes
   pub transaction_refused : {Adds : Additions}
       → Transacts {X = X} g Adds (connection_of old) mid So after wanted (Err e)
-      → Refusal g old new cs (IsBrokenOrMet g Adds) told
+      → Refusal g old new cs (IsBrokenOrMet g Adds) refused
   transaction_refused {Adds} does =
       refusal (IsBrokenOrMet g Adds) (λ rule it. elim it [
         | inl broken ↦ inl broken
         | inr met ↦ inr (between_also g (connection_of old) (connection_of new) rule (λ text values own. tt) met)
       ]) does
-      (transacted g (connection_of old) mid (connection_of new) (fault_of new) told quiet e does down)
+      (transacted g (connection_of old) mid (connection_of new) (fault_of new) refused quiet e does down)

@@ -97,8 +97,8 @@ module _ {R X : Type 0} (key : X → ℤ) (entry : R → X) (stage : Stage) (goi
       → items_from key from all ≡ map entry read ++ items_after key beyond all
       → coming stage (map entry read ++ items_after key beyond all)
       ≡ coming stage (map entry (drop given rs) ++ items_after key rest all)
-  refilled rs given rest from all low is read beyond told =
-      ap (λ s. coming s (map entry read ++ items_after key beyond all)) going ∙ sym told
+  refilled rs given rest from all low is read beyond answers =
+      ap (λ s. coming s (map entry read ++ items_after key beyond all)) going ∙ sym answers
       ∙ sym (ap (λ o. items_after key o all) is)
       ∙ sym (only_rest rs given (items_after key rest all) low)
 

@@ -39,7 +39,7 @@ MetaIs s = RowIs s.now
 -- What a reading of the row of the bank tells: which row it is, and otherwise why it isn't known.
 pub record ReadsMeta {S : Type 0} (g : Ghosts S) (old new : Held S) (result : Result (Option StoredMeta) OpenFault)
     : Type 0 where
-  pub told : HasCleanDisk (state g new) → MetaIs (state g old) (λ stored. TellsMeta stored result)
+  pub answers : HasCleanDisk (state g new) → MetaIs (state g old) (λ stored. TellsMeta stored result)
   pub fault : IfErr result RowIsUnread
   pub other : HasCleanDisk (state g new) → IfErr result (IsOfOtherType (state g old).now)
 

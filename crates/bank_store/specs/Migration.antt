@@ -171,20 +171,20 @@ Misplaces old fault = (Misses old fault × TellsNoEarlier fault)
 
 -- this earlier version is the one that is told
 abbrev pub IsFrom : ℤ → ℕ → Type 0
-IsFrom told from = (told ≡ pos from) × IsEarlier from
+IsFrom version from = (version ≡ pos from) × IsEarlier from
 
 -- the bank was of this version, and everything is as it was; or it was of an earlier one, and is moved; or why
 -- neither
 abbrev pub Migrates : State → State → Result Migrated OpenFault → Type 0
 Migrates old new (Ok Already) = BankIsFound old new
-Migrates old new (Ok (Moved told)) = (from : ℕ) → IsFrom told from
+Migrates old new (Ok (Moved version)) = (from : ℕ) → IsFrom version from
     → IsOfEarlier from old × HasEarlier from old.now × BankIsMoved from old.now new
 Migrates old new (Err fault) = Misplaces old fault × IsReadOnly {X = Unit {0}} old new (Err fault)
 
 -- a bank is moved from an earlier version
 abbrev pub IsFromEarlier : Migrated → Type 0
 IsFromEarlier Already = ⊤
-IsFromEarlier (Moved told) = (from : ℕ) × IsFrom told from
+IsFromEarlier (Moved version) = (from : ℕ) × IsFrom version from
 
 -- what a crash may leave more: a moved bank, where one of an earlier version was
 abbrev pub HasCarriedOver : State → Trees → Type 0
@@ -208,7 +208,7 @@ pub record IsCarriedOver {S : Type 0} (from : ℕ) (g : Ghosts S) (conn : Held S
 
 -- it was carried over from this earlier version, or was of the present one and is taken up
 abbrev pub IsMigrated : {S : Type 0} (g : Ghosts S) → Held S → Bank S g × Migrated → Type 0
-IsMigrated g conn (bank, Moved told) = (from : ℕ) × IsFrom told from × IsCarriedOver from g conn bank
+IsMigrated g conn (bank, Moved version) = (from : ℕ) × IsFrom version from × IsCarriedOver from g conn bank
 IsMigrated g conn (bank, Already) = IsTakenUp g conn bank
 
 -- What is answered where a log is shown, but for a fault of the store: of this version, that nothing was done; of

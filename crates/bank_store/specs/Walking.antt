@@ -9,7 +9,7 @@ use Rattle.sqlite.specs.Held.{state}
 use Rattle.sqlite.specs.State.{State, HasCleanDisk, Survives}
 use Rattle.sqlite.specs.declared.error.Error.{Error}
 use Rattle.posting_rules.specs.declared.fault.Fault.{Fault}
-use Rattle.posting_rules.specs.declared.fault.Fault.TheVariants as told
+use Rattle.posting_rules.specs.declared.fault.Fault.TheVariants as faults
 use Rattle.posting_rules.specs.declared.fault.Rule.{Rule}
 use Rattle.sql_meanings.specs.StatementAnswers.{IsStoreError}
 use Rattle.walked_rows.specs.Pairs.{Pair, pair_key}
@@ -94,8 +94,8 @@ pub record BeginsWalk {S R X : Type 0} (g : Ghosts S) (key : X → ℤ) (item : 
       → items_to_come key item is_given items it ≡ given_of is_given of items)
   pub rises : IfOk result (λ it. ComesFrom (λ r. key (item r)) LEAST it)
   pub fresh : IfOk result (λ it. HasToldFault it → ⊥)
-  pub fault : IfErr result (λ f. (f ≡ told.Down) × (bank_seen g old).is_down)
-  pub down : (bank_seen g old).is_down → IsErrOf result told.Down
+  pub fault : IfErr result (λ f. (f ≡ faults.Down) × (bank_seen g old).is_down)
+  pub down : (bank_seen g old).is_down → IsErrOf result faults.Down
 
 -- ---- a step
 
@@ -104,11 +104,11 @@ abbrev pub Steps : {R X : Type 0} → (R → X) → (Rule → X → Type 0) → 
     → Result (Option R) Fault → Type 0
 Steps item Breaks old new (Ok (Some r)) = old ≡ item r ∷ new
 Steps item Breaks old new (Ok None) = (old ≡ []) × (new ≡ [])
-Steps {R} {X} item Breaks old new (Err (told.Damaged broken)) =
+Steps {R} {X} item Breaks old new (Err (faults.Damaged broken)) =
     (e : X) × (more : List X) × (old ≡ e ∷ more) × Breaks broken e
-Steps item Breaks old new (Err told.Store) = ⊤
-Steps item Breaks old new (Err told.Down) = new ≡ old
-Steps item Breaks old new (Err told.Memory) = ⊥
+Steps item Breaks old new (Err faults.Store) = ⊤
+Steps item Breaks old new (Err faults.Down) = new ≡ old
+Steps item Breaks old new (Err faults.Memory) = ⊥
 
 -- What a step leaves of the bank that the walk borrows: the walk still borrows it, it is no more down than it
 -- was, its connection sees what it saw, where the step failed as long as the store is open, and a crash leaves
@@ -129,8 +129,8 @@ pub record GoesOn {S R : Type 0} {g : Ghosts S} (old new : Walk S R g) (result :
   pub again : IsEnded old → (result ≡ Ok None) × (new ≡ old)
   pub failed : IfErr result (λ _. HasToldFault new)
   pub going : OnOk result (HasToldFault new → ⊥)
-  pub down : (HasToldFault old → IsErrOf result told.Down)
-      × (IsErrOf result told.Down → HasToldFault old × (new ≡ old))
+  pub down : (HasToldFault old → IsErrOf result faults.Down)
+      × (IsErrOf result faults.Down → HasToldFault old × (new ≡ old))
 
 -- the store failed, or refused memory or steps
 abbrev pub StoreFailed : State → State → Type 0
@@ -138,8 +138,8 @@ StoreFailed old new = (e : Error) × IsStoreError old new e
 
 -- the fault is of the store, with an error of which this holds, or the first to come breaks the rule
 abbrev pub IsToldFault : {X : Type 0} → (Error → Type 0) → (Rule → X → Type 0) → List X → Fault → Type 0
-IsToldFault {X} Because Breaks old (told.Damaged broken) =
+IsToldFault {X} Because Breaks old (faults.Damaged broken) =
     (e : X) × (more : List X) × (old ≡ e ∷ more) × Breaks broken e
-IsToldFault Because Breaks old told.Store = (e : Error) × Because e
-IsToldFault Because Breaks old told.Down = ⊥
-IsToldFault Because Breaks old told.Memory = ⊥
+IsToldFault Because Breaks old faults.Store = (e : Error) × Because e
+IsToldFault Because Breaks old faults.Down = ⊥
+IsToldFault Because Breaks old faults.Memory = ⊥

@@ -3,14 +3,14 @@ use Rattle.std.specs.Prelude.{◌≡◌, IsTrue}
 use Rattle.sqlite.specs.State.{State}
 use Rattle.sqlite.specs.State.{Shows as StateShows}
 use Rattle.posting_rules.specs.declared.fault.Fault.{Fault}
-use Rattle.posting_rules.specs.declared.fault.Fault.TheVariants as told
+use Rattle.posting_rules.specs.declared.fault.Fault.TheVariants as faults
 use Rattle.store_rows.specs.declared.fault.TableFault.{TableFault}
 use Rattle.store_rows.specs.declared.fault.TableFault.TheVariants.{Sqlite, Damaged}
 
 -- an error of the store, or the rule that is broken
 abbrev pub TellsFault : TableFault → Fault → Type 0
-TellsFault (Sqlite e) f = f ≡ told.Store
-TellsFault (Damaged rule) f = f ≡ told.Damaged rule
+TellsFault (Sqlite e) f = f ≡ faults.Store
+TellsFault (Damaged rule) f = f ≡ faults.Damaged rule
 
 -- as long as the store is open, everything is as it was
 abbrev pub IsUntouchedIfOpen : State → State → Type 0

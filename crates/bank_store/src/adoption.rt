@@ -81,7 +81,7 @@ fn check_meta(meta: &StoredMeta) -> Result<(), OpenFault>
 /// count within its range.
 pub(crate) fn check_only<S: Alter>(conn: &mut Connection<S>, version: i64) -> Result<(), OpenFault>
     requires { conn.old.in_transaction ≡ false }
-    ensures told { HasCleanDisk (state S.Store conn.new)
+    ensures answers { HasCleanDisk (state S.Store conn.new)
         → ChecksOnly version (state S.Store conn.old) (state S.Store conn.new) result }
     ensures looks { LooksIn S.Store conn.old conn.new result }
 {
@@ -102,7 +102,7 @@ pub(crate) fn check_only<S: Alter>(conn: &mut Connection<S>, version: i64) -> Re
 fn find_tables<S: Alter>(conn: &mut Connection<S>) -> Result<(), OpenFault>
     requires mode { conn.old.in_transaction ≡ false }
     requires ours { HasCleanDisk (state S.Store conn.old) → HasNoOtherVersion (state S.Store conn.old) }
-    ensures told { HasCleanDisk (state S.Store conn.new)
+    ensures answers { HasCleanDisk (state S.Store conn.new)
         → SeeksTables (state S.Store conn.old) (state S.Store conn.new) result }
     ensures looks { LooksIn S.Store conn.old conn.new result }
 {
@@ -120,7 +120,7 @@ fn find_tables<S: Alter>(conn: &mut Connection<S>) -> Result<(), OpenFault>
 // `meta` may have against it is said once they are there.
 fn refuse_other_version<S: Alter>(conn: &mut Connection<S>) -> Result<(), OpenFault>
     requires { conn.old.in_transaction ≡ false }
-    ensures told { HasCleanDisk (state S.Store conn.new)
+    ensures answers { HasCleanDisk (state S.Store conn.new)
         → LooksAtVersion (state S.Store conn.old) (state S.Store conn.new) result }
     ensures looks { LooksIn S.Store conn.old conn.new result }
 {
@@ -137,7 +137,7 @@ fn refuse_other_version<S: Alter>(conn: &mut Connection<S>) -> Result<(), OpenFa
 /// Looks for a bank of this version.
 pub(crate) fn find_bank<S: Alter>(conn: &mut Connection<S>) -> Result<(), OpenFault>
     requires { conn.old.in_transaction ≡ false }
-    ensures told { HasCleanDisk (state S.Store conn.new)
+    ensures answers { HasCleanDisk (state S.Store conn.new)
         → SeeksBank (state S.Store conn.old) (state S.Store conn.new) result }
     ensures looks { LooksIn S.Store conn.old conn.new result }
 {

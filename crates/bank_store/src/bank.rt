@@ -217,7 +217,7 @@ impl<S: Alter> Bank<S> {
         from: i64,
         rows: &mut ArrayVec<R, AHEAD>,
     ) -> Result<Option<i64>, TableFault>
-        ensures told { HasCleanDisk (state S.Store self.new.conn) → (all : List R.WalkedRow.Item)
+        ensures answers { HasCleanDisk (state S.Store self.new.conn) → (all : List R.WalkedRow.Item)
             → R.WalkedRow.HasItems (state S.Store self.old.conn).now all
             → let given = filter (R.WalkedRow.is_given of) all in MatchResult result
             (λ rest. items_from R.WalkedRow.key from given

@@ -91,7 +91,7 @@ fn kept_outside<S: Alter>(
     rows: &mut ArrayVec<KeptRequest, AHEAD>,
 ) -> Result<Option<i64>, TableFault>
     requires { conn.old.in_transaction ≡ false }
-    ensures told { HasCleanDisk (state S.Store conn.new) → (all : List KeptItem)
+    ensures answers { HasCleanDisk (state S.Store conn.new) → (all : List KeptItem)
         → HoldsKept (state S.Store conn.old).now all → IfOk result (λ rest. items_from kept_key from all
         ≡ map kept_item rows.new.items ++ items_after kept_key rest all) }
     ensures ended { IfOk result (λ rest. rows.new.items ≡ [] → rest ≡ None) }
@@ -117,7 +117,7 @@ fn read_entries<S: Alter>(
     requires idle { conn.old.in_transaction ≡ false }
     requires after { after ≤ MAX_DECIDED }
     requires room { vec_len entries.old + ENTRIES_PER_ANSWER * ENTRY_BYTES ≤ vec_capacity entries.old }
-    ensures told { OnOk result (HasCleanDisk (state S.Store conn.new) → (all : List KeptItem)
+    ensures answers { OnOk result (HasCleanDisk (state S.Store conn.new) → (all : List KeptItem)
         → HoldsKept (state S.Store conn.old).now all
         → PutsEntries after all entries.old.items entries.new.items) }
     ensures cause { HasCleanDisk (state S.Store conn.new)
@@ -175,7 +175,7 @@ pub(crate) fn read_log<S: Alter>(
     requires after { after ≤ MAX_DECIDED }
     requires room { vec_len entries.old + ENTRIES_PER_ANSWER * ENTRY_BYTES ≤ vec_capacity entries.old }
     ensures says { Consults S.Store conn.old conn.new AreSound (λ tables. nat_le after tables.decided) result }
-    ensures told { OnOk result (HasCleanDisk (state S.Store conn.new) → (all : List KeptItem)
+    ensures answers { OnOk result (HasCleanDisk (state S.Store conn.new) → (all : List KeptItem)
         → HoldsKept (state S.Store conn.old).now all
         → PutsEntries after all entries.old.items entries.new.items) }
     ensures stored { IfOk result (λ enough. HasCleanDisk (state S.Store conn.new)

@@ -111,7 +111,7 @@ fn after_meta(from: u64) -> &'static [BankTable]
 fn find_earlier<S: Alter>(conn: &mut Connection<S>, from: u64) -> Result<(), OpenFault>
     requires mode { conn.old.in_transaction ≡ false }
     requires earlier { IsEarlier from }
-    ensures told { HasCleanDisk (state S.Store conn.new)
+    ensures answers { HasCleanDisk (state S.Store conn.new)
         → SeeksEarlier from (state S.Store conn.old) (state S.Store conn.new) result }
     ensures looks { LooksIn S.Store conn.old conn.new result }
 {
@@ -128,7 +128,7 @@ fn find_earlier<S: Alter>(conn: &mut Connection<S>, from: u64) -> Result<(), Ope
 fn move_found<S: Alter>(conn: &mut Connection<S>, from: u64) -> Result<(), OpenFault>
     requires mode { conn.old.in_transaction ≡ false }
     requires earlier { IsEarlier from }
-    ensures told { HasCleanDisk (state S.Store conn.new)
+    ensures answers { HasCleanDisk (state S.Store conn.new)
         → MovesFound from (state S.Store conn.old) (state S.Store conn.new) result }
     ensures call { IsOpenCall S.Store conn.old conn.new (HasMoved from (state S.Store conn.old).now) result }
 {
@@ -140,7 +140,7 @@ fn move_found<S: Alter>(conn: &mut Connection<S>, from: u64) -> Result<(), OpenF
 // Looks for a bank of this version, and moves one of an earlier version.
 fn find_or_move<S: Alter>(conn: &mut Connection<S>) -> Result<Migrated, OpenFault>
     requires { conn.old.in_transaction ≡ false }
-    ensures told { HasCleanDisk (state S.Store conn.new)
+    ensures answers { HasCleanDisk (state S.Store conn.new)
         → Migrates (state S.Store conn.old) (state S.Store conn.new) result }
     ensures from { IfOk result IsFromEarlier }
     ensures call { IsOpenCall S.Store conn.old conn.new (HasCarriedOver (state S.Store conn.old)) result }

@@ -48,7 +48,7 @@ pub(crate) fn count_tables<S: Alter>(
     others: &[BankTable],
 ) -> Result<Presence, OpenFault>
     requires { conn.old.in_transaction ≡ false }
-    ensures told { HasCleanDisk (state S.Store conn.new) → TellsPresence (state S.Store conn.old)
+    ensures answers { HasCleanDisk (state S.Store conn.new) → TellsPresence (state S.Store conn.old)
         (state S.Store conn.new) (map probe_of (first ∷ others.now)) result }
     ensures fault { IfErr result (λ fault. fault ≡ OpenFault.Store) }
     ensures looks { LooksIn S.Store conn.old conn.new result }
@@ -70,7 +70,7 @@ pub(crate) fn count_tables<S: Alter>(
 /// How many of a bank's tables are there.
 pub(crate) fn tables_there<S: Alter>(conn: &mut Connection<S>) -> Result<Presence, OpenFault>
     requires { conn.old.in_transaction ≡ false }
-    ensures told { HasCleanDisk (state S.Store conn.new)
+    ensures answers { HasCleanDisk (state S.Store conn.new)
         → TellsPresence (state S.Store conn.old) (state S.Store conn.new) all_probes result }
     ensures fault { IfErr result (λ fault. fault ≡ OpenFault.Store) }
     ensures looks { LooksIn S.Store conn.old conn.new result }

@@ -45,7 +45,7 @@ fn is_of_the_store(e: &Error) -> bool
 
 /// The fault for an error that came while the tables were made: `Store` or `NotBlank`.
 pub(crate) fn unmade(e: &Error) -> OpenFault
-    ensures told { result ≡ unmade_by e.now }
+    ensures answers { result ≡ unmade_by e.now }
     ensures fault { IsUnmade result }
 {
     if is_of_the_store(e) {
@@ -68,7 +68,7 @@ pub(crate) fn unmoved(e: &Error) -> OpenFault
 
 /// The fault for an error that came while the row of the bank was read: `Store` or `Damaged(Rule::Value)`.
 pub(crate) fn unread(e: &TableFault) -> OpenFault
-    ensures told { result ≡ unread_by e.now }
+    ensures answers { result ≡ unread_by e.now }
     ensures fault { RowIsUnread result }
 {
     match e {

@@ -83,7 +83,7 @@ impl<S: Alter, R: WalkedRow> Drop for Walk<'_, S, R> {
 }
 
 // The fault of a walk, which doesn't bring the bank down.
-fn told(fault: TableFault) -> Fault
+fn fault_of(fault: TableFault) -> Fault
     ensures { TellsFault fault result }
 {
     match fault {
@@ -100,7 +100,7 @@ pub(crate) fn read_outside<S: Alter, R: WalkedRow>(
     rows: &mut ArrayVec<R, AHEAD>,
 ) -> Result<Option<i64>, TableFault>
     requires { conn.old.in_transaction ≡ false }
-    ensures told { HasCleanDisk (state S.Store conn.new) → (all : List R.WalkedRow.Item)
+    ensures answers { HasCleanDisk (state S.Store conn.new) → (all : List R.WalkedRow.Item)
         → R.WalkedRow.HasItems (state S.Store conn.old).now all
         → let given = filter (R.WalkedRow.is_given of) all in MatchResult result
         (λ rest. items_from R.WalkedRow.key from given
@@ -160,7 +160,7 @@ impl<'bank, S: Alter, R: WalkedRow> Walk<'bank, S, R> {
     fn refill(&mut self) -> Result<(), Fault>
         requires { self.old.stage ≡ Going }
         ensures bank { LeavesLent S.Store self.old self.new result }
-        ensures told { HasCleanDisk (lent_state S.Store self.new) → (all : List R.WalkedRow.Item)
+        ensures answers { HasCleanDisk (lent_state S.Store self.new) → (all : List R.WalkedRow.Item)
             → R.WalkedRow.HasItems (lent_state S.Store self.old).now all
             → MatchResult result
             (λ _. items_to_come R.WalkedRow.key R.WalkedRow.item R.WalkedRow.is_given all self.new
@@ -189,7 +189,7 @@ impl<'bank, S: Alter, R: WalkedRow> Walk<'bank, S, R> {
             }
             Err(fault) => {
                 self.stage = Stage::Failed;
-                Err(told(fault))
+                Err(fault_of(fault))
             }
         }
     }
@@ -206,7 +206,7 @@ impl<'bank, S: Alter, R: WalkedRow> Walk<'bank, S, R> {
     /// - [`Fault::Down`]: this walk has ended with a fault.
     pub fn next(&mut self) -> Result<Option<R>, Fault>
         ensures bank { LeavesLent S.Store self.old self.new result }
-        ensures told { HasCleanDisk (lent_state S.Store self.new) → (all : List R.WalkedRow.Item)
+        ensures answers { HasCleanDisk (lent_state S.Store self.new) → (all : List R.WalkedRow.Item)
             → R.WalkedRow.HasItems (lent_state S.Store self.old).now all
             → Steps R.WalkedRow.item R.WalkedRow.Breaks
             (items_to_come R.WalkedRow.key R.WalkedRow.item R.WalkedRow.is_given all self.old)

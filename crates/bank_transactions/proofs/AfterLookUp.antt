@@ -28,10 +28,10 @@ module _ {S X : Type 0} {g : Ghosts S} {old mid new : Transaction S} {So : Table
       → Acts g (AddsTried (state g old.conn.now).now records) old new Of after wanted r
   acts_since {after = after} {wanted = wanted} {r = r} records acts = record {
     says = says_then g old mid new look.says acts.says
-        (λ told leaves told' live t shows so.
+        (λ answers leaves answers' live t shows so.
         of_bad (IsFirstBroken g mid.conn.now new.conn.now) (IsFirstBroken g old.conn.now new.conn.now)
         (state g new.conn.now) (after t) (wanted t) r (λ rule. subst (IsBroken rule) leaves.0.now)
-        (told' (still_in (state g old.conn.now) (state g mid.conn.now) leaves.0.goes_on live) t
+        (answers' (still_in (state g old.conn.now) (state g mid.conn.now) leaves.0.goes_on live) t
         (subst (λ (db : Database). Shows db t) (sym leaves.0.now) shows) so))
         (λ leaves leaves' live.
         let on = leaves.0.goes_on in
@@ -47,7 +47,7 @@ module _ {S X : Type 0} {g : Ghosts S} {old mid new : Transaction S} {So : Table
   module _ (Made : List (List ℕ) → Type 0) (moment : ℕ) (tried : Result Tried TableFault)
       (quiet : Says g mid new (λ _ _. Unit {0}) (Inside KeepsCommit)) where
     pub quiet_since : Says g old new (λ _ _. Unit {0}) (Inside KeepsCommit)
-    quiet_since = says_then g old mid new look.says quiet (λ told leaves told'. tt) (λ leaves leaves' live.
+    quiet_since = says_then g old mid new look.says quiet (λ answers leaves answers'. tt) (λ leaves leaves' live.
         let on = leaves.0.goes_on in
         let it = leaves' (still_in (state g old.conn.now) (state g mid.conn.now) on live) in
         record { was_open = λ h. on.opened (it.was_open h); committed = λ h. it.committed h ∙ on.committed })

@@ -119,9 +119,9 @@ meta_rows db rows has =
 pub never_broken : (old new : State) (fault : TableFault)
     → OfMeta (λ before now rows. FindsMeta before now (meta_in rows) (Err fault)) old new
     → IsOf old.now fault
-never_broken old new (Sqlite e) told = tt
-never_broken old new (Damaged rule) told =
-    broken_by rule old.now (λ rows has. absurd (told rows.meta (meta_rows old.now rows has)))
+never_broken old new (Sqlite e) answers = tt
+never_broken old new (Damaged rule) answers =
+    broken_by rule old.now (λ rows has. absurd (answers rows.meta (meta_rows old.now rows has)))
 
 decided_is : (rows : StoredRows) (decided : ℕ) → HasDecided rows decided → (m : Option StoredMeta) → m
     ≡ meta_in rows.meta
@@ -134,7 +134,7 @@ pub meta_broken : (old new : State) (m : Option StoredMeta)
     → ((decided : ℕ) (version : ℤ) → m ≡ Some (record { version = version; decided = pos decided })
     → decided ≤ MAX_DECIDED → ⊥)
     → IsBroken Meta old.now
-meta_broken old new m told none = λ rows has keeps.
-    let it = told rows.meta (meta_rows old.now rows has) in
+meta_broken old new m answers none = λ rows has keeps.
+    let it = answers rows.meta (meta_rows old.now rows has) in
     let is = decided_is rows keeps.1.0 keeps.1.1 m it.0 in
     none keeps.1.0 is.0 is.1 keeps.1.2

@@ -41,16 +41,16 @@ keeps_then old mid new (Err e) on then = record {
 -- damage of a part is damage of the whole
 pub same_fault : {X Y : Type 0} (Bad : Rule → Type 0) (new end : State) (one two : Tables) (x : X) (y : Y) (e : TableFault)
     → LeavesAndAnswers Bad new one x (Err e) → LeavesAndAnswers Bad end two y (Err e)
-same_fault Bad new end one two x y (Sqlite e) told = tt
-same_fault Bad new end one two x y (Damaged rule) told = told
+same_fault Bad new end one two x y (Sqlite e) answers = tt
+same_fault Bad new end one two x y (Damaged rule) answers = answers
 
 -- damage that says one thing says another that follows
 pub of_bad : {X : Type 0} (Bad Worse : Rule → Type 0) (new : State) (after : Tables) (wanted : X)
     (r : Result X TableFault) → ((rule : Rule) → Bad rule → Worse rule) → LeavesAndAnswers Bad new after wanted r
     → LeavesAndAnswers Worse new after wanted r
-of_bad Bad Worse new after wanted (Ok x) so told = told
-of_bad Bad Worse new after wanted (Err (Sqlite e)) so told = tt
-of_bad Bad Worse new after wanted (Err (Damaged rule)) so told = so rule told
+of_bad Bad Worse new after wanted (Ok x) so answers = answers
+of_bad Bad Worse new after wanted (Err (Sqlite e)) so answers = tt
+of_bad Bad Worse new after wanted (Err (Damaged rule)) so answers = so rule answers
 
 -- ---- parts
 
@@ -61,7 +61,7 @@ pub does_none : {S : Type 0} {g : Ghosts S} {Adds : Additions} {tx : Transaction
 does_none stays = record {
   says = record {
     same_reference = refl;
-    told = λ clean live t shows so. (refl, shows);
+    answers = λ clean live t shows so. (refl, shows);
     leaves = λ clean live. (
       record { opened = λ h. h; committed = refl; mode = refl; spares = spares_itself bank_names _ },
       tt,
@@ -81,9 +81,9 @@ pub does_then : {S X Y : Type 0} {g : Ghosts S} {Adds : Additions} {old mid new 
 does_then {S} {X} {Y} {g} {Adds} {old} {mid} {new} {So} {So'} {after} {after'} {w} {w'} {x} {r} {Bad} {Met} one two ready =
     record {
       says = says_then g old mid new one.says two.says
-          (λ told leaves told' live t shows so.
-          told' (still_in (state g old.conn.now) (state g mid.conn.now) (leaves live).0 live) (after t)
-          (told live t shows so).1 (ready t so))
+          (λ answers leaves answers' live t shows so.
+          answers' (still_in (state g old.conn.now) (state g mid.conn.now) (leaves live).0 live) (after t)
+          (answers live t shows so).1 (ready t so))
           (λ leaves leaves' live.
           let on = (leaves live).0 in
           let last = leaves' (still_in (state g old.conn.now) (state g mid.conn.now) on live) in (
@@ -102,9 +102,9 @@ pub does_err : {S X Y : Type 0} {g : Ghosts S} {old new : Transaction S} {So So'
 does_err {S} {X} {Y} {g} {old} {new} {So} {So'} {after} {after'} {w} {w'} {e} {Bad} {Met} part so = record {
   says = record {
     same_reference = part.says.same_reference;
-    told = λ clean live t shows it. same_fault (Bad old.conn.now new.conn.now) (state g new.conn.now)
+    answers = λ clean live t shows it. same_fault (Bad old.conn.now new.conn.now) (state g new.conn.now)
         (state g new.conn.now) (after t) (after' t) (w t) (w' t) e
-        (part.says.told clean live t shows (so t it));
+        (part.says.answers clean live t shows (so t it));
     leaves = part.says.leaves;
     survives = part.says.survives;
   };
@@ -120,12 +120,12 @@ pub does_for : {S X : Type 0} {g : Ghosts S} {old new : Transaction S} {So So' :
 does_for {S} {X} {g} {old} {new} {So} {So'} {after} {after'} {w} {w'} {r} {Bad} part same = record {
   says = record {
     same_reference = part.says.same_reference;
-    told = λ clean live t shows so.
+    answers = λ clean live t shows so.
         let is = same t so in
-        let Told = Bad old.conn.now new.conn.now in
-        subst (λ (u : Tables). LeavesAndAnswers Told (state g new.conn.now) u (w' t) r) is.1
-        (subst (λ (x : X). LeavesAndAnswers Told (state g new.conn.now) (after t) x r) is.2
-        (part.says.told clean live t shows is.0));
+        let Answers = Bad old.conn.now new.conn.now in
+        subst (λ (u : Tables). LeavesAndAnswers Answers (state g new.conn.now) u (w' t) r) is.1
+        (subst (λ (x : X). LeavesAndAnswers Answers (state g new.conn.now) (after t) x r) is.2
+        (part.says.answers clean live t shows is.0));
     leaves = part.says.leaves;
     survives = part.says.survives;
   };
@@ -140,7 +140,7 @@ pub does_adds : {S X : Type 0} {g : Ghosts S} {Adds Adds' : Additions} {old new 
 does_adds {S} {X} {g} {Adds} {Adds'} {old} {new} {So} {after} {w} {r} also part = record {
   says = record {
     same_reference = part.says.same_reference;
-    told = part.says.told;
+    answers = part.says.answers;
     leaves = λ clean live.
         let it = part.says.leaves clean live in
         (it.0, blames_also g old.conn.now new.conn.now r (also clean) it.1, on_ok_weaker r (writes_also (also clean)) it.2);
@@ -158,9 +158,9 @@ pub does_tell : {S X Y : Type 0} {g : Ghosts S} {old new : Transaction S} {So So
 does_tell {S} {X} {Y} {g} {old} {new} {So} {So'} {after} {after'} {w} {w'} {x} {y} {Bad} {Met} part so = record {
   says = record {
     same_reference = part.says.same_reference;
-    told = λ clean live t shows it.
+    answers = λ clean live t shows it.
         let ready = so t it in
-        let found = part.says.told clean live t shows ready.0 in
+        let found = part.says.answers clean live t shows ready.0 in
         let is = ready.1 found.0 in
         (is.1, subst (λ (u : Tables). Shows (state g new.conn.now).now u) is.0 found.1);
     leaves = part.says.leaves;
@@ -177,7 +177,7 @@ pub does_known : {S X : Type 0} {g : Ghosts S} {old new : Transaction S} {So Kno
 does_known known part = record {
   says = record {
     same_reference = part.says.same_reference;
-    told = λ clean live t shows so. part.says.told clean live t shows (so, known clean live t shows so);
+    answers = λ clean live t shows so. part.says.answers clean live t shows (so, known clean live t shows so);
     leaves = part.says.leaves;
     survives = part.says.survives;
   };
@@ -200,7 +200,7 @@ module _ {S X Y : Type 0} {g : Ghosts S} {Adds : Additions} {old mid new : Trans
         → Does g Adds old new (λ t. So t × (x ≡ w t)) after'' w'' r' → Does g Adds old new So after'' w'' r'
     all_known two = does_known (λ clean live t shows so.
         let before : HasCleanDisk (state g mid.conn.now) = omega (arith, two.says.survives.clean) in
-        (one.says.told before live t shows so).0)
+        (one.says.answers before live t shows so).0)
 
     -- an error of the second is that of both
     pub does_but : {e : TableFault} → Does g Adds mid new So' after' w' (Err e)
@@ -224,9 +224,9 @@ acts_as : {S X : Type 0} {Bad Met : Damage S} {g : Ghosts S} {Adds : Additions} 
 acts_as {S} {X} {Bad} {Met} {g} {Adds} {old} {new} {So} {after} {w} {r} worse weaker part = record {
   says = record {
     same_reference = part.says.same_reference;
-    told = λ clean live t shows so.
+    answers = λ clean live t shows so.
         of_bad (Bad old.conn.now new.conn.now) (IsFirstBroken g old.conn.now new.conn.now) (state g new.conn.now)
-        (after t) (w t) r worse (part.says.told clean live t shows so);
+        (after t) (w t) r worse (part.says.answers clean live t shows so);
     leaves = λ clean live.
         let it = part.says.leaves clean live in
         (it.0, broken_or_met Met g old.conn.now new.conn.now r weaker it.1, it.2);

@@ -54,13 +54,13 @@ pub nothing_asked : {A : Type 0} (xs : List A) → AllByRecursion (λ _. ⊤) xs
 nothing_asked = all_of (λ _. ⊤) (λ x. tt)
 
 -- the slots of branches that are filled tell, for those that ask of them
-tells_so : {A : Type 0} (branch_of : A → ℕ) (t : Tables) (slots told : List BranchSlot) (others xs : List A)
+tells_so : {A : Type 0} (branch_of : A → ℕ) (t : Tables) (slots given : List BranchSlot) (others xs : List A)
     → AllByRecursion (λ s. IsSome (row_at branch_slot_key slots (branch_of s))) others
-    → told ≡ map (branch_filled t) slots → xs ≡ others
-    → AllByRecursion (λ s. TellsBranch told t (branch_of s)) xs
-tells_so branch_of t slots told others xs asked is same =
+    → given ≡ map (branch_filled t) slots → xs ≡ others
+    → AllByRecursion (λ s. TellsBranch given t (branch_of s)) xs
+tells_so branch_of t slots given others xs asked is same =
     know_all branch_slot_key row_of_slot emptied_branch (λ n s. refl) (λ n row. row ≡ row_at branch_key t.branches n)
-    branch_of slots told (map (branch_filled t) slots) others xs is same
+    branch_of slots given (map (branch_filled t) slots) others xs is same
     (map-map emptied_branch (branch_filled t) slots)
     (all-map _ (branch_filled t) slots (all_of _ (λ s. refl) slots)) asked
 
@@ -98,11 +98,11 @@ Plain xs t = IsUndamaged t × AllByRecursion (λ _. ⊤) xs
 
 -- slots of tellers, and of accounts, whose branches are told
 abbrev OfTellers : List BranchSlot → List TellerSlot → Tables → Type 0
-OfTellers told xs t = IsUndamaged t × AllByRecursion (λ s. TellsBranch told t (branch_of_teller s.teller)) xs
+OfTellers given xs t = IsUndamaged t × AllByRecursion (λ s. TellsBranch given t (branch_of_teller s.teller)) xs
 
 abbrev OfAccounts : List BranchSlot → List AccountSlot → Tables → Type 0
-OfAccounts told xs t = IsUndamaged t
-    × AllByRecursion (λ s. TellsBranch told t (branch_of_account s.account)) xs
+OfAccounts given xs t = IsUndamaged t
+    × AllByRecursion (λ s. TellsBranch given t (branch_of_account s.account)) xs
 
 module _ {S : Type 0} {g : Ghosts S} {a b : Transaction S} where
   pub count_in : (o : Overlay) (n : ℕ) → Reads g a b (λ t. t.decided) (Ok n)
@@ -124,27 +124,27 @@ module _ {S : Type 0} {g : Ghosts S} {a b : Transaction S} where
         part o with_floors floor_filled p (to_branches o) xs o.floors ys is first second
         (λ t so e. (so.0, nothing_asked xs))
 
-    pub tellers_in : {told : List BranchSlot} {xs ys : List TellerSlot}
-        → ReadsWhere g a b (So o) (to_floors o) (Ok p) → told ≡ p.branches → xs ≡ o.tellers
-        → ReadsWhere g b c (OfTellers told xs) (λ t. map (teller_filled t) xs) (Ok ys)
+    pub tellers_in : {given : List BranchSlot} {xs ys : List TellerSlot}
+        → ReadsWhere g a b (So o) (to_floors o) (Ok p) → given ≡ p.branches → xs ≡ o.tellers
+        → ReadsWhere g b c (OfTellers given xs) (λ t. map (teller_filled t) xs) (Ok ys)
         → ReadsWhere g a c (So o) (to_tellers o) (Ok (with_tellers ys p))
-    tellers_in {told} {xs} {ys} first same is second =
+    tellers_in {given} {xs} {ys} first same is second =
         part o with_tellers teller_filled p (to_floors o) xs o.tellers ys is first second
         (λ t so e. (
           so.0,
-          tells_so (λ s. branch_of_teller s.teller) t o.branches told o.tellers xs so.1.tellers
+          tells_so (λ s. branch_of_teller s.teller) t o.branches given o.tellers xs so.1.tellers
               (same ∙ ap (λ (q : Overlay). q.branches) e) is,
         ))
 
-    pub accounts_in : {told : List BranchSlot} {xs ys : List AccountSlot}
-        → ReadsWhere g a b (So o) (to_tellers o) (Ok p) → told ≡ p.branches → xs ≡ o.accounts
-        → ReadsWhere g b c (OfAccounts told xs) (λ t. map (account_filled t) xs) (Ok ys)
+    pub accounts_in : {given : List BranchSlot} {xs ys : List AccountSlot}
+        → ReadsWhere g a b (So o) (to_tellers o) (Ok p) → given ≡ p.branches → xs ≡ o.accounts
+        → ReadsWhere g b c (OfAccounts given xs) (λ t. map (account_filled t) xs) (Ok ys)
         → ReadsWhere g a c (So o) (to_accounts o) (Ok (with_accounts ys p))
-    accounts_in {told} {xs} {ys} first same is second =
+    accounts_in {given} {xs} {ys} first same is second =
         part o with_accounts account_filled p (to_tellers o) xs o.accounts ys is first second
         (λ t so e. (
           so.0,
-          tells_so (λ s. branch_of_account s.account) t o.branches told o.accounts xs so.1.accounts
+          tells_so (λ s. branch_of_account s.account) t o.branches given o.accounts xs so.1.accounts
               (same ∙ ap (λ (q : Overlay). q.branches) e) is,
         ))
 

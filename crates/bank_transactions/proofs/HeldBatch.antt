@@ -100,10 +100,10 @@ rising_filled o rises = record {
 
 -- ---- what the tables tell of a record
 
-told : {S X : Type 0} (content : S → X) (P : X → Type 0) (x : X) (o : Option S) → IsSome o
+answers : {S X : Type 0} (content : S → X) (P : X → Type 0) (x : X) (o : Option S) → IsSome o
     → IfSome o (λ s. P (content s)) → IfSome o (λ s. content s ≡ x) → P x
-told content P x None there held is = absurd cc
-told content P x (Some s) there held is = subst P is held
+answers content P x None there held is = absurd cc
+answers content P x (Some s) there held is = subst P is held
 
 -- what is so of what is kept in the slot of a request
 kept_at : (P : ℕ → ℕ → Option KeptFields → Type 0) (slots : List RequestSlot)
@@ -125,7 +125,7 @@ told_kept : (P : ℕ → ℕ → Option KeptFields → Type 0) (o : Overlay) (t 
     → AllByRecursion (λ s. P s.teller s.number s.kept) o.kept → (r : RequestFields) → CoversRead o (Ok r)
     → P r.teller r.number (kept_in t.requests t.references r.teller r.number)
 told_kept P o t reads stand all r covers =
-    told (λ s. s.kept) (λ k. P r.teller r.number k) (kept_in t.requests t.references r.teller r.number)
+    answers (λ s. s.kept) (λ k. P r.teller r.number k) (kept_in t.requests t.references r.teller r.number)
     _ covers.kept (kept_at P o.kept all r.teller r.number)
     (subst (λ (u : Tables). IfSome (find (is_for r.teller r.number) o.kept)
     (λ s. s.kept ≡ kept_in u.requests u.references r.teller r.number)) stand.same
@@ -140,23 +140,23 @@ module _ (rows : StoredRows) where
         let a = branch_of_account r.account in
         let teller : HoldsTellerRow rows r.teller
         (option_map balance_of_teller (row_at teller_key t.tellers r.teller)) =
-        told (λ s. s.stored) (λ z. HoldsTellerRow rows r.teller z) _ _ covers.teller
+        answers (λ s. s.stored) (λ z. HoldsTellerRow rows r.teller z) _ _ covers.teller
         (at_key teller_slot_key (λ k s. HoldsTellerRow rows k s.stored) o.tellers held.tellers r.teller)
         (stand.fits.tellers r.teller) in
         let branch : HoldsBranch rows b (row_at branch_key t.branches b) =
-        told (λ s. s.stored) (λ row. HoldsBranch rows b row) _ _ covers.branch
+        answers (λ s. s.stored) (λ row. HoldsBranch rows b row) _ _ covers.branch
         (at_key branch_slot_key (λ k s. HoldsBranch rows k s.stored) o.branches held.branches b)
         (stand.fits.branches b) in
         record {
           teller = both_held rows r.teller _ _ teller branch;
           teller_fits = teller.fits;
           account =
-              told (λ s. s.stored) (λ z. HoldsAccount rows r.account z) (account_balance_in t r.account) _
+              answers (λ s. s.stored) (λ z. HoldsAccount rows r.account z) (account_balance_in t r.account) _
               covers.account
               (at_key account_slot_key (λ k s. HoldsAccount rows k s.stored) o.accounts held.accounts r.account)
               (stand.fits.accounts r.account);
           floor =
-              told (λ s. s.floor) (λ z. HoldsFloor rows a z) (floor_in t a) _ covers.its_floor
+              answers (λ s. s.floor) (λ z. HoldsFloor rows a z) (floor_in t a) _ covers.its_floor
               (at_key floor_slot_key (λ k s. HoldsFloor rows k s.floor) o.floors held.floors a)
               (stand.fits.floors a);
           kept = told_kept (HoldsKept rows) o t reads stand held.kept r covers;
@@ -302,7 +302,7 @@ answers_all old new b b' records m o items made reads same own held shown judged
     let filled_from = filled_so free its slots so own in
     let is = judged t records (record { reads = reads ∙ made.reads; overlay = filled_from }) (told_free free slots) in
     record {
-      told = in_turn old new b b' records m o items made reads same own held shown judged idle;
+      answers = in_turn old new b b' records m o items made reads same own held shown judged idle;
       wrote = elim wrote [
         | inl none ↦
             let back : tables_past_all t m records ≡ t = sym is.tables
@@ -332,7 +332,7 @@ in_turn_looked_up old new b b' records m o items made reads same shown held judg
     let slots = view b'.overlay in
     let stand = they_stand (length records) its slots (same ∙ ap emptied made.overlay) shown.branches in
     record {
-      told = in_turn old new b b' records m o items made reads same shown.branches held (λ _. shown.kept) judged idle;
+      answers = in_turn old new b b' records m o items made reads same shown.branches held (λ _. shown.kept) judged idle;
       shown = shown_records old slots _ its stand shown.kept records stand.covers;
     }
 
@@ -397,7 +397,7 @@ stored_after {S} {X} g Made Q old begun last end new (Ok x) (Ok y) is ends same 
     let given : x ≡ y = (let it = ends.given in cc) in
     subst (λ (h : Held S). Q (state g old).now (state g h).now records y) (same records made)
     (subst (λ (z : X). Q (state g old).now (state g end).now records z) given
-    (subst (λ (db : Database). Q (state g old).now db records x) (sym (ends.told ended).0)
+    (subst (λ (db : Database). Q (state g old).now db records x) (sym (ends.answers ended).0)
     (subst (λ (db : Database). Q db (state g last).now records x) (ap (λ (h : Held S). (state g h).now) is)
     (stored before records made))))
 

@@ -63,28 +63,28 @@ module _ {S X : Type 0} (key : S → ℕ) (content : S → Option X) (bare : S �
       tell_all old new others same held homes.1,
     )
 
-    pub know_all : (old told new : List S) (others xs : List A) → told ≡ new → xs ≡ others
+    pub know_all : (old given new : List S) (others xs : List A) → given ≡ new → xs ≡ others
         → map bare new ≡ map bare old → Each new
         → AllByRecursion (λ x. IsSome (row_at key old (number x))) others
-        → AllByRecursion (λ x. Tells told (number x)) xs
-    know_all old told new others xs is at same held homes =
+        → AllByRecursion (λ x. Tells given (number x)) xs
+    know_all old given new others xs is at same held homes =
         subst (λ (slots : List S). AllByRecursion (λ x. Tells slots (number x)) xs) (sym is)
         (subst (λ (ys : List A). AllByRecursion (λ x. Tells new (number x)) ys) (sym at)
         (tell_all old new others same held homes))
 
 -- so they tell the branches that other slots give
 module _ {A : Type 0} (branch_of : A → ℕ) (rows : StoredRows) where
-  pub know_branches : (old told new : List BranchSlot) (others xs : List A) → told ≡ new → xs ≡ others
+  pub know_branches : (old given new : List BranchSlot) (others xs : List A) → given ≡ new → xs ≡ others
       → map emptied_branch new ≡ map emptied_branch old → AllByRecursion (BranchHeld rows) new
       → AllByRecursion (λ s. IsSome (row_at branch_slot_key old (branch_of s))) others
-      → AllByRecursion (λ s. TellsStored told rows (branch_of s)) xs
+      → AllByRecursion (λ s. TellsStored given rows (branch_of s)) xs
   know_branches = know_all branch_slot_key row_of_slot emptied_branch (λ n s. refl) (HoldsBranch rows) branch_of
 
   -- and their floors
-  pub know_floors : (old told new : List FloorSlot) (others xs : List A) → told ≡ new → xs ≡ others
+  pub know_floors : (old given new : List FloorSlot) (others xs : List A) → given ≡ new → xs ≡ others
       → map emptied_floor new ≡ map emptied_floor old → AllByRecursion (FloorHeld rows) new
       → AllByRecursion (λ s. IsSome (row_at floor_slot_key old (branch_of s))) others
-      → AllByRecursion (λ s. TellsFloor told rows (branch_of s)) xs
+      → AllByRecursion (λ s. TellsFloor given rows (branch_of s)) xs
   know_floors = know_all floor_slot_key floor_of_slot emptied_floor (λ n s. refl) (HoldsFloor rows) branch_of
 
 -- slots that were filled through a slice of a vector are those that it has then

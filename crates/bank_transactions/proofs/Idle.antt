@@ -15,19 +15,19 @@ pub ends_items : {S : Type 0} (g : Ghosts S) (last new : Held S)
     (answer result : Result (SmallVec (List ℕ)) TableFault)
     → Ends g last new answer result → Ends g last new (items_of answer) (items_of result)
 ends_items g last new (Ok x) (Ok y) ends =
-    record { mode = ends.mode; given = ap items_of ends.given; told = ends.told; survives = ends.survives }
+    record { mode = ends.mode; given = ap items_of ends.given; answers = ends.answers; survives = ends.survives }
 ends_items g last new (Ok x) (Err fault) ends =
-    record { mode = ends.mode; given = tt; told = ends.told; survives = ends.survives }
+    record { mode = ends.mode; given = tt; answers = ends.answers; survives = ends.survives }
 ends_items g last new (Err fault) (Ok y) ends = record {
   mode = ends.mode;
   given = ap items_of ends.given;
-  told = λ clean. let it = ends.told clean in (ap items_of it.0, it.1);
+  answers = λ clean. let it = ends.answers clean in (ap items_of it.0, it.1);
   survives = ends.survives;
 }
 ends_items g last new (Err fault) (Err other) ends = record {
   mode = ends.mode;
   given = tt;
-  told = λ clean. let it = ends.told clean in (ap items_of it.0, it.1);
+  answers = λ clean. let it = ends.answers clean in (ap items_of it.0, it.1);
   survives = ends.survives;
 }
 
@@ -58,12 +58,12 @@ module _ (Made : List (List ℕ) → Type 0) (moment : ℕ) {S : Type 0} (g : Gh
       let before : HasCleanDisk (state g last) = omega (arith, ends.survives.clean) in
       let first : Shows (state g begun).now t = rw is shows in
       let it = idle before records made t first so none in
-      let told = ends.told ended in
-      let left = told.1 t (subst (λ (db : Database). Shows db t) (sym it.stays.now) first) in
+      let answers = ends.answers ended in
+      let left = answers.1 t (subst (λ (db : Database). Shows db t) (sym it.stays.now) first) in
       subst (λ (h : Held S). KeepsOnly (state g old) (state g h) t moment records)
       (same records made) (record {
         leads = it.leads;
-        same = told.0 ∙ it.stays.now ∙ ap (λ (h : Held S). (state g h).now) is;
+        same = answers.0 ∙ it.stays.now ∙ ap (λ (h : Held S). (state g h).now) is;
         shows = left.0;
         survives = left.1;
       })

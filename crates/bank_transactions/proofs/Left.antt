@@ -34,7 +34,7 @@ pub leaves_add : {S : Type 0} {Left : State → State → Type 0} (g : Ghosts S)
     (Inside Left)
     → Leaves g old new more r
 leaves_add g old new table taken more (Ok done) says =
-    record { shown = λ clean live t shows. (says.told clean live t shows).1 }
+    record { shown = λ clean live t shows. (says.answers clean live t shows).1 }
 leaves_add g old new table taken more (Err e) says = record { shown = tt }
 
 -- one part, and then another
@@ -79,6 +79,6 @@ opens_after {S} {X} g Q old begun last end new (Ok x) (Ok y) is ends same said =
     let before : HasCleanDisk (state g last) = omega (arith, ends.survives.clean) in
     let given : x ≡ y = (let it = ends.given in cc) in
     subst (λ (z : X). Q (state g old).now (state g end).now z) given
-    (subst (λ (db : Database). Q (state g old).now db x) (sym (ends.told clean).0)
+    (subst (λ (db : Database). Q (state g old).now db x) (sym (ends.answers clean).0)
     (subst (λ (db : Database). Q db (state g last).now x) (ap (λ (h : Held S). (state g h).now) is)
     (said before (rw is refl)))))

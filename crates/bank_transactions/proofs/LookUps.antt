@@ -55,7 +55,7 @@ pub reads_none : {S X : Type 0} {g : Ghosts S} {tx : Transaction S} {So : Tables
 reads_none same is = record {
   says = record {
     same_reference = refl;
-    told = λ clean t shows so. is t so;
+    answers = λ clean t shows so. is t so;
     leaves = λ clean. (
       record {
         goes_on = record { opened = λ h. h; committed = refl; mode = refl; spares = spares_itself bank_names _ };
@@ -69,12 +69,12 @@ reads_none same is = record {
 
 -- what changed nothing, and was to tell nothing of the tables
 pub recalled_at : {S : Type 0} {g : Ghosts S} {old new : Transaction S} {So : Tables → Type 0}
-    {Told : State → State → Type 0}
-    → Says g old new Told Stays → ReadsWhere {X = Unit {0}} g old new So (λ t. tt {0}) (Ok (tt {0}))
+    {Answers : State → State → Type 0}
+    → Says g old new Answers Stays → ReadsWhere {X = Unit {0}} g old new So (λ t. tt {0}) (Ok (tt {0}))
 recalled_at says = record {
   says = record {
     same_reference = says.same_reference;
-    told = λ clean t shows so. refl;
+    answers = λ clean t shows so. refl;
     leaves = λ clean. (says.leaves clean, tt);
     survives = says.survives;
   };
@@ -82,11 +82,11 @@ recalled_at says = record {
 
 -- as a statement did
 pub looked_at : {S : Type 0} {g : Ghosts S} {old new : Transaction S} {So : Tables → Type 0}
-    {Told : State → State → Type 0}
-    → Says g old new Told IsUnchanged → ReadsWhere {X = Unit {0}} g old new So (λ t. tt {0}) (Ok (tt {0}))
-looked_at {g = g} {old = old} {new = new} {Told = Told} says = recalled_at {Told = Told} (record {
+    {Answers : State → State → Type 0}
+    → Says g old new Answers IsUnchanged → ReadsWhere {X = Unit {0}} g old new So (λ t. tt {0}) (Ok (tt {0}))
+looked_at {g = g} {old = old} {new = new} {Answers = Answers} says = recalled_at {Answers = Answers} (record {
   same_reference = says.same_reference;
-  told = says.told;
+  answers = says.answers;
   leaves = λ clean. stays (state g old.conn.now) (state g new.conn.now) (says.leaves clean);
   survives = says.survives;
 })
@@ -99,7 +99,7 @@ pub reads_so : {S X Y : Type 0} {g : Ghosts S} {old new : Transaction S} {So So'
 reads_so part same = record {
   says = record {
     same_reference = part.says.same_reference;
-    told = λ clean t shows so. let is = same t so in is.1 (part.says.told clean t shows is.0);
+    answers = λ clean t shows so. let is = same t so in is.1 (part.says.answers clean t shows is.0);
     leaves = part.says.leaves;
     survives = part.says.survives;
   };
@@ -113,7 +113,7 @@ pub reads_broken : {S X Y : Type 0} {g : Ghosts S} {old new : Transaction S} {So
 reads_broken rule part broken = record {
   says = record {
     same_reference = part.says.same_reference;
-    told = λ clean t shows so. tt;
+    answers = λ clean t shows so. tt;
     leaves = λ clean. let on = (part.says.leaves clean).0.goes_on in
         (record { was_open = on.opened; committed = λ h. on.committed }, broken clean);
     survives = part.says.survives;
@@ -129,9 +129,9 @@ module _ {S X Y : Type 0} {g : Ghosts S} {old mid new : Transaction S} {So So' :
       → ReadsWhere g old new So w'' (Ok z)
   reads_both {y = y} one two ready joins = record {
     says = says_then g old mid new one.says two.says
-        (λ told leaves told' t shows so.
-        let first = told t shows so in
-        joins t so first (told' t (subst (λ (db : Database). Shows db t) (sym leaves.0.now) shows)
+        (λ answers leaves answers' t shows so.
+        let first = answers t shows so in
+        joins t so first (answers' t (subst (λ (db : Database). Shows db t) (sym leaves.0.now) shows)
         (ready t so first)))
         (λ leaves. leaves_then g old.conn.now mid.conn.now new.conn.now (Ok y) leaves.0 (comes one.says.survives));
   }
@@ -141,8 +141,8 @@ module _ {S X Y : Type 0} {g : Ghosts S} {old mid new : Transaction S} {So So' :
       → ((t : Tables) → So t → So' t) → ReadsWhere g old new So w' r
   reads_after {r} one two ready = record {
     says = says_then g old mid new one.says two.says
-        (λ told leaves told' t shows so.
-        told' t (subst (λ (db : Database). Shows db t) (sym leaves.0.now) shows) (ready t so))
+        (λ answers leaves answers' t shows so.
+        answers' t (subst (λ (db : Database). Shows db t) (sym leaves.0.now) shows) (ready t so))
         (λ leaves. leaves_then g old.conn.now mid.conn.now new.conn.now r leaves.0 (comes one.says.survives));
   }
 
@@ -150,7 +150,7 @@ module _ {S X Y : Type 0} {g : Ghosts S} {old mid new : Transaction S} {So So' :
   pub reads_but : {Z : Type 0} {w'' : Tables → Z} {e : TableFault} → ReadsWhere g old mid So w (Ok x)
       → ReadsWhere g mid new So' w' (Err e) → ReadsWhere g old new So w'' (Err e)
   reads_but {e = e} one two = record {
-    says = says_then g old mid new one.says two.says (λ told leaves told' t shows so. tt)
+    says = says_then g old mid new one.says two.says (λ answers leaves answers' t shows so. tt)
         (λ leaves. leaves_then {X = Y} g old.conn.now mid.conn.now new.conn.now (Err e) leaves.0
         (comes one.says.survives));
   }
@@ -176,9 +176,9 @@ looked : {S X : Type 0} (g : Ghosts S) (old new : Held S) (t : Tables) (w : X) (
     → Shows (state g old).now t → IfOk r (λ x. x ≡ w)
     → ChangesNothing (state g old) (state g new) r × Blames (IsFirstBroken g) g old new r
     → LeavesAndAnswers (IsFirstBroken g old new) (state g new) t w r
-looked g old new t w (Ok x) shows told leaves =
-    (told, subst (λ (db : Database). Shows db t) (sym leaves.0.now) shows)
-looked g old new t w (Err e) shows told leaves = look_fault g old new t w e leaves.1
+looked g old new t w (Ok x) shows answers leaves =
+    (answers, subst (λ (db : Database). Shows db t) (sym leaves.0.now) shows)
+looked g old new t w (Err e) shows answers leaves = look_fault g old new t w e leaves.1
 
 look_keeps : {X : Type 0} (old new : State) (r : Result X TableFault) → ChangesNothing old new r
     → CommitsNothing old new r
@@ -210,8 +210,8 @@ pub does_look : {S X : Type 0} {Adds : Additions} {g : Ghosts S} {old new : Tran
 does_look {S} {X} {Adds} {g} {old} {new} {So} {w} {r} reads = record {
   says = record {
     same_reference = reads.says.same_reference;
-    told = λ clean live t shows so. looked g old.conn.now new.conn.now t (w t) r shows
-        (reads.says.told clean t shows so) (reads.says.leaves clean);
+    answers = λ clean live t shows so. looked g old.conn.now new.conn.now t (w t) r shows
+        (reads.says.answers clean t shows so) (reads.says.leaves clean);
     leaves = λ clean live. look_leaves Adds reads clean;
     survives = reads.says.survives;
   };
@@ -224,7 +224,7 @@ pub does_fail : {S X Y : Type 0} {Adds : Additions} {g : Ghosts S} {old new : Tr
 does_fail {S} {X} {Y} {Adds} {g} {old} {new} {So} {So'} {after} {w} {w'} {e} reads = record {
   says = record {
     same_reference = reads.says.same_reference;
-    told = λ clean live t shows so. look_fault g old.conn.now new.conn.now (after t) (w' t) e
+    answers = λ clean live t shows so. look_fault g old.conn.now new.conn.now (after t) (w' t) e
         (reads.says.leaves clean).1;
     leaves = λ clean live. look_leaves Adds reads clean;
     survives = reads.says.survives;
@@ -239,7 +239,7 @@ pub finds_so : {S X Y : Type 0} {g : Ghosts S} {old new : Transaction S} {So So'
 finds_so reads is = record {
   says = record {
     same_reference = reads.says.same_reference;
-    told = is;
+    answers = is;
     leaves = reads.says.leaves;
     survives = reads.says.survives;
   };

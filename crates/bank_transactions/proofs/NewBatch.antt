@@ -183,7 +183,7 @@ pub quiet : {S X : Type 0} {Bad Met : Damage S} {Adds : Additions} {g : Ghosts S
     → Says g old new (λ _ _. Unit {0}) (Inside KeepsCommit)
 quiet {g = g} {old = old} {new = new} {r = r} does = record {
   same_reference = does.says.same_reference;
-  told = λ clean. tt;
+  answers = λ clean. tt;
   leaves = λ clean live. commits_none (state g old.conn.now) (state g new.conn.now) r (does.says.leaves clean live).0;
   survives = does.says.survives;
 }
@@ -233,7 +233,7 @@ pub refused_new : {S X Y : Type 0} {g : Ghosts S} {Adds : Additions} {old mid ne
 refused_new (Sqlite e) none first second = record {
   says = record {
     same_reference = (blind first second).says.same_reference;
-    told = λ clean live t shows it. tt;
+    answers = λ clean live t shows it. tt;
     leaves = λ clean live. (acts_wrote (blind first second)).says.leaves clean live;
     survives = (blind first second).says.survives;
   };

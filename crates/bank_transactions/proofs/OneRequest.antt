@@ -38,10 +38,10 @@ module _ (t : Tables) (m : ℕ) (r : RequestFields) where
 module _ {old new : Database} {m : ℕ} {bytes reply : List ℕ} {r : RequestFields} (read : request_of bytes ≡ Ok r)
     (it : RepliesLookedUp old new m (bytes ∷ []) (reply ∷ [])) where
   abbrev its : Tables
-  its = it.told.tables
+  its = it.answers.tables
 
   has : (rows : StoredRows) → HoldsBank old rows → HasStored rows its r
-  has rows holds = subst (HasRead rows its) read (it.told.stored rows holds).0.0
+  has rows holds = subst (HasRead rows its) read (it.answers.stored rows holds).0.0
 
   found_stored : IsStoredFound old r (found_in its r)
   found_stored = record {
@@ -53,12 +53,12 @@ module _ {old new : Database} {m : ℕ} {bytes reply : List ℕ} {r : RequestFie
     above = λ rows holds. (has rows holds).account.above;
     floor = λ rows holds. (has rows holds).floor;
     kept = λ rows holds. (has rows holds).kept;
-    decided = λ rows holds. (it.told.stored rows holds).1;
+    decided = λ rows holds. (it.answers.stored rows holds).1;
     shown = subst (HasShown old its) read it.shown.0;
   }
 
   replied : reply ≡ reply_bytes its r
-  replied = let first : reply ≡ reply_read its (request_of bytes) = (let are = it.told.are in cc) in
+  replied = let first : reply ≡ reply_read its (request_of bytes) = (let are = it.answers.are in cc) in
       first ∙ ap (reply_read its) read
 
   pub one_stored : RepliesToStored old new r reply
@@ -66,6 +66,6 @@ module _ {old new : Database} {m : ℕ} {bytes reply : List ℕ} {r : RequestFie
     found = found_in its r;
     stored = found_stored;
     is = replied;
-    stays = λ there. it.told.stays (ap (λ (u : Tables). u.decided)
+    stays = λ there. it.answers.stays (ap (λ (u : Tables). u.decided)
         (ap (tables_read its m) read ∙ case_same its m r (found_in its r) there));
   }

@@ -59,8 +59,8 @@ pub recalls : {S X : Type 0} (g : Ghosts S) (old new : Transaction S) (stored : 
     → Recalls g old new stored read r
 recalls g old new stored read r looks = record {
   same_reference = looks.same_reference;
-  told = λ clean rows has. read_so (state g old.conn.now) (state g new.conn.now) (stored rows) read r
-      (looks.told clean rows has);
+  answers = λ clean rows has. read_so (state g old.conn.now) (state g new.conn.now) (stored rows) read r
+      (looks.answers clean rows has);
   leaves = λ clean. stays_or_fails (state g old.conn.now) (state g new.conn.now) r (looks.leaves clean);
   survives = looks.survives;
 }
@@ -69,14 +69,14 @@ recalls g old new stored read r looks = record {
 module _ {S Y : Type 0} {g : Ghosts S} {old new : Transaction S} {So : Tables → Type 0} {w : Tables → Y}
     {fault : TableFault} where
   -- a statement
-  failed : {Told : State → State → Type 0}
-      → Says g old new Told (λ before now. WriteFails before now × HasReason before now fault)
+  failed : {Answers : State → State → Type 0}
+      → Says g old new Answers (λ before now. WriteFails before now × HasReason before now fault)
       → (HasCleanDisk (state g new.conn.now) → IsOf (state g old.conn.now).now fault)
       → ReadsWhere g old new So w (Err fault)
   failed says of = record {
     says = record {
       same_reference = says.same_reference;
-      told = λ clean t shows so. tt;
+      answers = λ clean t shows so. tt;
       leaves = λ clean. let it = says.leaves clean in (
         not_committed (state g old.conn.now) (state g new.conn.now) it.0,
         first_fault g old.conn.now new.conn.now fault (of clean) it.1,
@@ -90,7 +90,7 @@ module _ {S Y : Type 0} {g : Ghosts S} {old new : Transaction S} {So : Tables �
       → (OfRows (λ rows. FindsStored (stored rows) read (Err fault)) (state g old.conn.now).now
       → IsOf (state g old.conn.now).now fault)
       → Recalls g old new stored read (Err fault) → ReadsWhere g old new So w (Err fault)
-  recall_failed stored read of says = failed says (λ clean. of (says.told clean))
+  recall_failed stored read of says = failed says (λ clean. of (says.answers clean))
 
   pub find_failed : {X : Type 0} (stored : StoredRows → Option Entry) (read : Entry → Result X Rule)
       → (OfRows (λ rows. FindsStored (stored rows) read (Err fault)) (state g old.conn.now).now
@@ -107,7 +107,7 @@ module _ {S Y : Type 0} {g : Ghosts S} {old new : Transaction S} {So : Tables �
       (λ before now. WriteFails before now × HasReason before now fault)
       → ReadsWhere g old new So w (Err fault)
   meta_failed says = failed says (λ clean.
-      never_broken (state g old.conn.now) (state g new.conn.now) fault (says.told clean))
+      never_broken (state g old.conn.now) (state g new.conn.now) fault (says.answers clean))
 
 -- ---- a read that found
 
@@ -121,8 +121,8 @@ module _ {S X : Type 0} {g : Ghosts S} {old new : Transaction S} (stored : Store
   recall_tells found says tells = record {
     says = record {
       same_reference = says.same_reference;
-      told = λ clean t shows so. tells t so
-          (says.told clean (stored_rows t) (holds_shown (state g old.conn.now).now t shows));
+      answers = λ clean t shows so. tells t so
+          (says.answers clean (stored_rows t) (holds_shown (state g old.conn.now).now t shows));
       leaves = λ clean. (says.leaves clean, tt);
       survives = says.survives;
     };
@@ -193,6 +193,6 @@ module _ {S : Type 0} {g : Ghosts S} {old mid new : Transaction S} (n number : �
       let fits = keeps.1 n above most in
       let branch = stored clean rows
       (subst (λ (db : Database). HoldsBank db rows) (sym (first.leaves was).0.now_is) has) in
-      alone (sym (some_stored (row_under rows.tellers n) read_balance x (first.told was rows has).0)
+      alone (sym (some_stored (row_under rows.tellers n) read_balance x (first.answers was rows has).0)
       ∙ alike _ _ fits.0 fits.1 ∙ ap (λ k. is_some (branch_under rows k)) (sym is)
       ∙ some_stored (branch_under rows number) read_branch row branch))

@@ -79,8 +79,8 @@ noted g old new before after x Lies clean_before same lies note it = ∥∥₁_m
     (note (state g old).now file' (lies clean file') (fits (clean_before clean) file')))
 
 -- as after a look-up of a row
-pub noted_look : {S X : Type 0} {g : Ghosts S} {old new : Transaction S} {Told : State → State → Type 0}
-    (found : Option X) (before after : Memory) (Lies : Database → Option X → Type 0) → Says g old new Told IsUnchanged
+pub noted_look : {S X : Type 0} {g : Ghosts S} {old new : Transaction S} {Answers : State → State → Type 0}
+    (found : Option X) (before after : Memory) (Lies : Database → Option X → Type 0) → Says g old new Answers IsUnchanged
     → (HasCleanDisk (state g new.conn.now) → IsBankFile (state g old.conn.now).now → Lies (state g old.conn.now).now found)
     → ((db : Database) → IsBankFile db → Lies db found → Fits db before → Fits db after)
     → ∥ Remembers g old.conn.now before ∥₁ → ∥ Remembers g new.conn.now after ∥₁
@@ -200,7 +200,7 @@ ends g last end new answer (Err fault) memory it same said = tt
 ends g last end new (Err fault) (Ok y) memory it same said = absurd (let no = it.given in cc)
 ends {S} g last end new (Ok x) (Ok y) memory it same said =
     subst (λ (h : Held S). ∥ Remembers g h memory ∥₁) same
-    (keeps g last end memory (λ clean. omega (arith, it.survives.clean, clean)) (λ clean. (it.told clean).0) said)
+    (keeps g last end memory (λ clean. omega (arith, it.survives.clean, clean)) (λ clean. (it.answers clean).0) said)
 
 -- ---- what is told from memory
 
@@ -265,7 +265,7 @@ pub looks_known : {S X : Type 0} {g : Ghosts S} {tx : Transaction S} (memory : M
     → ∥ Remembers g tx.conn.now memory ∥₁ → Recalls g tx tx stored read (Ok found)
 looks_known {g = g} {tx = tx} memory stored read found Lies same lies finds it = record {
   same_reference = refl;
-  told = λ clean rows has. finds (state g tx.conn.now).now rows has
+  answers = λ clean rows has. finds (state g tx.conn.now).now rows has
       (∥∥₁_map it (λ fits. lies (state g tx.conn.now).now (fits clean (held_file (state g tx.conn.now).now rows has))));
   leaves = λ clean. stays_itself (state g tx.conn.now);
   survives = same;
@@ -278,7 +278,7 @@ pub reads_known : {S : Type 0} {g : Ghosts S} {tx : Transaction S} (memory : Mem
 reads_known {g = g} {tx = tx} memory n same is it = record {
   says = record {
     same_reference = refl;
-    told = λ clean t shows so. known_shown g tx.conn.now memory n is it clean t shows;
+    answers = λ clean t shows so. known_shown g tx.conn.now memory n is it clean t shows;
     leaves = λ clean. (stays_itself (state g tx.conn.now), tt);
     survives = same;
   };

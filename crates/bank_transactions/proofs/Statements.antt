@@ -48,9 +48,9 @@ pub does_add : {S : Type 0} {So : Tables → Type 0} {Adds : Additions} (g : Gho
 does_add {Adds = Adds} g old new text values table taken more r says own free = record {
   says = record {
     same_reference = says.same_reference;
-    told = λ clean live t shows so.
+    answers = λ clean live t shows so.
         added (state g old.conn.now) (state g new.conn.now) table (taken t) (more t) r (free t so)
-        (says.told clean live t shows);
+        (says.answers clean live t shows);
     leaves = λ clean live. let it =
         says.leaves clean live in (
           write_keeps (state g old.conn.now)
@@ -119,9 +119,9 @@ does_write {S} {So} {Adds} g old new table there after answer rule r text values
     subst (λ (x : Result (Unit {0}) TableFault). Does g Adds old new So after (λ _. tt) x) (sym is) (record {
       says = record {
         same_reference = says.same_reference;
-        told = λ clean live t shows it.
+        answers = λ clean live t shows it.
             written (state g old.conn.now) (state g new.conn.now) table (there t) (after t) answer rule
-            (so t it) (says.told clean live t shows);
+            (so t it) (says.answers clean live t shows);
         leaves = λ clean live.
             let it = says.leaves clean live in (
               written_keeps (state g old.conn.now) (state g new.conn.now) text values answer rule live it.0 it.1,

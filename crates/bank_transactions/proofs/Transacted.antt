@@ -31,23 +31,23 @@ IsOf db rule = IsBroken rule db
 
 not_done : {X : Type 0} (old last new : State) (after : Tables) (wanted : X) (fault : TableFault)
     → LeavesAndAnswers (IsOf old.now) last after wanted (Err fault) → Completes old new after wanted (Err fault)
-not_done old last new after wanted (Sqlite e) told = tt
-not_done old last new after wanted (Damaged rule) told = told
+not_done old last new after wanted (Sqlite e) answers = tt
+not_done old last new after wanted (Damaged rule) answers = answers
 
 completes : {X : Type 0} (old last new : State) (after : Tables) (wanted : X)
     (answer result : Result X TableFault)
     → IfOk result (λ x. answer ≡ Ok x) → LeavesAndAnswers (IsOf old.now) last after wanted answer
     → EndsBy last new answer result
     → Completes old new after wanted result
-completes old last new after wanted (Ok x) (Ok y) given told ends =
+completes old last new after wanted (Ok x) (Ok y) given answers ends =
     let same : y ≡ x = (let is = given in cc) in
-    let committed = ends.1 after told.1 in
-    (same ∙ told.0, committed.0, committed.1)
-completes old last new after wanted (Ok x) (Err (Sqlite e)) given told ends = tt
-completes old last new after wanted (Ok x) (Err (Damaged rule)) given told ends = absurd ends
-completes {X} old last new after wanted (Err fault) result given told ends =
+    let committed = ends.1 after answers.1 in
+    (same ∙ answers.0, committed.0, committed.1)
+completes old last new after wanted (Ok x) (Err (Sqlite e)) given answers ends = tt
+completes old last new after wanted (Ok x) (Err (Damaged rule)) given answers ends = absurd ends
+completes {X} old last new after wanted (Err fault) result given answers ends =
     subst (λ (r : Result X TableFault). Completes old new after wanted r) (sym ends.0)
-    (not_done old last new after wanted fault told)
+    (not_done old last new after wanted fault answers)
 
 -- after a fault all is as it was
 pub rolled : (old last new : State) → (IsTrue old.is_open → old.now ≡ old.committed) → KeepsCommit old last
@@ -78,8 +78,8 @@ of_damage old new (Err (Damaged rule)) it = it
 left_by : {X : Type 0} (Bad : Rule → Type 0) (last : State) (after : Tables) (wanted : X)
     (answer : Result X TableFault) (left : Trees)
     → LeavesAndAnswers Bad last after wanted answer → MayCommit last answer left → ShowsTrees left after
-left_by Bad last after wanted (Ok x) left told made = made.1 after told.1
-left_by Bad last after wanted (Err fault) left told made = absurd made
+left_by Bad last after wanted (Ok x) left answers made = made.1 after answers.1
+left_by Bad last after wanted (Err fault) left answers made = absurd made
 
 -- an answer leaves the tables of other products
 spared_now : {X : Type 0} (old last new : State) (answer result : Result X TableFault)
@@ -144,7 +144,7 @@ module _ {S X : Type 0} {Met : Damage S} {Adds : Additions} {So : Tables → Typ
         → LeavesAndAnswers (IsOf (state g old).now) (state g last.conn.now) (after t) (w t) answer
     told_so clean t shows so =
         subst (λ (h : Held S). LeavesAndAnswers (IsOf (state g h).now) (state g last.conn.now) (after t) (w t) answer) is
-        (does.says.told clean (rw is refl) t (rw is shows) so)
+        (does.says.answers clean (rw is refl) t (rw is shows) so)
 
     kept_so : HasCleanDisk (state g last.conn.now)
         → CommitsNothing (state g start) (state g last.conn.now) answer
@@ -175,7 +175,7 @@ module _ {S X : Type 0} {Met : Damage S} {Adds : Additions} {So : Tables → Typ
     theirs_so : SparesTheirs g old new result
     theirs_so = record {
       now = λ clean. spared_now (state g start) (state g last.conn.now) (state g new) answer result ends.given
-          (kept_so (clean_before clean)).0 (ends.told clean);
+          (kept_so (clean_before clean)).0 (ends.answers clean);
       left = survives_begin g old (state g new) (LeavesOthers (state g old).now)
           (subst (λ (h : Held S). Survives (state g h) (state g new) (LeavesOthers (state g old).now)) is
           (survives_then (state g begun.conn.now) (state g last.conn.now) (state g new) (λ _. ⊥)
@@ -188,22 +188,22 @@ module _ {S X : Type 0} {Met : Damage S} {Adds : Additions} {So : Tables → Typ
 
     undone_so : UndoesFaults g old new result
     undone_so clean = by_end (state g start) (state g last.conn.now) (state g new) answer result settled refl
-        (kept_so (clean_before clean)).0 (ends.told clean)
+        (kept_so (clean_before clean)).0 (ends.answers clean)
 
     transacted : Widens Met old start last.conn.now new → TransactsBy Met Adds g old new So after w result
     transacted wide = record {
-      told = λ clean t shows so.
+      answers = λ clean t shows so.
           completes (state g old) (state g last.conn.now) (state g new) (after t) (w t) answer result
-          ends.given (told_so (clean_before clean) t shows so) (ends.told clean);
+          ends.given (told_so (clean_before clean) t shows so) (ends.answers clean);
       undone = λ clean. of_damage (state g old) (state g new) result (undone_so clean);
       survives = stop_so;
       cause = λ clean.
           blamed Met g old start last.conn.now new answer result from_start within (comes ends.survives) refl
-          (kept_so (clean_before clean)).0 wide (kept_so (clean_before clean)).1 (ends.told clean);
+          (kept_so (clean_before clean)).0 wide (kept_so (clean_before clean)).1 (ends.answers clean);
       mode = ends.mode;
       spares = theirs_so;
       wrote = λ clean. wrote_by Adds (state g start) (state g last.conn.now) (state g new) answer result ends.given
-          (kept_so (clean_before clean)).2 (ends.told clean);
+          (kept_so (clean_before clean)).2 (ends.answers clean);
     }
 
 -- of parts that read and then write
@@ -242,7 +242,7 @@ pub transacts_also : {S X : Type 0} {Adds Adds' : Additions} {g : Ghosts S} {old
     → ((text : List ℕ) (values : Row) → Adds text values → Adds' text values)
     → Transacts g Adds old new So after w result → Transacts g Adds' old new So after w result
 transacts_also {S} {X} {Adds} {Adds'} {g} {old} {new} {So} {after} {w} {result} also it = record {
-  told = it.told;
+  answers = it.answers;
   undone = it.undone;
   survives = it.survives;
   cause = λ clean. broken_or_met (IsBrokenOrMet g Adds) g old new result (λ rule why. elim why [

@@ -40,9 +40,9 @@ undoes_again old mid new (Err (Damaged rule)) there same undone = λ still. (the
 
 completes_again : {X : Type 0} (old mid new : State) (after : Tables) (wanted : X) (r : Result X TableFault)
     → mid.now ≡ old.now → Completes mid new after wanted r → Completes old new after wanted r
-completes_again old mid new after wanted (Ok x) same told = told
-completes_again old mid new after wanted (Err (Sqlite e)) same told = tt
-completes_again old mid new after wanted (Err (Damaged rule)) same told = subst (IsBroken rule) same told
+completes_again old mid new after wanted (Ok x) same answers = answers
+completes_again old mid new after wanted (Err (Sqlite e)) same answers = tt
+completes_again old mid new after wanted (Err (Damaged rule)) same answers = subst (IsBroken rule) same answers
 
 module _ {S : Type 0} (g : Ghosts S) (old mid new : Held S) (before : IsAsBefore g old mid) where
   module _ {X : Type 0} {So : Tables → Type 0} {after : Tables → Tables} {w : Tables → X}
@@ -59,9 +59,9 @@ module _ {S : Type 0} (g : Ghosts S) (old mid new : Held S) (before : IsAsBefore
 
     pub transacts_again : Transacts g (AddsForRecords (state g old).now records) old new So after w r
     transacts_again = record {
-      told = λ clean t shows so.
+      answers = λ clean t shows so.
           completes_again (state g old) (state g mid) (state g new) (after t) (w t) r (same_rows clean)
-          (does.told clean t (subst (λ (db : Database). Shows db t) (sym (same_rows clean)) shows) so);
+          (does.answers clean t (subst (λ (db : Database). Shows db t) (sym (same_rows clean)) shows) so);
       undone = λ clean.
           undoes_again (state g old) (state g mid) (state g new) r (was_open clean) (same_rows clean)
           (does.undone clean);
@@ -167,7 +167,7 @@ module _ {S : Type 0} (g : Ghosts S) (old : Held S) (begun last : Transaction S)
       (e : Error) → (HasCleanDisk (state g new) → Fails (state g mid) (state g new) ⊥ e)
       → Transacts {X = X} g Adds old new So after w (Err (Sqlite e))
   not_asked e fails = record {
-    told = λ clean t shows so. tt;
+    answers = λ clean t shows so. tt;
     undone = λ clean. tt;
     survives = quiet_so _;
     cause = λ clean. record {
@@ -215,7 +215,7 @@ of_answered : {S : Type 0} {g : Ghosts S} {last new : Held S} {P Q : List (List 
 of_answered {P = P} (Ok x) (Ok (Answered replies)) ends so it =
     so replies.items
     (subst (λ (r : Result Tried TableFault). IfSome (replies_of r) P) (let given = ends.given in given) it)
-    (λ clean. (ends.told clean).0)
+    (λ clean. (ends.answers clean).0)
 of_answered tried (Ok (Again batch)) ends so it = tt
 of_answered (Err fault) (Ok (Answered replies)) ends so it = absurd (let given = ends.given in cc)
 of_answered tried (Err fault) ends so it = tt
@@ -232,18 +232,18 @@ ends_tried g last new {Q = Q} (Ok (Answered replies)) (Ok x) none ends so it =
     subst (λ (y : Tried). IfSome (answer_of (Ok y)) Q) same (so (Ok replies.items) (Ok replies.items) it (record {
       mode = ends.mode;
       given = refl;
-      told = ends.told;
+      answers = ends.answers;
       survives = ends.survives;
     }))
 ends_tried g last new (Ok (Answered replies)) (Err fault) none ends so it =
     so (Ok replies.items) (Err fault) it
-    (record { mode = ends.mode; given = tt; told = ends.told; survives = ends.survives })
+    (record { mode = ends.mode; given = tt; answers = ends.answers; survives = ends.survives })
 ends_tried g last new (Err fault) (Ok x) none ends so it = absurd (let given = ends.given in cc)
 ends_tried g last new (Err fault) (Err other) none ends so it = so (Err fault) (Err other) it (record {
   mode = ends.mode;
   given = tt;
-  told = λ clean.
-      let is = ends.told clean in
+  answers = λ clean.
+      let is = ends.answers clean in
       let same : other ≡ fault = (let it = is.0 in cc) in
       (ap Err same, is.1);
   survives = ends.survives;

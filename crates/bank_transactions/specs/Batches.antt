@@ -33,5 +33,5 @@ pub record KeepsOnly (old new : State) (t : Tables) (moment : ℕ) (records : Li
 -- The replies are those that `RepliesToAllStored` says, in tables that had what is shown to be kept of each request,
 -- whatever tables the database has.
 pub record RepliesLookedUp (old new : Database) (moment : ℕ) (records replies : List (List ℕ)) : Type 0 where
-  pub told : RepliesToAllStored old new moment records replies
-  pub shown : AllByRecursion (λ bytes. HasShown old told.tables (request_of bytes)) records
+  pub answers : RepliesToAllStored old new moment records replies
+  pub shown : AllByRecursion (λ bytes. HasShown old answers.tables (request_of bytes)) records

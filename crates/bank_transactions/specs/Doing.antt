@@ -134,7 +134,7 @@ pub record Ends {S X : Type 0} (g : Ghosts S) (last new : Held S)
     (answer result : Result X TableFault) : Type 0 where
   pub mode : new.in_transaction ≡ false
   pub given : IfOk result (λ x. answer ≡ Ok x)
-  pub told : HasCleanDisk (state g new) → EndsBy (state g last) (state g new) answer result
+  pub answers : HasCleanDisk (state g new) → EndsBy (state g last) (state g new) answer result
   pub survives : Survives (state g last) (state g new) (MayCommit (state g last) answer)
 
 -- ---- a transaction
@@ -171,7 +171,7 @@ pub record SparesTheirs {S X : Type 0} (g : Ghosts S) (old new : Held S) (result
 pub record TransactsBy {S X : Type 0} (Met : Damage S) (Adds : Additions) (g : Ghosts S) (old new : Held S)
     (So : Tables → Type 0) (after : Tables → Tables)
     (wanted : Tables → X) (result : Result X TableFault) : Type 0 where
-  pub told : HasCleanDisk (state g new) → (tables : Tables) → Shows (state g old).now tables → So tables
+  pub answers : HasCleanDisk (state g new) → (tables : Tables) → Shows (state g old).now tables → So tables
       → Completes (state g old) (state g new) (after tables) (wanted tables) result
   pub undone : HasCleanDisk (state g new) → Undoes (state g old) (state g new) result
   pub survives : Survives (state g old) (state g new) (MayLeaveAfter (state g old) So after)

@@ -39,9 +39,9 @@ fn answer_over<D: Disk + Drop>(
 ) -> Result<Vec<u8>> {
     ensure!(conn.is_autocommit(), "a transaction");
     let mut output = Vec::new(clients.alloc());
-    let Ended { told, conn } = serve_clients(clients, conn, &mut output);
+    let Ended { end, conn } = serve_clients(clients, conn, &mut output);
     conn.close()?;
-    told?;
+    end?;
     let streams = clients.streams().context("no client")?;
     let stream = streams.first().context("no client")?;
     Ok(taken(rt, stream)?)

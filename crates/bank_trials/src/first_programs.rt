@@ -66,7 +66,7 @@ fn play_commands(
     let conn = Connection::open_in_memory(rt.alloc())?;
     let mut clock = StoredClock::new(Vec::new(rt.alloc()));
     let plans = PlanFiles::new(rt);
-    let Ended { told, conn } = first_commands(
+    let Ended { end, conn } = first_commands(
         rt.alloc(),
         conn,
         &plans,
@@ -76,5 +76,5 @@ fn play_commands(
         &mut clock,
     );
     drop(conn);
-    Ok(told?)
+    Ok(end?)
 }

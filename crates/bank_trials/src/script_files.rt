@@ -46,8 +46,8 @@ pub fn compare(rt: &HostRuntime, file: &str, bytes: &[u8]) -> Result<()> {
 }
 
 fn tell_compared(rt: &HostRuntime, are_same: bool) -> Result<()> {
-    let told = if are_same { "the same" } else { "not the same" };
-    println!(rt; "  {told}")
+    let word = if are_same { "the same" } else { "not the same" };
+    println!(rt; "  {word}")
 }
 
 /// Runs SQL on a file, whose name comes before it.

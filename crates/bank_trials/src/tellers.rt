@@ -61,7 +61,7 @@ fn serve<S: Alter + Drop>(
     requires { conn.in_transaction ≡ false }
 {
     let served = serve_clients(tellers, conn, output);
-    match served.told {
+    match served.end {
         Ok(_) => replay_over(tellers.alloc(), served.conn, output, Unwatched),
         Err(_) => served,
     }
@@ -74,9 +74,9 @@ fn play_over<D: Disk + Drop>(
 ) -> Result<bool> {
     ensure!(conn.is_autocommit(), "a transaction");
     let mut output = Vec::new(tellers.alloc());
-    let Ended { told, conn } = serve(tellers, conn, &mut output);
+    let Ended { end, conn } = serve(tellers, conn, &mut output);
     conn.close()?;
-    told?;
+    end?;
     let streams = tellers.streams().context("no tellers")?;
     are_answered(rt, streams.as_slice())?;
     Ok(output.ends_with(b"AGREES\n"))
@@ -98,7 +98,7 @@ pub fn play_tellers(rt: &HostRuntime, rest: &str) -> Result<()> {
     let count = count.parse::<u64>().ok().context("a count")?;
     let tellers = Clients::new(rt, messages_of(rt.alloc(), count)?);
     let agrees = play_over(rt, &tellers, Connection::open(rt, file)?)?;
-    let told = if agrees { "AGREES" } else { "DIFFERS" };
-    println!(rt; "  {count} tellers, each with its answer, and {told}")?;
+    let verdict = if agrees { "AGREES" } else { "DIFFERS" };
+    println!(rt; "  {count} tellers, each with its answer, and {verdict}")?;
     Ok(())
 }

@@ -72,7 +72,7 @@ pub enum FollowFault {
 }
 
 impl From<Fault> for FollowFault {
-    ghost from_gives = { λ fault told. told ≡ Bank fault };
+    ghost from_gives = { λ fault answer. answer ≡ Bank fault };
 
     fn from(fault: Fault) -> FollowFault {
         FollowFault::Bank(fault)

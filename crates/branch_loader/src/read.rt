@@ -179,7 +179,7 @@ fn read_rows<S: RecordSource>(
 ) -> Result<Plan, PlanFault>
     requires { S.is_plain records.old }
     ensures plan { (all : Records) → S.has_left records.old all → TellsPlan (plan_of_records all) result }
-    ensures told { IsToldSo result (S.calls records.old) (S.calls records.new) }
+    ensures calls { IsToldSo result (S.calls records.old) (S.calls records.new) }
 {
     if !next_record(records, fields)? {
         return Err(PlanFault::Header);

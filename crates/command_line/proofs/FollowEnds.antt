@@ -15,8 +15,8 @@ pub followed_printed : (count : ℕ) (w w' : Option (List ℕ)) (t t' : Option (
     (r : Result (Unit {0}) CommandFault) → PrintsLine (followed_line count) w w' t t' r → OnErr r (IsErrOf r Write)
     → TellsFollowed (Ok count) w w' r
 followed_printed count w w' t t' (Ok done) prints fault = prints.line
-followed_printed count w w' t t' (Err told) prints fault =
-    let is : told ≡ Write = cc fault in
+followed_printed count w w' t t' (Err cause) prints fault =
+    let is : cause ≡ Write = cc fault in
     (is, part_of prints.part)
 
 -- that a log was followed no further is no fault of the output

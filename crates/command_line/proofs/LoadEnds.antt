@@ -88,11 +88,11 @@ module _ {C : Type 0} (seen : C → Seen) (reason : Fault → C → C → Type 0
 -- it wasn't opened
 pub unopened : {C P : Type 0} (seen : C → Seen) (reason : Fault → C → C → Type 0) (IsNamed : P → Type 0)
     (known : P → Option (List ℕ) × Option (List ReadCall)) (w : Option (List ℕ)) (bank : C)
-    (result : Result Loaded CommandFault) (told : CommandFault) → result ≡ Err told → IsOfPlanFile told
+    (result : Result Loaded CommandFault) (cause : CommandFault) → result ≡ Err cause → IsOfPlanFile cause
     → LoadsOver seen reason IsNamed known w w (λ end. ended_by_load result ≡ end) bank bank
-unopened seen reason IsNamed known w bank result told same is =
-    rw same (inl ((told, is, refl), Keeps-refl w, refl))
+unopened seen reason IsNamed known w bank result cause same is =
+    rw same (inl ((cause, is, refl), Keeps-refl w, refl))
 
 -- no fault of its opening is one of the output
-pub file_not_write : (told : CommandFault) → IsOfPlanFile told → told ≡ Write → ⊥
-file_not_write told is e = subst IsOfPlanFile e is
+pub file_not_write : (cause : CommandFault) → IsOfPlanFile cause → cause ≡ Write → ⊥
+file_not_write cause is e = subst IsOfPlanFile e is

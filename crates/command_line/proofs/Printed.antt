@@ -64,7 +64,7 @@ pub drive_printed : {C : Type 0} (seen : C → Seen) (reason : Fault → C → C
     → DrivesOver seen reason k k' w w' seed count (λ end. done_after r ≡ end) old new
 drive_printed seen reason old new k k' seed count w w' t t' (Ok done) driven drives prints fault =
     (Ok driven, inl (refl, prints.line), drives, tt)
-drive_printed seen reason old new k k' seed count w w' t t' (Err told) driven drives prints fault =
+drive_printed seen reason old new k k' seed count w w' t t' (Err cause) driven drives prints fault =
     (Ok driven, inr (ap done_after fault, part_of prints.part), drives, tt)
 
 -- ---- a text that was made in memory
@@ -93,8 +93,8 @@ text_printed text w w' t t' (Ok done) prints fault failed = record {
   silent = tt;
   memory = tt;
 }
-text_printed text w w' t t' (Err told) prints fault failed =
-    let is : told ≡ Write = cc fault in
+text_printed text w w' t t' (Err cause) prints fault failed =
+    let is : cause ≡ Write = cc fault in
     record {
       line = tt;
       flushed = tt;

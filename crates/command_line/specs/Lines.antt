@@ -76,13 +76,13 @@ no_words_line _ = line (codes "error: a word isn't UTF-8")
 -- A line is printed. w and w' are the known bytes of the output before and after, and t and t' what its calls
 -- are known to have returned.
 pub record PrintsLine (text : List ℕ) (w w' : Option (List ℕ)) (t t' : Option (List WriteCall))
-    (told : Result (Unit {0}) CommandFault) : Type 0 where
+    (end : Result (Unit {0}) CommandFault) : Type 0 where
   -- at Ok it is written
-  pub line : OnOk told (Appends w w' text)
+  pub line : OnOk end (Appends w w' text)
   -- and flushed after all else
-  pub flushed : OnOk told (EndsWith IsFlush t t')
+  pub flushed : OnOk end (EndsWith IsFlush t t')
   -- at a fault a prefix of it is written
-  pub part : OnErr told ((n : ℕ) × (n ≤ length text) × Appends w w' (take n text))
+  pub part : OnErr end ((n : ℕ) × (n ≤ length text) × Appends w w' (take n text))
 
 -- A text is written and flushed, or none is due; or the output failed, and a prefix of it is written.
 abbrev pub WritesOut : List ℕ → (w w' : Option (List ℕ)) → (t t' : Option (List WriteCall)) → Type 0

@@ -36,13 +36,13 @@ differing_lines difference = difference ++ codes "\nDIFFERS\n"
 -- A text is printed, or memory for it was refused. w and w' are the known bytes of the output before and after, and t
 -- and t' what its calls are known to have returned.
 pub record PrintsText (text : List ℕ) (w w' : Option (List ℕ)) (t t' : Option (List WriteCall))
-    (told : Result (Unit {0}) CommandFault) : Type 0 where
+    (end : Result (Unit {0}) CommandFault) : Type 0 where
   -- at Ok it is written, and flushed after all else
-  pub line : OnOk told (Appends w w' text)
-  pub flushed : OnOk told (EndsWith IsFlush t t')
+  pub line : OnOk end (Appends w w' text)
+  pub flushed : OnOk end (EndsWith IsFlush t t')
   -- where the output failed a prefix of it is written
-  pub part : IsErrOf told Write → AppendsPart w w' text
-  pub failed : IsErrOf told Write → HasWriteFailed t t'
+  pub part : IsErrOf end Write → AppendsPart w w' text
+  pub failed : IsErrOf end Write → HasWriteFailed t t'
   -- and at any other fault, which is want of memory, nothing
-  pub silent : IfErr told (λ fault. fault ≢ Write → Keeps w w')
-  pub memory : IfErr told (λ fault. fault ≢ Write → fault ≡ Memory)
+  pub silent : IfErr end (λ fault. fault ≢ Write → Keeps w w')
+  pub memory : IfErr end (λ fault. fault ≢ Write → fault ≡ Memory)

@@ -29,38 +29,38 @@ ended_by_replies (Err fault) = Err (fault_of_replies fault)
 -- after are r and r', those of the output w and w'; what the calls of its ends are known to have returned is q and q'
 -- of the input, and t and t' of the output.
 pub record EncodesSheet (r r' : Option (List ℕ)) (q q' : Option (List ReadCall)) (w w' : Option (List ℕ))
-    (t t' : Option (List WriteCall)) (told : Result Status CommandFault) : Type 0 where
+    (t t' : Option (List WriteCall)) (end : Result Status CommandFault) : Type 0 where
   pub sheet : Result ℕ SheetFault
   pub encodes : Encodes r r' w w' sheet
   -- the input was read to its end, or why not
   pub ends : SheetFaultIsOfItsEnd sheet r' q q' t t'
-  pub ended : told ≡ ended_by_sheet sheet
+  pub ended : end ≡ ended_by_sheet sheet
 
 -- A sheet of replies was written, with money written so, and the command ended as they did.
 pub record DecodesReplies (money : Money) (r r' : Option (List ℕ)) (q q' : Option (List ReadCall)) (w w' : Option (List ℕ))
-    (t t' : Option (List WriteCall)) (told : Result Status CommandFault) : Type 0 where
+    (t t' : Option (List WriteCall)) (end : Result Status CommandFault) : Type 0 where
   pub replies : Result ℕ RepliesFault
   pub decodes : Decodes money r r' w w' replies
   -- the input was read to its end, or why not
   pub ends : RepliesFaultIsOfItsEnd replies r' q q' t t'
-  pub ended : told ≡ ended_by_replies replies
+  pub ended : end ≡ ended_by_replies replies
 
 -- A sheet of replies was written with their rows of the sheet of postings that they answer, and the command ended as they
 -- did. The known bytes of that sheet before and after are s and s', and what its reads are known to have returned is p
 -- and p'.
 pub record DecodesPostings (money : Money) (s s' : Option (List ℕ)) (p p' : Option (List ReadCall))
     (r r' : Option (List ℕ)) (q q' : Option (List ReadCall)) (w w' : Option (List ℕ)) (t t' : Option (List WriteCall))
-    (told : Result Status CommandFault) : Type 0 where
+    (end : Result Status CommandFault) : Type 0 where
   pub replies : Result ℕ RepliesFault
   pub decodes : DecodesBeside money s s' r r' w w' replies
   -- both inputs were read to their ends, or why not
   pub ends : BesideFaultIsOfItsEnd replies s' p p' r' q q' t t'
-  pub ended : told ≡ ended_by_replies replies
+  pub ended : end ≡ ended_by_replies replies
 
 -- the sheet of postings wasn't opened, and nothing was read or written
-pub record OpensNoSheet (r r' w w' : Option (List ℕ)) (told : Result Status CommandFault) : Type 0 where
+pub record OpensNoSheet (r r' w w' : Option (List ℕ)) (end : Result Status CommandFault) : Type 0 where
   pub fault : CommandFault
-  pub ended : told ≡ Err fault
+  pub ended : end ≡ Err fault
   pub of_sheet : IsOfSheetFile fault
   pub unread : r' ≡ r
   pub unwritten : Keeps w w'
@@ -70,15 +70,15 @@ pub record OpensNoSheet (r r' w w' : Option (List ℕ)) (told : Result Status Co
 abbrev pub DecodesOver : {P : Type 0} → Money → (IsNamed : P → Type 0)
     → (known : P → Option (List ℕ) × Option (List ReadCall)) → (r r' : Option (List ℕ)) → (q q' : Option (List ReadCall))
     → (w w' : Option (List ℕ)) → (t t' : Option (List WriteCall)) → Result Status CommandFault → Type 0
-DecodesOver {P = P} money IsNamed known r r' q q' w w' t t' told =
-    OpensNoSheet r r' w w' told
+DecodesOver {P = P} money IsNamed known r r' q q' w w' t t' end =
+    OpensNoSheet r r' w w' end
     ⊎ ((sheet : P) × (left : P) × IsNamed sheet × DecodesPostings money (known sheet).0 (known left).0 (known sheet).1
-    (known left).1 r r' q q' w w' t t' told)
+    (known left).1 r r' q q' w w' t t' end)
 
 -- beside the sheet of this name, or without one
 abbrev pub DecodesIn : {P : Type 0} → Money → Option (List ℕ) → (IsNamed : List ℕ → P → Type 0)
     → (known : P → Option (List ℕ) × Option (List ReadCall)) → (r r' : Option (List ℕ)) → (q q' : Option (List ReadCall))
     → (w w' : Option (List ℕ)) → (t t' : Option (List WriteCall)) → Result Status CommandFault → Type 0
-DecodesIn money None IsNamed known r r' q q' w w' t t' told = DecodesReplies money r r' q q' w w' t t' told
-DecodesIn money (Some name) IsNamed known r r' q q' w w' t t' told =
-    DecodesOver money (IsNamed name) known r r' q q' w w' t t' told
+DecodesIn money None IsNamed known r r' q q' w w' t t' end = DecodesReplies money r r' q q' w w' t t' end
+DecodesIn money (Some name) IsNamed known r r' q q' w w' t t' end =
+    DecodesOver money (IsNamed name) known r r' q q' w w' t t' end

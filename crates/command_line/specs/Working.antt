@@ -111,7 +111,7 @@ abbrev pub LoadsAnswer : {C : Type 0} → (C → Seen) → (reason : Fault → C
     → (w w' : Option (List ℕ)) → (Ends : Result Status CommandFault → Type 0) → Result Rows PlanFault
     → (old new : C) → Type 0
 LoadsAnswer seen reason w w' Ends (Ok rows) old new =
-    (told : Result Loaded Fault) × TellsLoad Ends w w' told × LoadsAs seen reason rows told old new
+    (answer : Result Loaded Fault) × TellsLoad Ends w w' answer × LoadsAs seen reason rows answer old new
 LoadsAnswer seen reason w w' Ends (Err fault) old new = EndsSilently Ends w w' (fault_of_plan fault) × (new ≡ old)
 
 -- that of a source: its known bytes before and after are r and r', and what its reads are known to have
@@ -126,7 +126,7 @@ pub record LoadsFrom {C : Type 0} (seen : C → Seen) (reason : Fault → C → 
 -- what is known of a source: its bytes, and what its reads returned
 abbrev pub known_source : {P : Type 0} → (P → Option (List ℕ)) → (P → Option (List ReadCall)) → P
     → Option (List ℕ) × Option (List ReadCall)
-known_source remaining told plan = (remaining plan, told plan)
+known_source remaining calls plan = (remaining plan, calls plan)
 
 -- that of a plan that was opened by its name, as far as it was read; or none was, and the bank was left as it was.
 -- IsNamed says of a source that the name is its, and known what is known of one
@@ -144,9 +144,9 @@ abbrev pub DrivesOver : {C : Type 0} → (C → Seen) → (reason : Fault → C 
     → (k k' w w' : Option (List ℕ)) → (seed count : ℕ) → (Ends : Result Status CommandFault → Type 0)
     → (old new : C) → Type 0
 DrivesOver seen reason k k' w w' seed count Ends old new =
-    (told : Result Driven DriveFault) × TellsDrive Ends w w' count told
-    × Drives seen old new k k' seed count told
-    × IfErr told (λ fault. IfRefused fault (IsOfCall seen reason old new))
+    (answer : Result Driven DriveFault) × TellsDrive Ends w w' count answer
+    × Drives seen old new k k' seed count answer
+    × IfErr answer (λ fault. IfRefused fault (IsOfCall seen reason old new))
 
 -- The counter listened at an address, said so, and served so many clients by a bank, or as many as it and the
 -- network let; or the line couldn't be written, and nothing was served.
@@ -155,8 +155,8 @@ abbrev pub ServesAt : {C : Type 0} → (C → Seen) → (reason : Fault → C �
     → Type 0
 ServesAt seen reason address k k' w w' count Ends old new =
     (Ends (Err Write) × AppendsPart w w' (listening_line address) × (k' ≡ k) × (new ≡ old))
-    ⊎ (Appends w w' (listening_line address) × (told : Result (Unit {0}) ListenFault) × TellsServing Ends told
-    × ServesListener seen reason k k' old new count told)
+    ⊎ (Appends w w' (listening_line address) × (answer : Result (Unit {0}) ListenFault) × TellsServing Ends answer
+    × ServesListener seen reason k k' old new count answer)
 
 -- So it did at the address that it was told; or it doesn't listen there, and nothing was done. No clause says of a
 -- listener where it is bound, so that any address may stand here: review `bind` of `src/serving` by hand.

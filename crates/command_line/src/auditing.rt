@@ -10,15 +10,15 @@ use report_contents::{Audit, write_audit};
 
 /// Prints an audit, and returns how the program ends.
 pub fn print_audit<W: Sink>(
-    told: Result<Audit, Fault>,
+    answer: Result<Audit, Fault>,
     output: &mut W,
 ) -> Result<Status, CommandFault>
-    ensures prints { Prints told (W.contents output.old) (W.contents output.new) result }
+    ensures prints { Prints answer (W.contents output.old) (W.contents output.new) result }
     ensures unprinted { IsErrOf result CommandFault.Write
         → HasWriteFailed (W.calls output.old) (W.calls output.new) }
     ensures ends { IfOk result (λ status. (status ≡ Status.Done) ⊎ (status ≡ Status.Inconsistent)) }
 {
-    let found = match told {
+    let found = match answer {
         Ok(found) => found,
         Err(fault) => return Err(CommandFault::from(fault)),
     };

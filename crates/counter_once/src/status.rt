@@ -13,10 +13,10 @@ const INPUT_FAULT: u8 = 4;
 const SYSTEM_FAULT: u8 = 3;
 
 /// The status after the first record: 0 where it got its reply, a refusal too.
-pub fn exit_code(told: Result<(), OnceFault>) -> ExitCode
-    ensures { exit_status result ≡ status_after told }
+pub fn exit_code(end: Result<(), OnceFault>) -> ExitCode
+    ensures { exit_status result ≡ status_after end }
 {
-    match told {
+    match end {
         Ok(()) => ExitCode::SUCCESS,
         Err(OnceFault::Short) => ExitCode::from(INPUT_FAULT),
         Err(OnceFault::Read | OnceFault::Write | OnceFault::Bank(_)) => {

@@ -32,8 +32,8 @@ bank = record {
 batch_of : List (Result RequestFields Bad) → Overlay
 batch_of reads = filled bank (covering_all no_slots reads)
 
-told : List (Result RequestFields Bad) → List (Outcome × Option ℤ)
-told reads = map (λ (reply : ReplyFields). (reply.outcome, reply.balance))
+outcomes : List (Result RequestFields Bad) → List (Outcome × Option ℤ)
+outcomes reads = map (λ (reply : ReplyFields). (reply.outcome, reply.balance))
     (replies_over (batch_of reads) 1000 reads)
 
 left : List (Result RequestFields Bad) → Overlay
@@ -45,9 +45,9 @@ four : List (Result RequestFields Bad)
 four = request 1 1 1 1 (pos 5) ∷ request 1 11 2 1 (pos 7) ∷ request 1 1 1 1 (pos 6) ∷ request 9 1 1 2
     (pos 1) ∷ []
 
-replies_of_four : told four ≡ (Posted, Some (pos 5)) ∷ (Posted, Some (pos 12)) ∷ (ReusedNumber, None) ∷
+replies_of_four : outcomes four ≡ (Posted, Some (pos 5)) ∷ (Posted, Some (pos 12)) ∷ (ReusedNumber, None) ∷
     (NoAccount, None) ∷ []
-unfolding request bank batch_of told four case_of
+unfolding request bank batch_of outcomes four case_of
 replies_of_four = refl
 
 history_of_four : map (λ row. row.ordinal) (left four).history ≡ 1 ∷ 2 ∷ []
@@ -71,8 +71,8 @@ account_of_four = refl
 twice : List (Result RequestFields Bad)
 twice = request 1 1 1 1 (pos 5) ∷ request 1 1 1 1 (pos 5) ∷ []
 
-replies_of_twice : told twice ≡ (Posted, Some (pos 5)) ∷ (Posted, Some (pos 5)) ∷ []
-unfolding request bank batch_of told twice case_of
+replies_of_twice : outcomes twice ≡ (Posted, Some (pos 5)) ∷ (Posted, Some (pos 5)) ∷ []
+unfolding request bank batch_of outcomes twice case_of
 replies_of_twice = refl
 
 history_of_twice : map (λ row. row.ordinal) (left twice).history ≡ 1 ∷ []
@@ -89,9 +89,9 @@ floored : List (Result RequestFields Bad)
 floored = request 1 1 1 1 (negsuc 999) ∷ request 1 11 2 1 (negsuc 0) ∷ request 100_001 1 1 2 (negsuc 4999) ∷
     []
 
-replies_of_floored : told floored ≡ (Posted, Some (negsuc 999)) ∷ (BelowFloor, None) ∷
+replies_of_floored : outcomes floored ≡ (Posted, Some (negsuc 999)) ∷ (BelowFloor, None) ∷
     (Posted, Some (negsuc 4999)) ∷ []
-unfolding request bank batch_of told floored case_of
+unfolding request bank batch_of outcomes floored case_of
 replies_of_floored = refl
 
 -- ---- requests with references, of which one is posted and one is refused
@@ -106,9 +106,9 @@ referred = referring (65 ∷ []) (request 1 1 1 1 (pos 5)) ∷ referring (66 ∷
     ∷ request 1 1 1 1 (pos 5) ∷ referring (65 ∷ []) (request 1 1 2 2 (pos 5))
     ∷ referring (66 ∷ []) (request 1 1 2 2 (pos 5)) ∷ []
 
-replies_of_referred : told referred ≡ (Posted, Some (pos 5)) ∷ (WrongBranch, None) ∷ (ReusedNumber, None) ∷
+replies_of_referred : outcomes referred ≡ (Posted, Some (pos 5)) ∷ (WrongBranch, None) ∷ (ReusedNumber, None) ∷
     (ReusedNumber, None) ∷ (WrongBranch, None) ∷ []
-unfolding request bank batch_of told referring referred case_of
+unfolding request bank batch_of outcomes referring referred case_of
 replies_of_referred = refl
 
 references_of_referred : (left referred).references ≡ reference_row_of 1 (65 ∷ []) ∷ reference_row_of 2

@@ -102,13 +102,13 @@ module _ {S R : Type 0} (slot_key : S → ℕ) (stored_of change_of : S → Opti
       by_change None = refl
       by_change (Some y) = sym (again z y r)
 
-  told : (c : Option ℤ) (o : Option R)
+  balance_same : (c : Option ℤ) (o : Option R)
       → option_map (unwrap_or c) (option_map balance_of o) ≡ option_map balance_of
       (option_map (changed_to set c) o)
-  told None None = refl
-  told None (Some r) = refl
-  told (Some z) None = refl
-  told (Some z) (Some r) = ap Some (sym (shown z r))
+  balance_same None None = refl
+  balance_same None (Some r) = refl
+  balance_same (Some z) None = refl
+  balance_same (Some z) (Some r) = ap Some (sym (shown z r))
 
   -- the balance that a slot tells is that of the row under it
   pub balance_is : (slots : List S) (rows : List R) (n : ℕ)
@@ -125,5 +125,5 @@ module _ {S R : Type 0} (slot_key : S → ℕ) (stored_of change_of : S → Opti
           → in_slot (λ s. balance_now (stored_of s) (change_of s)) at ≡ option_map balance_of
           (option_map (by_slot put at) (row_at key rows n))
       by_slots None there is = absurd cc
-      by_slots (Some s) there is = ap (option_map (unwrap_or (change_of s))) is ∙ told (change_of s)
+      by_slots (Some s) there is = ap (option_map (unwrap_or (change_of s))) is ∙ balance_same (change_of s)
           (row_at key rows n)

@@ -97,12 +97,12 @@ if_made make P all (Some a) = all a
 -- what slots tell of the row under their number
 module _ {S A R : Type 0} (key : S → ℕ) (content : S → Option A) (make : S → A → R) (row_key : R → ℕ)
     (same : (s : S) (a : A) → row_key (make s a) ≡ key s) where
-  abbrev told : S → Option R
-  told s = option_map (make s) (content s)
+  abbrev row_of : S → Option R
+  row_of s = option_map (make s) (content s)
 
   pub numbered_found : (slots : List S) → IsRising (number_below key) slots
-      → AllByRecursion (λ s. row_at row_key (rows_told told slots) (key s) ≡ told s) slots
-  numbered_found slots rises = all_found told (λ s r. eqb (row_key r) (key s)) (number_below key)
+      → AllByRecursion (λ s. row_at row_key (rows_told row_of slots) (key s) ≡ row_of s) slots
+  numbered_found slots rises = all_found row_of (λ s r. eqb (row_key r) (key s)) (number_below key)
       (λ s. if_made (make s) (λ r. eqb (row_key r) (key s) ≡ true)
       (λ a. same_number (row_key (make s a)) (key s) (same s a)) (content s))
       (λ a b lt. (

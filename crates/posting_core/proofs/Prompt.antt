@@ -46,7 +46,7 @@ prompt_written written more p = record {
 
 -- all of it is held
 holds_all : (w : Option (List ℕ)) (t : Option (List WriteCall)) (written : List ℕ) (k : ℕ) (sink : Beside)
-    → length written ≡ k → Appends w sink.contents written → IsThrough t sink.told
+    → length written ≡ k → Appends w sink.contents written → IsThrough t sink.calls
     → HoldsFlushed w t written k sink
 holds_all w t written k sink is wrote through = record {
   there = omega arith;
@@ -60,7 +60,7 @@ pub prompt_read : {b b' b'' : Option (List Beside)} {w : Option (List ℕ)} {t :
     (reads : List ReadCall) (written : List ℕ) (x : ReadCall) (sink : Beside) (count : ℕ)
     → RepliesBeforeReads b b' w t reads written → GrowsBy b' b'' (sink ∷ [])
     → read_by (length reads) reads ≡ count → length written ≡ 200 * count
-    → Appends w sink.contents written → IsThrough t sink.told
+    → Appends w sink.contents written → IsThrough t sink.calls
     → RepliesBeforeReads b b'' w t (reads ++ x ∷ []) written
 prompt_read {b = b} {b' = b'} {b'' = b''} {w = w} {t = t} reads written x sink count p made all long wrote
     through = record {

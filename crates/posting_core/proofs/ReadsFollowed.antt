@@ -26,12 +26,12 @@ pub record IsUpTo (w : Option (List ℕ)) (t : Option (List WriteCall)) (batches
   pub few : rest < 100
   pub long : length written ≡ 200 * length (records_of batches)
   pub wrote : Appends w sink.contents written
-  pub through : IsThrough t sink.told
+  pub through : IsThrough t sink.calls
 
 pub up_to : {r r' w w' k k' : Option (List ℕ)} {c c' : Seen} {bs : List Batch} {left : List ℕ} {count : ℕ}
     {written : List ℕ} {t t' : Option (List WriteCall)} (rest : ℕ)
     → Going r r' w w' k k' c c' bs left count written → rest < 100 → IsThrough t t'
-    → IsUpTo w t bs rest written (record { contents = w'; told = t' })
+    → IsUpTo w t bs rest written (record { contents = w'; calls = t' })
 up_to rest g few through = record { few = few; long = g.long; wrote = g.wrote; through = through }
 
 -- ---- how many bytes

@@ -43,7 +43,7 @@ pub refused_broken : {C : Type 0} (seen : C → Seen) (reason : Fault → C → 
     → (count ≡ 0 → stood ≡ old) → ((seen stood).is_down → (seen old).is_down × (count ≡ 0))
     → ((seen new).honest → (seen stood).honest)
     → BreaksOff fault v v' (seen stood) (seen new) (posts m rs) → ((seen stood).is_down → fault ≡ Bank Down)
-    → IfBank fault (λ told. reason told stood new)
+    → IfBank fault (λ cause. reason cause stood new)
     → IfBank fault (IsRefusedAfterBatches seen reason old new r r')
 refused_broken seen reason old stood new {r = r} {r' = r'} {done = done} {count = count} v v'
     (Bank fault) m all rest rs g cut few some most first up honest a down why =

@@ -28,5 +28,5 @@ pub ends_broken : (r r' : Option (List ReadCall)) (w w' w'' : Option (List Write
 ends_broken r r' w w' w'' k k' c c' cs Write h a failed = more_failed IsWriteFailure (through_more h) failed
 ends_broken r r' w w' w'' k k' c c' cs (Bank fault) h a same =
     subst (λ (t : Option (List WriteCall)). IsThrough w t) (sym same) h
-ends_broken r r' w w' w'' k k' c c' cs Read h a told = absurd a
-ends_broken r r' w w' w'' k k' c c' cs (Truncated n) h a told = absurd a
+ends_broken r r' w w' w'' k k' c c' cs Read h a fault = absurd a
+ends_broken r r' w w' w'' k k' c c' cs (Truncated n) h a fault = absurd a

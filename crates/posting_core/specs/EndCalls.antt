@@ -95,15 +95,15 @@ IsThrough old new = GrowsBy old new [] ⊎ EndsWith IsFlush old new
 -- what was known of a sink as a read was made beside it: the bytes that it held, and what its calls had returned
 pub record Beside : Type 0 where
   pub contents : Option (List ℕ)
-  pub told : Option (List WriteCall)
+  pub calls : Option (List WriteCall)
 
 -- of a sink of which nothing is known
 abbrev pub unknown : Beside
-unknown = record { contents = None; told = None }
+unknown = record { contents = None; calls = None }
 
 -- since w and t the first n bytes of what was written were written, no others were, and they were flushed
 pub record HoldsFlushed (w : Option (List ℕ)) (t : Option (List WriteCall)) (written : List ℕ) (n : ℕ)
     (sink : Beside) : Type 0 where
   pub there : n ≤ length written
   pub wrote : Appends w sink.contents (take n written)
-  pub through : IsThrough t sink.told
+  pub through : IsThrough t sink.calls

@@ -20,7 +20,7 @@ pub trait Clock {
 pub struct StoredClock {
     moments: Vec<Moment>,
     // How many of them were told.
-    told: usize,
+    given: usize,
 }
 
 impl Model for StoredClock {
@@ -29,7 +29,7 @@ impl Model for StoredClock {
     // The moments to come.
     ghost Value = { List ℕ };
 
-    ghost view = { λ clock. drop clock.told clock.moments.items };
+    ghost view = { λ clock. drop clock.given clock.moments.items };
 }
 
 impl StoredClock {
@@ -38,7 +38,7 @@ impl StoredClock {
     pub fn new(moments: Vec<Moment>) -> Self
         ensures { result ≡ moments.items }
     {
-        StoredClock { moments, told: 0 }
+        StoredClock { moments, given: 0 }
     }
 }
 
@@ -51,10 +51,10 @@ impl Clock for StoredClock {
         ensures reading { IsReading (Some self.old) (Some self.new) result }
         ensures after { self.old ≡ [] → result ≡ 0 }
     {
-        let Some(&moment) = self.moments.get(self.told) else {
+        let Some(&moment) = self.moments.get(self.given) else {
             return Moment::new(0).unwrap();
         };
-        self.told += 1;
+        self.given += 1;
         moment
     }
 }

@@ -34,7 +34,7 @@ pub trait Source {
         ensures bytes { ReadConsumes (remaining self.old) (remaining self.new) result buffer.new }
         ensures tells { GrowsBy (calls self.old) (calls self.new) (read_call result ∷ []) }
         ensures beside { GrowsBy (beside self.old) (beside self.new)
-            (record { contents = W.contents sink.now; told = W.calls sink.now } ∷ []) };
+            (record { contents = W.contents sink.now; calls = W.calls sink.now } ∷ []) };
 }
 
 /// What takes bytes. Every writer does. A type of its own may also know what its writes and flushes returned.

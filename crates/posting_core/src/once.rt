@@ -69,7 +69,7 @@ pub fn answer_once<R: Source, W: Sink, C: Counter>(
         (λ fault. LeavesAfterFault fault (R.remaining reader.old) (R.remaining reader.new)
         (W.contents writer.old) (W.contents writer.new)
         (C.seen bank.old) (C.seen bank.new) moment) }
-    ensures why { IfErr result (λ fault. IfRefused fault (λ told. C.reason told bank.old bank.new)) }
+    ensures why { IfErr result (λ fault. IfRefused fault (λ cause. C.reason cause bank.old bank.new)) }
     ensures ended { IsErrOf result OnceFault.Short
         → EndsWith IsEndOfInput (R.calls reader.old) (R.calls reader.new) }
     ensures unread { IsErrOf result OnceFault.Read → HasReadFailed (R.calls reader.old) (R.calls reader.new) }

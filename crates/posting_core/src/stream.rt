@@ -72,10 +72,10 @@ fn reply_to_batch<W: Sink, K: Clock, C: Counter>(
         (posts moment records.now))
         (λ fault. BreaksOff fault (W.contents writer.old) (W.contents writer.new) (C.seen bank.old)
         (C.seen bank.new) (posts moment records.now)) }
-    ensures told { MatchResult result (λ _. EndsWith IsFlush (W.calls writer.old) (W.calls writer.new))
+    ensures calls { MatchResult result (λ _. EndsWith IsFlush (W.calls writer.old) (W.calls writer.new))
         (λ fault. TellsBreak fault (W.calls writer.old) (W.calls writer.new)) }
     ensures up { IfTaken result ((C.seen bank.new).is_down → ⊥) }
-    ensures why { IfErr result (λ fault. IfBank fault (λ told. C.reason told bank.old bank.new)) }
+    ensures why { IfErr result (λ fault. IfBank fault (λ cause. C.reason cause bank.old bank.new)) }
     ensures down { (C.seen bank.old).is_down → IsErrOf result (StreamFault.Bank Fault.Down)
         × (bank.new ≡ bank.old) }
     ensures honest { (C.seen bank.new).honest → (C.seen bank.old).honest }

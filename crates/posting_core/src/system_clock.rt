@@ -71,7 +71,7 @@ impl<T: TimeTeller> Clock for SystemClock<T> {
     // One reading of the source, and the moment of it.
     fn now(&mut self) -> Moment
         ensures reading { IsReading None None result }
-        ensures told { (reading : Reading) × (result ≡ moment_at reading)
+        ensures calls { (reading : Reading) × (result ≡ moment_at reading)
             × GrowsBy (T.calls (source_of self.old)) (T.calls (source_of self.new)) (reading ∷ []) }
     {
         moment_of(self.source.tell())

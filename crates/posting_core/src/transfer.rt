@@ -75,7 +75,7 @@ pub fn fill_buffer_beside<R: Source, W: Sink>(
         × (take filled buffer.new ≡ take filled buffer.old)) }
     ensures tells { GrowsBy (R.calls reader.old) (R.calls reader.new) (read_call result ∷ []) }
     ensures beside { GrowsBy (R.beside reader.old) (R.beside reader.new)
-        (record { contents = W.contents sink.now; told = W.calls sink.now } ∷ []) }
+        (record { contents = W.contents sink.now; calls = W.calls sink.now } ∷ []) }
 {
     reader.give_beside(&mut buffer[filled..], sink)
 }

@@ -8,7 +8,7 @@ ghost use Rattle.posting_rules.specs.believed.Tables.{Tables};
 ghost use Rattle.posting_rules.specs.believed.Counter.{Seen, Answers, IsCounterCall, opening_after};
 ghost use Rattle.posting_rules.specs.Counter.{LeavesSomething};
 ghost use Rattle.posting_rules.specs.believed.Runs.{posts, replies_to};
-ghost use Rattle.posting_rules.specs.declared.fault.Fault.{Fault as Told};
+ghost use Rattle.posting_rules.specs.declared.fault.Fault.{Fault as Cause};
 
 use crate::fault::Fault;
 use crate::limits::{LAST_BRANCH, MAX_ACCOUNTS, RECORDS_PER_BATCH};
@@ -58,7 +58,7 @@ pub trait Counter {
 
     /// What a fault says of a call that it refused, from the counter before to the counter after: which call of
     /// the store failed, or which rule the rows break.
-    ghost reason: { Told → Self → Self → Type 0 };
+    ghost reason: { Cause → Self → Self → Type 0 };
 
     /// What no call of it touches is as it was, from the counter before to the counter after: of a bank in a
     /// file, the tables of other products.

@@ -72,7 +72,7 @@ fn write_line<S: RecordSource, W: Sink>(
     ensures line { (beside : Option Sheet) → AreAfter S.has_left rows.old beside before
         → IsLineSo money beside bytes.now before (W.contents writer.old) (W.contents writer.new) result
         × OnOk result (AreAfter S.has_left rows.new beside (before + 1)) }
-    ensures told { (beside : Option Sheet) → AreAfter S.has_left rows.old beside before
+    ensures answers { (beside : Option Sheet) → AreAfter S.has_left rows.old beside before
         → IsLineTold (W.calls writer.old) (W.calls writer.new) result }
     ensures plain { OnOk result (IfSome rows.new (λ rows. S.is_plain rows.source)) }
 {

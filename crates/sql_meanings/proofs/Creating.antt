@@ -65,13 +65,13 @@ unfolding understood
 told_by schema text e is other = rw (is, other)
 
 -- what a text compiles to is what is understood, since no list of the schema is read
-pub told : (schema : Schema) (text : List ℕ) (c : Compiled) → Outcome c (compiled schema text)
+pub answers : (schema : Schema) (text : List ℕ) (c : Compiled) → Outcome c (compiled schema text)
     → Outcome c (understood schema text)
 unfolding understood
-told schema text c (inl is) = inl (rw is)
-told schema text c (inr (e, is, inl k)) = inr (e, told_by schema text e is (rw k), inl k)
-told schema text c (inr (e, is, inr (inl k))) = inr (e, told_by schema text e is (rw k), inr (inl k))
-told schema text c (inr (e, is, inr (inr k))) = inr (e, told_by schema text e is (rw k), inr (inr k))
+answers schema text c (inl is) = inl (rw is)
+answers schema text c (inr (e, is, inl k)) = inr (e, told_by schema text e is (rw k), inl k)
+answers schema text c (inr (e, is, inr (inl k))) = inr (e, told_by schema text e is (rw k), inr (inl k))
+answers schema text c (inr (e, is, inr (inr k))) = inr (e, told_by schema text e is (rw k), inr (inr k))
 
 -- under the schema the text makes a table, or is refused
 abbrev pub Makes : Schema → List ℕ → Type 0

@@ -118,9 +118,9 @@ module _ (old new : State) (text : List ℕ) (t : Table) (creates : CreatesOnly 
         (count.0 (sym (ap length (creates.command old.now.schema c is).nameless)))
     not_run e (inr (c, is, inr (inr clock))) = absurd (clock.0 (creates.command old.now.schema c is).timeless)
 
-    told : (e : Error) → Stops old new text CreateTable [] e → MakeFails old new text t e
-    told e (inl (does, same)) = inr (make_stops (Some e) does, same)
-    told e (inr fails) = inl (fails_for old new e _ ⊥ (make_stops None) fails)
+    answers : (e : Error) → Stops old new text CreateTable [] e → MakeFails old new text t e
+    answers e (inl (does, same)) = inr (make_stops (Some e) does, same)
+    answers e (inr fails) = inl (fails_for old new e _ ⊥ (make_stops None) fails)
 
     -- why it can't be made
     pub refuses_create : (e : Error) → ExecutesInside 0 text [] old new (Err e) → MakeFails old new text t e
@@ -129,7 +129,7 @@ module _ (old new : State) (text : List ℕ) (t : Table) (creates : CreatesOnly 
         (it.command, it.bare, it.timeless)) h) [
           | inl none ↦ inr (not_run e none.0, none.1)
           | inr (inl fails) ↦ inl fails
-          | inr (inr (c, is, how)) ↦ told e
+          | inr (inr (c, is, how)) ↦ answers e
               (subst (λ sql. Stops old new sql CreateTable [] e)
               (creates.command old.now.schema c is).text_is how)
         ]

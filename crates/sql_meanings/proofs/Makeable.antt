@@ -9,7 +9,7 @@ use Rattle.sqlite.specs.Change.{is_reserved}
 use Rattle.sqlite.specs.Command.TheVariants.{CreateTable as MakeTable}
 use Rattle.sqlite_ast.specs.declared.CreateTable.{CreateTable}
 use Rattle.sql_meanings.specs.Making.{CreatesOnly, IsMakeable}
-use Rattle.sql_meanings.proofs.Creating.{compiled_create, known, told}
+use Rattle.sql_meanings.proofs.Creating.{compiled_create, known, answers}
 use Rattle.sqlite_ast.specs.declared.Statement.TheVariants as written
 use Rattle.sqlite_resolve.specs.Define as define
 use Rattle.std.specs.Prelude.{◌≡◌, ◌+◌, ◌^◌, ◌≤◌, ◌==◌, ◌&&◌}
@@ -59,7 +59,7 @@ creates_by text t makeable free P def made parsed is plain missing defined stamp
       free = free;
       command = λ schema c understood. known text schema c (
         with_command P ([], (MakeTable, None)),
-        told schema text _ (compiled_create schema text P def made parsed is plain missing defined stamped),
+        answers schema text _ (compiled_create schema text P def made parsed is plain missing defined stamped),
         record {
           command = refl;
           bare = refl;

@@ -197,13 +197,13 @@ module _ (old new : State) (t : Table) (is : IsPlain (uncounted t)) (sound : ∥
       ((error ≡ key_taken) × (meets_key news es ≡ true) × IsUnchanged old new)
       ⊎ PutFails old new table (Forbids schema table (put_each news es)) error
 
-  told : (sql : List ℕ) (error : Error) → Stops old new sql command params error → Refuses error
-  told sql error (inl (does, same)) = elim (put_stops sql (Some error) does) [
+  answers : (sql : List ℕ) (error : Error) → Stops old new sql command params error → Refuses error
+  answers sql error (inl (does, same)) = elim (put_stops sql (Some error) does) [
     | inl limit ↦ inr (inr (inl limit, same))
     | inr (inl taken) ↦ inl (taken.0, taken.1, same)
     | inr (inr unique) ↦ inr (inr (inr unique, same))
   ]
-  told sql error (inr fails) = inr
+  answers sql error (inr fails) = inr
       (inl (fails_for old new error _ (HasWideIndex schema table) (put_stops sql None) fails))
 
   -- why it can't
@@ -215,7 +215,7 @@ module _ (old new : State) (t : Table) (is : IsPlain (uncounted t)) (sound : ∥
         | inl none ↦ absurd (no_refusal text params command old error means none.0)
         | inr (inl fails) ↦ inr (inl
             (fails_for old new error ⊥ (HasWideIndex schema table) (λ x. absurd x) fails))
-        | inr (inr (c, is, how)) ↦ told (text_of text c) error how
+        | inr (inr (c, is, how)) ↦ answers (text_of text c) error how
       ]
 
 module _ (old new : State) (t : Table) (is : IsPlain (uncounted t)) (sound : ∥ IsDatabase old.now ∥₁)

@@ -24,9 +24,9 @@ module _ {S : Type 0} (g : Ghosts S) (old mid new : Transaction S) {T K T' K' : 
       → (K (state g old.conn.now) (state g mid.conn.now) → K' (state g mid.conn.now) (state g new.conn.now)
       → V (state g old.conn.now) (state g new.conn.now))
       → Says g old new U V
-  says_then told leaves = record {
+  says_then answers leaves = record {
     same_reference = two.same_reference ∙ one.same_reference;
-    told = λ clean. told (one.told (clean_between clean)) (one.leaves (clean_between clean)) (two.told clean);
+    answers = λ clean. answers (one.answers (clean_between clean)) (one.leaves (clean_between clean)) (two.answers clean);
     leaves = λ clean. leaves (one.leaves (clean_between clean)) (two.leaves clean);
     survives = survives_both _ _ _ one.survives two.survives;
   }

@@ -239,14 +239,14 @@ module _ (old new : State) (table : Table) (is : IsPlain table) (sound : ∥ IsD
     means : Means schema text (length params) command
     means = changes.means schema at.place tree at.has
 
-    told : (sql : List ℕ) (e : Error) → Stops old new sql command params e
+    answers : (sql : List ℕ) (e : Error) → Stops old new sql command params e
         → SetFails old new table (Forbids schema table (changed change k es)) e
-    told sql e (inl (does, same)) = elim (set_stops sql (Some e) does) [
+    answers sql e (inl (does, same)) = elim (set_stops sql (Some e) does) [
       | inl limit ↦ inl (inr (inl limit, same))
       | inr (inl unique) ↦ inl (inr (inr unique, same))
       | inr (inr parent) ↦ inr (parent.0, inr ((parent.1, parent.2), same))
     ]
-    told sql e (inr fails) = elim
+    answers sql e (inr fails) = elim
         (fails_split old new e (HasWideIndex schema table) (IsTrue (is_parent schema table))
         (fails_for old new e _ (HasWideIndex schema table ⊎ IsTrue (is_parent schema table))
         (set_stops sql None) fails)) [
@@ -264,5 +264,5 @@ module _ (old new : State) (table : Table) (is : IsPlain table) (sound : ∥ IsD
           | inl none ↦ absurd (no_refusal text params command old e means none.0)
           | inr (inl fails) ↦ inl (inl
               (fails_for old new e ⊥ (HasWideIndex schema table) (λ x. absurd x) fails))
-          | inr (inr (c, is, how)) ↦ told (text_of text c) e how
+          | inr (inr (c, is, how)) ↦ answers (text_of text c) e how
         ]

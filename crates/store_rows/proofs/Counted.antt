@@ -103,5 +103,5 @@ module _ {S : Type 0} (g : Ghosts S) (old new : Transaction S) (n : ℕ) where
   count_set (Err e) says = tt
   count_set (Ok false) says = tt
   count_set (Ok true) says = λ clean live file.
-      let it = says.told clean live in
+      let it = says.answers clean live in
       set_here file it.0 (met_one it.0 it.2) it.1

@@ -40,7 +40,7 @@ module _ (texts : List (List ℕ × Table)) (old mid new : State) (made : ℕ) (
     (has : slice_get texts made ≡ Some it) where
   -- ---- one more
 
-  module _ (told : MakesTold mid new it.0 it.1 (Ok 0))
+  module _ (answers : MakesTold mid new it.0 it.1 (Ok 0))
       (shows : StateShows mid new new.now mid.committed true)
       (more : mid.faults ≤ new.faults) where
     after_some : Reached texts old mid made → Reached texts old new (suc made)
@@ -52,18 +52,18 @@ module _ (texts : List (List ℕ × Table)) (old mid new : State) (made : ℕ) (
         committed_is = shows.committed_is ∙ reached.shows.committed_is;
         mode = shows.mode;
       };
-      marks = told.3 ∙ reached.marks;
+      marks = answers.3 ∙ reached.marks;
       counts = record {
-        changes = told.2.changes ∙ reached.counts.changes;
-        last_rowid = told.2.last_rowid ∙ reached.counts.last_rowid;
+        changes = answers.2.changes ∙ reached.counts.changes;
+        last_rowid = answers.2.last_rowid ∙ reached.counts.last_rowid;
       };
-      keeps = then_keeps old.now mid.now new.now reached.keeps told.0.keeps;
+      keeps = then_keeps old.now mid.now new.now reached.keeps answers.0.keeps;
       faults = let before = reached.faults in omega arith;
-      sound = told.1;
+      sound = answers.1;
       new = all_more (λ x. IsNew old.now new.now x.1) texts made it has
-          (stay_new old.now mid.now new.now (take made texts) told.0.keeps reached.new)
-          (made_new old.now mid.now new.now it.1 reached.keeps told.0);
-      grown = grows_more texts made it has old.now.schema mid.now.schema new.now.schema reached.grown told.0.grown;
+          (stay_new old.now mid.now new.now (take made texts) answers.0.keeps reached.new)
+          (made_new old.now mid.now new.now it.1 reached.keeps answers.0);
+      grown = grows_more texts made it has old.now.schema mid.now.schema new.now.schema reached.grown answers.0.grown;
     }
 
     nothing_grown : made ≡ 0 → AreGrown (take made texts) mid.now.schema mid.now.schema
@@ -72,16 +72,16 @@ module _ (texts : List (List ℕ × Table)) (old mid new : State) (made : ℕ) (
     after_none : made ≡ 0 → Reached texts mid new (suc made)
     after_none none = record {
       shows = shows;
-      marks = told.3;
-      counts = told.2;
-      keeps = told.0.keeps;
+      marks = answers.3;
+      counts = answers.2;
+      keeps = answers.0.keeps;
       faults = more;
-      sound = told.1;
+      sound = answers.1;
       new = all_more (λ x. IsNew mid.now new.now x.1) texts made it has
           (subst (λ n. AllByRecursion (λ x. IsNew mid.now new.now x.1) (take n texts)) (sym none) tt)
-          (made_new mid.now mid.now new.now it.1 (keeps_itself mid.now) told.0);
+          (made_new mid.now mid.now new.now it.1 (keeps_itself mid.now) answers.0);
       grown = grows_more texts made it has mid.now.schema mid.now.schema new.now.schema (nothing_grown none)
-          told.0.grown;
+          answers.0.grown;
     }
 
   -- ---- one is refused
@@ -149,11 +149,11 @@ module _ (texts : List (List ℕ × Table)) {S : Type 0} (g : Ghosts S) (old mid
       → StateShows (state g mid) new new.now (state g mid).committed true
       → (state g mid).faults ≤ new.faults → Begun texts g old mid made
       → Reached texts (state g old) new (suc made)
-  one_more told shows more (inl none) =
+  one_more answers shows more (inl none) =
       subst (λ h. Reached texts (state g h) new (suc made)) none.1
-      (after_none texts (state g mid) (state g mid) new made it has told shows more none.0)
-  one_more told shows more (inr reached) = after_some texts (state g old) (state g mid) new made it
-      has told shows more reached
+      (after_none texts (state g mid) (state g mid) new made it has answers shows more none.0)
+  one_more answers shows more (inr reached) = after_some texts (state g old) (state g mid) new made it
+      has answers shows more reached
 
   -- a table is refused after those before it were made
   pub then_fails : (e : Error) → IsTrue mid.in_transaction → MakeFails (state g mid) new it.0 it.1 e

@@ -25,8 +25,8 @@ module _ {X Y : Type 0} (old new : State) (shown : Y → Row) (read : Reading X)
   -- a row is that of what was looked for
   row_of : (row : Row) (o : Option Y) → wanted ≡ o → option_map shown o ≡ Some row → (r : Result X Rule)
       → read row ≡ r → (y : Y) × (wanted ≡ Some y) × (read (shown y) ≡ r)
-  row_of row None is told r reads = absurd cc
-  row_of row (Some y) is told r reads = (y, is, ap read (sym (the_row told)) ∙ reads)
+  row_of row None is answers r reads = absurd cc
+  row_of row (Some y) is answers r reads = (y, is, ap read (sym (the_row answers)) ∙ reads)
 
   -- no row is reported if nothing was looked for
   none_told : (o : Option Y) → wanted ≡ o → TellsRow old new (option_map shown o) (Err QueryReturnedNoRows)
@@ -39,14 +39,14 @@ module _ {X Y : Type 0} (old new : State) (shown : Y → Row) (read : Reading X)
   -- what is reported of the answer of a query
   reports : (answer : Result Row Error) (result : Result (Option X) TableFault) → ReadsAnswer read answer result
       → TellsRow old new (option_map shown wanted) answer → Reports result
-  reports (Ok row) (Ok (Some x)) reads told = (row_of row wanted refl told.0 (Ok x) reads, told.1)
-  reports (Ok row) (Ok None) reads told = absurd reads
-  reports (Ok row) (Err (Sqlite e)) reads told = absurd reads
-  reports (Ok row) (Err (Damaged broken)) reads told = (row_of row wanted refl told.0 (Err broken) reads, told.1)
-  reports (Err e) (Ok (Some x)) reads told = absurd reads
-  reports (Err e) (Ok None) reads told =
-      none_told wanted refl (subst (λ e. TellsRow old new (option_map shown wanted) (Err e)) reads told)
-  reports (Err e) (Err fault) reads told = subst (λ f. Reports (Err f)) (sym reads.0) (failed told)
+  reports (Ok row) (Ok (Some x)) reads answers = (row_of row wanted refl answers.0 (Ok x) reads, answers.1)
+  reports (Ok row) (Ok None) reads answers = absurd reads
+  reports (Ok row) (Err (Sqlite e)) reads answers = absurd reads
+  reports (Ok row) (Err (Damaged broken)) reads answers = (row_of row wanted refl answers.0 (Err broken) reads, answers.1)
+  reports (Err e) (Ok (Some x)) reads answers = absurd reads
+  reports (Err e) (Ok None) reads answers =
+      none_told wanted refl (subst (λ e. TellsRow old new (option_map shown wanted) (Err e)) reads answers)
+  reports (Err e) (Err fault) reads answers = subst (λ f. Reports (Err f)) (sym reads.0) (failed answers)
     where
       failed : TellsRow old new (option_map shown wanted) (Err e) → IsStoreError old new e
       failed (inl none) = absurd (reads.1 none.0)
@@ -57,8 +57,8 @@ module _ {X Y : Type 0} (old new : State) (shown : Y → Row) (read : Reading X)
 pub finds : {X : Type 0} (old new : State) (shown : Entry → Row) (read : Reading X) (stored : Option Entry)
     (answer : Result Row Error) (result : Result (Option X) TableFault) → ReadsAnswer read answer result
     → TellsRow old new (option_map shown stored) answer → Finds old new stored (λ e. read (shown e)) result
-finds {X} old new shown read stored answer result reads told =
-    go result (reports old new shown read stored answer result reads told)
+finds {X} old new shown read stored answer result reads answers =
+    go result (reports old new shown read stored answer result reads answers)
   where
     go : (r : Result (Option X) TableFault) → Reports old new shown read stored r
         → Finds old new stored (λ e. read (shown e)) r
@@ -71,8 +71,8 @@ finds {X} old new shown read stored answer result reads told =
 pub finds_meta : (old new : State) (wanted : Option StoredMeta) (answer : Result Row Error)
     (result : Result (Option StoredMeta) TableFault) → ReadsAnswer meta_of answer result
     → TellsRow old new (option_map meta_shown wanted) answer → FindsMeta old new wanted result
-finds_meta old new wanted answer result reads told =
-    go result (reports old new meta_shown meta_of wanted answer result reads told)
+finds_meta old new wanted answer result reads answers =
+    go result (reports old new meta_shown meta_of wanted answer result reads answers)
   where
     go : (r : Result (Option StoredMeta) TableFault) → Reports old new meta_shown meta_of wanted r
         → FindsMeta old new wanted r

@@ -118,7 +118,7 @@ module _ {R : Type 0} (kind : Kind R) (text : List ℕ) (params : Row) (news : L
       → PutsRow g old new text params result → PutsLying g old new (table_of kind) result
   puts_lying g old new (Err fault) says = tt
   puts_lying g old new (Ok done) says = λ clean live file.
-      let it = says.told clean live in
+      let it = says.answers clean live in
       go (state g old.conn.now) (state g new.conn.now) file it.0 it.1 it.2
     where
       go : (before after : State) → IsBankFile before.now → (answer : Result ℕ Error)
@@ -158,7 +158,7 @@ module _ (place : ℕ) (table : Table) (listed : slice_get bank_tables place ≡
   sets_lying g old new (Err e) says = tt
   sets_lying g old new (Ok false) says = tt
   sets_lying g old new (Ok true) says = λ clean live file.
-      let it = says.told clean live in
+      let it = says.answers clean live in
       let before = state g old.conn.now in
       let after = state g new.conn.now in
       let ran = subst (λ n. ExecutesInside 0 text (Int (pos k) ∷ Int z ∷ []) before after (Ok n))

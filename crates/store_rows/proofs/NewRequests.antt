@@ -79,7 +79,7 @@ module _ (text : List ℕ) (news : List RequestRow)
   pub puts_new : {S : Type 0} (g : Ghosts S) (old new : Transaction S) (result : Result (Unit {0}) TableFault)
       → PutsRow g old new text (given_each request_entry news) result → WereNew g old new result news
   puts_new g old new (Ok done) says = λ clean live.
-      let it = says.told clean live in
+      let it = says.answers clean live in
       by_answer (state g old.conn.now) (state g new.conn.now) done it.0 it.1 it.2
   puts_new g old new (Err fault) says = tt
 

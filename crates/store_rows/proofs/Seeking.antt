@@ -27,7 +27,7 @@ balance_shown e = column (given e) 1 ∷ []
 pub seeks_account : (k : ℕ) → Seeks GET_ACCOUNT.now (Int (pos k) ∷ []) 1 balance_shown (entry_under (Account k))
 seeks_account k = record {
   only = only_reads gets.account.is;
-  told = stored_under 3 bank.account refl refl (λ rows. rows.accounts) (λ _. refl) _ balance_project k
+  answers = stored_under 3 bank.account refl refl (λ rows. rows.accounts) (λ _. refl) _ balance_project k
       (gets.account.reads (pos k)) balance_shown (λ e wide. refl);
 }
 
@@ -35,7 +35,7 @@ seeks_account k = record {
 pub seeks_teller : (k : ℕ) → Seeks GET_TELLER.now (Int (pos k) ∷ []) 1 balance_shown (entry_under (Teller k))
 seeks_teller k = record {
   only = only_reads gets.teller.is;
-  told = stored_under 2 bank.teller refl refl (λ rows. rows.tellers) (λ _. refl) _ balance_project k
+  answers = stored_under 2 bank.teller refl refl (λ rows. rows.tellers) (λ _. refl) _ balance_project k
       (gets.teller.reads (pos k)) balance_shown (λ e wide. refl);
 }
 
@@ -45,7 +45,7 @@ seeks_teller k = record {
 pub seeks_branch : (k : ℕ) → Seeks GET_BRANCH.now (Int (pos k) ∷ []) 1 given (λ rows. row_under rows.branches k)
 seeks_branch k = record {
   only = only_reads gets.branch.is;
-  told = stored_under 1 bank.branch refl refl (λ rows. rows.branches) (λ _. refl) _ _ k
+  answers = stored_under 1 bank.branch refl refl (λ rows. rows.branches) (λ _. refl) _ _ k
       (gets.branch.reads (pos k)) given (all_columns 2 0);
 }
 
@@ -53,7 +53,7 @@ seeks_branch k = record {
 pub seeks_floor : (k : ℕ) → Seeks GET_FLOOR.now (Int (pos k) ∷ []) 1 given (λ rows. row_under rows.floors k)
 seeks_floor k = record {
   only = only_reads gets.floor.is;
-  told = stored_under 6 bank.floor refl refl (λ rows. rows.floors) (λ _. refl) _ _ k
+  answers = stored_under 6 bank.floor refl refl (λ rows. rows.floors) (λ _. refl) _ _ k
       (gets.floor.reads (pos k)) given (all_columns 1 0);
 }
 
@@ -62,7 +62,7 @@ pub seeks_reference : (k : ℕ) → Seeks GET_REFERENCE.now (Int (pos k) ∷ [])
     (λ rows. row_under rows.references k)
 seeks_reference k = record {
   only = only_reads gets.reference.is;
-  told = stored_under 7 bank.reference refl refl (λ rows. rows.references) (λ _. refl) _ _ k
+  answers = stored_under 7 bank.reference refl refl (λ rows. rows.references) (λ _. refl) _ _ k
       (gets.reference.reads (pos k)) given (all_columns 0 1);
 }
 
@@ -71,7 +71,7 @@ pub seeks_next : (k : ℕ) → Seeks NEXT_BRANCH.now (Int (pos k) ∷ []) 1 give
     (λ rows. find (is_above (pos k)) rows.branches)
 seeks_next k = record {
   only = next.only;
-  told = λ old new rows has r h.
+  answers = λ old new rows has r h.
       let holds = holds_list old.now rows has 1 bank.branch rows.branches refl refl in
       subst (λ o. TellsRow old new o r)
       (shown_as (2, 0) _ given (all_columns 2 0) (is_above (pos k)) rows.branches holds.rows.wide)
@@ -84,7 +84,7 @@ pub seeks_request : (a b : ℕ) → Seeks GET_REQUEST.now (Int (pos a) ∷ Int (
     (λ rows. find (has_two (pos a) (pos b)) rows.requests)
 seeks_request a b = record {
   only = request.only;
-  told = λ old new rows has r h.
+  answers = λ old new rows has r h.
       let holds = holds_list old.now rows has 5 bank.request rows.requests refl refl in
       subst (λ o. TellsRow old new o r)
       (shown_as (7, 0) _ given (all_columns 7 0) (has_two (pos a) (pos b)) rows.requests holds.rows.wide)

@@ -226,7 +226,7 @@ module _ {R : Type 0} (kind : Kind R) (placed : IsPlaced kind) where
       (λ before after. spared_put text spared before after _ answer)
       (record {
         same_reference = says.same_reference;
-        told = says.told;
+        answers = says.answers;
         leaves = λ clean live. says.leaves clean live first rest is among;
         survives = says.survives;
       })

@@ -15,7 +15,7 @@ use Rattle.store_rows.proofs.{FoundRows.finds, Reasons.looks}
 pub record Seeks (text : List ℕ) (params : Row) (count : ℕ) (shown : Entry → Row) (stored : StoredRows → Option Entry)
     : Type 1 where
   pub only : (schema : Schema) → OnlyShows text count (understood schema text)
-  pub told : (old new : State) (rows : StoredRows) → HoldsBank old.now rows → (r : Result Row Error)
+  pub answers : (old new : State) (rows : StoredRows) → HoldsBank old.now rows → (r : Result Row Error)
       → QueriesRowInside text params old new r → TellsRow old new (option_map shown (stored rows)) r
 
 module _ {S : Type 0} (g : Ghosts S) (old new : Transaction S) where
@@ -28,24 +28,24 @@ module _ {S : Type 0} (g : Ghosts S) (old new : Transaction S) where
       → LooksUp g old new stored (λ e. read (shown e)) result
   looks_up {shown = shown} {stored = stored} read seeks answer result reads says = record {
     same_reference = says.same_reference;
-    told = λ clean rows has. finds _ _ shown read (stored rows) answer result reads
-        (seeks.told _ _ rows has answer (says.told clean));
+    answers = λ clean rows has. finds _ _ shown read (stored rows) answer result reads
+        (seeks.answers _ _ rows has answer (says.answers clean));
     leaves = λ clean. looks _ _ read answer result reads (says.leaves clean (seeks.only _));
     survives = says.survives;
   }
 
   -- a write reports what its statement leaves, of its tables and of the others, and what it made
-  pub tells_tables : {Ran Left Spared Made : State → State → Type 0} {Told : State → State → Tables → Type 0}
-      → ((before after : State) (t : Tables) → Shows before.now t → Ran before after → Told before after t)
+  pub tells_tables : {Ran Left Spared Made : State → State → Type 0} {Answers : State → State → Tables → Type 0}
+      → ((before after : State) (t : Tables) → Shows before.now t → Ran before after → Answers before after t)
       → ((before after : State) → Ran before after → Spared before after × Made before after)
       → Says g old new (Inside Ran) (Inside Left)
-      → Says g old new (Inside (OfTables Told))
+      → Says g old new (Inside (OfTables Answers))
       (Inside (λ before after. Left before after × Spared before after × Made before after))
   tells_tables tells spares says = record {
     same_reference = says.same_reference;
-    told = λ clean live t shows. tells _ _ t shows (says.told clean live);
+    answers = λ clean live t shows. tells _ _ t shows (says.answers clean live);
     leaves = λ clean live.
-        let both = spares _ _ (says.told clean live) in
+        let both = spares _ _ (says.answers clean live) in
         (says.leaves clean live, both.0, both.1);
     survives = says.survives;
   }

@@ -62,7 +62,7 @@ module _ {R : Type 0} (kind : Kind R) (text : List ℕ) where
       (Inside (λ before after. PutLeaves text (given (kind.entry r)) before after answer))
   by_insert r among S g old new answer says = record {
     same_reference = says.same_reference;
-    told = says.told;
+    answers = says.answers;
     leaves = λ clean live. says.leaves clean live (kind.entry r).key _ refl among;
     survives = says.survives;
   }

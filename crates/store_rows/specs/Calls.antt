@@ -23,15 +23,15 @@ use Rattle.store_rows.specs.declared.fault.TableFault.{TableFault}
 
 -- of whatever tables are shown
 abbrev pub OfTables : (State → State → Tables → Type 0) → State → State → Type 0
-OfTables Told old new = (tables : Tables) → Shows old.now tables → Told old new tables
+OfTables Answers old new = (tables : Tables) → Shows old.now tables → Answers old new tables
 
 -- of whatever rows of `meta` are held
 abbrev pub OfMeta : (State → State → List Entry → Type 0) → State → State → Type 0
-OfMeta Told old new = (rows : List Entry) → HoldsRows old.now meta rows → Told old new rows
+OfMeta Answers old new = (rows : List Entry) → HoldsRows old.now meta rows → Answers old new rows
 
 -- of whatever rows are held
 abbrev pub OfStored : (State → State → StoredRows → Type 0) → State → State → Type 0
-OfStored Told old new = OfRows (λ rows. Told old new rows) old.now
+OfStored Answers old new = OfRows (λ rows. Answers old new rows) old.now
 
 -- a look-up reports what the row that it looks for reads as, whatever rows are held
 abbrev pub LooksUp : {S X : Type 0} → Ghosts S → Transaction S → Transaction S → (StoredRows → Option Entry)
@@ -66,7 +66,7 @@ AddsRow g old new text values table taken after result =
 -- fault shuts the store, and a crash leaves nothing new.
 pub record Probes {S : Type 0} (g : Ghosts S) (old new : Held S) (probe : List ℕ × Table)
     (answer : Result Bool Error) : Type 0 where
-  pub told : HasCleanDisk (state g new) → TellsProbe (state g old) (state g new) probe.1 answer
+  pub answers : HasCleanDisk (state g new) → TellsProbe (state g old) (state g new) probe.1 answer
   pub text : HasCleanDisk (state g new) → TellsUnderstood (state g old) (state g new) probe.0 answer
   pub mode : old.in_transaction ≡ false → new.in_transaction ≡ false
   pub survives : Survives (state g old) (state g new) (λ _. ⊥)

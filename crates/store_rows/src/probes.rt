@@ -46,7 +46,7 @@ fn refuses_text(e: &Error) -> bool
 
 // Whether the text is a statement under the schema.
 fn is_understood<S: Alter>(conn: &mut Connection<S>, text: &str) -> Result<bool, Error>
-    ensures told { HasCleanDisk (state S.Store conn.new)
+    ensures answers { HasCleanDisk (state S.Store conn.new)
         → OnlyShows text.now 0 (understood conn.old.schema text.now)
         → TellsUnderstood (state S.Store conn.old) (state S.Store conn.new) text.now result }
     ensures mode { conn.old.in_transaction ≡ false → conn.new.in_transaction ≡ false }

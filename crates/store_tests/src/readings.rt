@@ -119,7 +119,7 @@ fn walked<S: Alter>(rt: &impl Abort, bank: &mut Bank<S>) -> (bool, Option<Fault>
 /// Whether an audit finds the bank consistent.
 pub fn is_consistent<S: Alter>(bank: &mut Bank<S>) -> bool {
     match audit(bank) {
-        Ok(told) => told.is_consistent(),
+        Ok(found) => found.is_consistent(),
         Err(_) => false,
     }
 }

@@ -103,12 +103,12 @@ pub fn audit_fault<S: Alter + Drop>(
     rt: &(impl Abort + Alloc<A = Global>),
     bank: &mut Bank<S>,
 ) -> Option<Fault> {
-    let told = match audit(bank) {
-        Ok(told) => told,
+    let found = match audit(bank) {
+        Ok(found) => found,
         Err(fault) => return Some(fault),
     };
     let mut text = Vec::new(rt.alloc());
-    assert_eq!(rt; write_audit(&told, &mut text), Ok(()));
+    assert_eq!(rt; write_audit(&found, &mut text), Ok(()));
     assert_eq!(rt; text.as_slice(), AUDIT);
     None
 }
@@ -169,16 +169,16 @@ fn statement_is_cut<S: Alter + Drop>(
 }
 
 // A writer that refuses after these bytes of an audit's text took them.
-fn audit_is_cut_to(rt: &(impl Abort + Alloc<A = Global>), told: &Audit, text: &[u8]) {
+fn audit_is_cut_to(rt: &(impl Abort + Alloc<A = Global>), found: &Audit, text: &[u8]) {
     let mut writer = cut_after(rt.alloc(), text.len());
-    let written = write_audit(told, &mut writer);
+    let written = write_audit(found, &mut writer);
     assert_eq!(rt; (written, writer.taken.as_slice()), (Err(WriteFault), text));
 }
 
-fn audit_is_cut(rt: &(impl Abort + Alloc<A = Global>), told: &Audit, whole: &[u8]) {
+fn audit_is_cut(rt: &(impl Abort + Alloc<A = Global>), found: &Audit, whole: &[u8]) {
     assert!(rt; whole.len() > 300);
     for most in 0..=whole.len() {
-        audit_is_cut_to(rt, told, &whole[..most]);
+        audit_is_cut_to(rt, found, &whole[..most]);
     }
 }
 
@@ -187,10 +187,10 @@ fn audit_of_bank_is_cut<S: Alter + Drop>(
     rt: &(impl Abort + Alloc<A = Global>),
     bank: &mut Bank<S>,
 ) {
-    let told = audit(bank).expect(rt, "an audit");
+    let found = audit(bank).expect(rt, "an audit");
     let mut whole = Vec::new(rt.alloc());
-    assert_eq!(rt; write_audit(&told, &mut whole), Ok(()));
-    audit_is_cut(rt, &told, &whole);
+    assert_eq!(rt; write_audit(&found, &mut whole), Ok(()));
+    audit_is_cut(rt, &found, &whole);
 }
 
 /// Cuts the reports of a bank with two postings to account 1.

@@ -43,8 +43,8 @@ find_left p (x ∷ xs) ys none = ap (λ t. cond (p x) (Some x) t) (find_left p x
 pub beside_is : (others : List Entry) (start k : ℤ) (read : List Entry) (beyond : Option ℤ)
     → rows_from start others ≡ read ++ rows_after beyond others
     → start ≤ℤ k → ComesBefore beyond k → row_under others k ≡ row_under read k
-beside_is others start k read beyond told low decided =
-    under_from start k others low ∙ ap (λ es. row_under es k) told
+beside_is others start k read beyond answers low decided =
+    under_from start k others low ∙ ap (λ es. row_under es k) answers
     ∙ find_left (has_key k) read (rows_after beyond others) (not_after beyond k others decided)
 
 -- ---- pairs

@@ -47,10 +47,10 @@ pub tells_only : (old new : State) (checks : List Term) (rows : List Entry)
     → HasStoredRows old.now (meta_with checks) rows → (found : List Row) (m : Option StoredMeta)
     → Shown METAS_FROM.now (Int LEAST ∷ []) old new found → TakesOnly found m → TellsOnly rows m
 tells_only old new checks rows has found m shows takes =
-    let told = tells_walk old new (walks_metas checks) rows (holds_rows has) {V = List Row} (λ v. v) LEAST (Ok found) shows in
+    let answers = tells_walk old new (walks_metas checks) rows (holds_rows has) {V = List Row} (λ v. v) LEAST (Ok found) shows in
     let all : rows_from LEAST (filter (λ _. true) rows) ≡ rows =
     ap (rows_from LEAST) (all_given rows) ∙ all_left entry_key rows has.least in
-    only_told rows found m (told ∙ ap (λ es. map given (take AHEAD es)) all) has.holds.rows.wide takes
+    only_told rows found m (answers ∙ ap (λ es. map given (take AHEAD es)) all) has.holds.rows.wide takes
 
 -- ---- why it isn't known
 

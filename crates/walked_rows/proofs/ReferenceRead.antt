@@ -103,9 +103,9 @@ module _ (old new : State) (all : List Entry) (has : HoldsRows old.now bank.refe
   abbrev Asked : Result (List Row) Error → Type 0
   Asked = QueriesAll REFERENCE_UNDER.now (Int (pos n) ∷ []) old new
 
-  told : (r : Result (List Row) Error) → Asked r
+  answers : (r : Result (List Row) Error) → Asked r
       → TellsRows old new (map (shown_of (pos n)) (listed (row_under all (pos n)))) r
-  told = reads_all old new bank.reference refl has.sound REFERENCE_UNDER.now (Int (pos n) ∷ [])
+  answers = reads_all old new bank.reference refl has.sound REFERENCE_UNDER.now (Int (pos n) ∷ [])
       (λ tree. by_key tree project) (gets.reads (pos n)) has.holds.defined _
       (λ low rows sure. keyed_answer Null (tree_of old.now.schema bank.reference.name) project
       (overlay old.now.trees []) (pos n) [] rows all (under_overlay old.now.trees _ low has.holds.rows)
@@ -123,9 +123,9 @@ module _ (old new : State) (all : List Entry) (has : HoldsRows old.now bank.refe
         found_all (λ x. HasWidth (0, 1) x) (has_key (pos n)) all e has.holds.rows.wide is,
         found_key (pos n) all e is,
       ))
-      found (told (Ok found) shown).0 r read)
+      found (answers (Ok found) shown).0 r read)
 
   -- or why it wasn't found
   pub tells_failure : (e : Error) → FailsToQuery REFERENCE_UNDER.now (Int (pos n) ∷ []) old new e
       → IsStoreError old new e
-  tells_failure e fails = store_error old new e (told (Err e) fails)
+  tells_failure e fails = store_error old new e (answers (Err e) fails)

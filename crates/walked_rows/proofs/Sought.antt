@@ -87,9 +87,9 @@ module _ (old new : State) (table : Table) (free : table.references ≡ []) (row
       → MatchResult r (λ v. items v ≡ map given (take AHEAD (rows_from k (filter (λ _. true) rows))))
       (IsStoreError old new)
   tells_from k reads whole (Ok v) ok =
-      let told = reads_from old new table free has.sound rows has.holds text AHEAD project k reads
+      let answers = reads_from old new table free has.sound rows has.holds text AHEAD project k reads
       (Ok (items v)) ok in
-      told.0 ∙ ap (take AHEAD)
+      answers.0 ∙ ap (take AHEAD)
       (same_shown (width_of table) _ whole (filter (is_from k) rows)
       (wide_filter _ (is_from k) rows has.holds.rows.wide))
       ∙ taken given AHEAD (filter (is_from k) rows)
@@ -109,9 +109,9 @@ module _ (old new : State) (table : Table) (free : table.references ≡ []) (row
       → MatchResult r (λ v. items v
       ≡ map given (take AHEAD (rows_from k (filter (λ e. begins one e.values) rows)))) (IsStoreError old new)
   tells_of_from one k reads whole (Ok v) ok =
-      let told = reads_of_from old new table free has.sound rows has.holds text AHEAD project one k reads
+      let answers = reads_of_from old new table free has.sound rows has.holds text AHEAD project one k reads
       (Ok (items v)) ok in
-      told.0 ∙ ap (take AHEAD)
+      answers.0 ∙ ap (take AHEAD)
       (same_shown (width_of table) _ whole (filter (is_of_from one k) rows)
       (wide_filter _ (is_of_from one k) rows has.holds.rows.wide))
       ∙ taken given AHEAD (filter (is_of_from one k) rows)

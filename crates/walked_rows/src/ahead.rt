@@ -42,7 +42,7 @@ pub(crate) fn gather<R: StoredRow>(
     from: i64,
     rows: &mut ArrayVec<R, AHEAD>,
 ) -> Result<Option<i64>, TableFault>
-    ensures told { (all : List Entry) → Rise all → IsWide (width_of R.StoredRow.kind.table) all
+    ensures answers { (all : List Entry) → Rise all → IsWide (width_of R.StoredRow.kind.table) all
         → found.now ≡ map given (take AHEAD (rows_from from all))
         → MatchResult result
         (λ rest. rows_from from all ≡ map R.StoredRow.kind.entry rows.new.items ++ rows_after rest all)
@@ -83,7 +83,7 @@ pub(crate) fn read_ahead<S: Alter, R: StoredRow>(
     from: i64,
     rows: &mut ArrayVec<R, AHEAD>,
 ) -> Result<Option<i64>, TableFault>
-    ensures told { HasCleanDisk (state S.Store conn.new) → (all : List Entry)
+    ensures answers { HasCleanDisk (state S.Store conn.new) → (all : List Entry)
         → HoldsRows (state S.Store conn.old).now R.StoredRow.kind.table all
         → let given = filter (R.StoredRow.kind.is_given of) all in MatchResult result
         (λ rest. rows_from from given ≡ map R.StoredRow.kind.entry rows.new.items ++ rows_after rest given)

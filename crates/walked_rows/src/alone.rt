@@ -55,7 +55,7 @@ fn only_row(found: &[Row]) -> Option<StoredMeta>
 ///
 /// A call of `sqlite` failed with this error.
 pub fn only_meta<S: Alter>(conn: &mut Connection<S>) -> Result<Option<StoredMeta>, Error>
-    ensures told { IfOk result (λ found. HasCleanDisk (state S.Store conn.new)
+    ensures answers { IfOk result (λ found. HasCleanDisk (state S.Store conn.new)
         → (checks : List Term) (rows : List Entry)
         → HasStoredRows (state S.Store conn.old).now (meta_with checks) rows → TellsOnly rows found) }
     ensures failed { HasCleanDisk (state S.Store conn.new)

@@ -25,7 +25,7 @@ use store_rows::TableFault;
 
 // The key of the first of the rows that were found.
 fn first_key(found: &[Row]) -> Result<i64, TableFault>
-    ensures told { (e : Entry) → (more : List StoredColumns) → found.now ≡ given e ∷ more → result ≡ Ok e.key }
+    ensures answers { (e : Entry) → (more : List StoredColumns) → found.now ≡ given e ∷ more → result ≡ Ok e.key }
     ensures cause { IfErr result IsOfRows }
 {
     match found.first() {
@@ -41,7 +41,7 @@ fn gather_beside<O: StoredRow>(
     from: i64,
     rows: &mut ArrayVec<O, AHEAD>,
 ) -> Result<Option<i64>, TableFault>
-    ensures told { (all : List Entry) → Rise all → IsWide (width_of O.StoredRow.kind.table) all
+    ensures answers { (all : List Entry) → Rise all → IsWide (width_of O.StoredRow.kind.table) all
         → found.now ≡ map given (take AHEAD (rows_from from all))
         → MatchResult result
         (λ rest. rows_from from all ≡ map O.StoredRow.kind.entry rows.new.items ++ rows_after rest all)
@@ -70,7 +70,7 @@ pub(crate) fn read_beside<S: Alter, O: StoredRow>(
     from: i64,
     rows: &mut ArrayVec<O, AHEAD>,
 ) -> Result<Option<i64>, TableFault>
-    ensures told { HasCleanDisk (state S.Store conn.new) → (all : List Entry)
+    ensures answers { HasCleanDisk (state S.Store conn.new) → (all : List Entry)
         → HoldsRows (state S.Store conn.old).now O.StoredRow.kind.table all
         → MatchResult result
         (λ rest. rows_from from all ≡ map O.StoredRow.kind.entry rows.new.items ++ rows_after rest all)

@@ -67,7 +67,7 @@ fn join<R: StoredRow, O: StoredRow>(
 ) -> Option<i64>
     requires few { length own.now ≤ AHEAD }
     requires rises { RisesFrom start (map (λ r. entry_key (R.StoredRow.kind.entry r)) own.now) rest }
-    ensures told { (base others : List Entry) → Rise base
+    ensures answers { (base others : List Entry) → Rise base
         → rows_from start base ≡ map R.StoredRow.kind.entry own.now ++ rows_after rest base
         → rows_from start others ≡ map O.StoredRow.kind.entry beside.now ++ rows_after after others
         → AreJoined (pair_of R.StoredRow.kind.entry O.StoredRow.kind.entry) others base start
@@ -104,7 +104,7 @@ fn join_ahead<S: Alter, R: StoredRow, O: StoredRow>(
 ) -> Result<Option<i64>, TableFault>
     requires few { length own.now ≤ AHEAD }
     requires rises { RisesFrom start (map (λ r. entry_key (R.StoredRow.kind.entry r)) own.now) rest }
-    ensures told { HasCleanDisk (state S.Store conn.new) → (base others : List Entry) → Rise base
+    ensures answers { HasCleanDisk (state S.Store conn.new) → (base others : List Entry) → Rise base
         → HoldsRows (state S.Store conn.old).now O.StoredRow.kind.table others
         → rows_from start base ≡ map R.StoredRow.kind.entry own.now ++ rows_after rest base
         → MatchResult result
@@ -139,7 +139,7 @@ fn join_first<S: Alter, R: StoredRow, O: StoredRow>(
     requires ended { own.now ≡ [] → rest ≡ None }
     requires rises { (from : ℤ)
         × RisesFrom from (map (λ r. entry_key (R.StoredRow.kind.entry r)) own.now) rest }
-    ensures told { HasCleanDisk (state S.Store conn.new) → (base others : List Entry) → Rise base
+    ensures answers { HasCleanDisk (state S.Store conn.new) → (base others : List Entry) → Rise base
         → HoldsRows (state S.Store conn.old).now O.StoredRow.kind.table others
         → (from : ℤ) → rows_from from base ≡ map R.StoredRow.kind.entry own.now ++ rows_after rest base
         → MatchResult result
@@ -177,7 +177,7 @@ pub(crate) fn fill_joined<S: Alter, R: StoredRow, O: StoredRow>(
     beside: &mut ArrayVec<O, AHEAD>,
     rows: &mut ArrayVec<Joined<R, O>, AHEAD>,
 ) -> Result<Option<i64>, TableFault>
-    ensures told { HasCleanDisk (state S.Store conn.new) → (all : List Pair)
+    ensures answers { HasCleanDisk (state S.Store conn.new) → (all : List Pair)
         → HoldsPairs (state S.Store conn.old).now R.StoredRow.kind.table O.StoredRow.kind.table all
         → let given = filter (λ p. R.StoredRow.kind.is_given of p.entry) all in MatchResult result
         (λ rest. items_from pair_key from given

@@ -92,7 +92,7 @@ pub fn read_kept<S: Alter>(
     from: i64,
     rows: &mut ArrayVec<KeptRequest, AHEAD>,
 ) -> Result<Option<i64>, TableFault>
-    ensures told { HasCleanDisk (state S.Store conn.new) → (all : List KeptItem)
+    ensures answers { HasCleanDisk (state S.Store conn.new) → (all : List KeptItem)
         → HoldsKept (state S.Store conn.old).now all
         → MatchResult result
         (λ rest. items_from kept_key from all ≡ map kept_item rows.new.items ++ items_after kept_key rest all)

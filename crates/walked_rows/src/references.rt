@@ -53,7 +53,7 @@ pub(crate) fn reference_under<S: Alter>(
     ordinal: u64,
 ) -> Result<Option<Reference>, TableFault>
     requires { ordinal ≤ MAX_DECIDED }
-    ensures told { HasCleanDisk (state S.Store conn.new) → (all : List Entry)
+    ensures answers { HasCleanDisk (state S.Store conn.new) → (all : List Entry)
         → HoldsRows (state S.Store conn.old).now reference_table all
         → MatchResult result
         (λ found. option_map (text_entry ordinal) found ≡ row_under all (pos ordinal))

@@ -77,7 +77,7 @@ pub(crate) fn refer_each<S: Alter, O: Copy, R: Referred<O> + Copy>(
     requires few { length own.now ≤ AHEAD }
     requires ended { own.now ≡ [] → rest ≡ None }
     requires rises { RisesFrom from (map (λ o. entry_key (R.Referred.entry (R.Referred.own o))) own.now) rest }
-    ensures told { HasCleanDisk (state S.Store conn.new) → (view : Entry → R.Referred.Own)
+    ensures answers { HasCleanDisk (state S.Store conn.new) → (view : Entry → R.Referred.Own)
         → ((e : Entry) → R.Referred.entry (view e) ≡ e) → (base others : List Entry) → Rise base
         → HoldsRows (state S.Store conn.old).now reference_table others
         → map view (rows_from from base) ≡ map R.Referred.own own.now ++ map view (rows_after rest base)

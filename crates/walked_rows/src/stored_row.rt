@@ -33,7 +33,7 @@ pub trait StoredRow: Copy + Default {
 
     /// The rows with the least keys from one on, at most `AHEAD`.
     fn seek<S: Alter>(conn: &mut Connection<S>, of: Option<Account>, from: i64) -> RowsRead
-        ensures told { HasCleanDisk (state S.Store conn.new) → (rows : List Entry)
+        ensures answers { HasCleanDisk (state S.Store conn.new) → (rows : List Entry)
             → HoldsRows (state S.Store conn.old).now kind.table rows
             → MatchResult result (λ found. found.items
             ≡ map given (take AHEAD (rows_from from (filter (kind.is_given of) rows))))

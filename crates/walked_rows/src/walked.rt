@@ -42,7 +42,7 @@ pub trait WalkedRow: Copy + Default {
         from: i64,
         rows: &mut ArrayVec<Self, AHEAD>,
     ) -> Result<Option<i64>, TableFault>
-        ensures told { HasCleanDisk (state S.Store conn.new) → (all : List Item)
+        ensures answers { HasCleanDisk (state S.Store conn.new) → (all : List Item)
             → HasItems (state S.Store conn.old).now all
             → let given = filter (is_given of) all in MatchResult result
             (λ rest. items_from key from given ≡ map item rows.new.items ++ items_after key rest given)

@@ -142,9 +142,9 @@ fn totals(parts: &[Part]) -> (u64, u64, i128) {
 /// Asks for an audit. The books agree, and have what the parts lead to.
 pub fn audit_after<S: Alter>(bank: &mut Bank<S>, parts: &[Part]) -> End {
     match audit(bank) {
-        Ok(told) => {
-            let found = (told.requests, told.history, told.account_sum);
-            if told.is_consistent() && found == totals(parts) {
+        Ok(audit) => {
+            let found = (audit.requests, audit.history, audit.account_sum);
+            if audit.is_consistent() && found == totals(parts) {
                 End::Done
             } else {
                 End::Differs("an audit")

@@ -6,7 +6,7 @@ use Rattle.sqlite_trees.specs.declared.store.Store.{Ghosts}
 use Rattle.posting_rules.specs.believed.Commands.{Command, Terms}
 use Rattle.posting_rules.specs.believed.Counter.{Answers, IsCounterCall}
 use Rattle.posting_rules.specs.declared.fault.Fault.{Fault}
-use Rattle.posting_rules.specs.declared.fault.Fault.TheVariants as told
+use Rattle.posting_rules.specs.declared.fault.Fault.TheVariants as faults
 use Rattle.posting_rules.specs.believed.Tables.{Tables}
 use Rattle.posting_rules.specs.declared.fault.Rule.{Rule}
 use Rattle.posting_batch.specs.believed.Batch.{AreReadyFor}
@@ -32,7 +32,7 @@ pub record KeepsCause {S : Type 0} (g : Ghosts S) (old new : Bank S g) : Type 0 
 
 -- if the fault is damage, this holds of its rule
 abbrev pub OfDamage : Fault → (Rule → Type 0) → Type 0
-OfDamage (told.Damaged rule) P = P rule
+OfDamage (faults.Damaged rule) P = P rule
 OfDamage _ P = ⊤
 
 -- they do; or a statement of the call met it as it wrote: the key of such a row is taken, or a row is missing
@@ -61,10 +61,10 @@ pub record BreaksOpening {S : Type 0} (g : Ghosts S) (branch : ℕ) (terms : Ter
 -- what a fault says of the call that it refused: of the store, the error that is the bank's cause; of damage,
 -- the rule that is broken, and that the bank has no cause
 abbrev pub bank_reason : {S : Type 0} (g : Ghosts S) → Fault → Bank S g → Bank S g → Type 0
-bank_reason g told.Memory old new = ⊤
-bank_reason g told.Store old new = KeepsCause g old new
-bank_reason g told.Down old new = ⊤
-bank_reason g (told.Damaged rule) old new = WasBrokenOrMet g AnyRow old new rule × (cause_of new ≡ None)
+bank_reason g faults.Memory old new = ⊤
+bank_reason g faults.Store old new = KeepsCause g old new
+bank_reason g faults.Down old new = ⊤
+bank_reason g (faults.Damaged rule) old new = WasBrokenOrMet g AnyRow old new rule × (cause_of new ≡ None)
 
 -- what every call of a bank in a file promises, whatever it answers
 abbrev pub IsBankCall : {S X : Type 0} (g : Ghosts S) → Bank S g → Bank S g → List Command → Result X Fault

@@ -10,11 +10,11 @@ use Rattle.bank_transactions.specs.believed.Stored.{RepliesToAllStored, RepliesT
 -- The replies to records are those in tables that had what the rows hold. What was run is what the records may put in
 -- or change, and all that they leave of those tables: a record that is told to be posted was written.
 pub record AnswersAll (old new : Database) (moment : ℕ) (records replies : List (List ℕ)) : Type 0 where
-  pub told : RepliesToAllStored old new moment records replies
-  pub wrote : Runs (AddsForRecords old records) (LeadTo told.tables (tables_past_all told.tables moment records)) old new
+  pub answers : RepliesToAllStored old new moment records replies
+  pub wrote : Runs (AddsForRecords old records) (LeadTo answers.tables (tables_past_all answers.tables moment records)) old new
 
 -- the same of one, whose reply is that of the case which applies
 pub record AnswersOne (old new : Database) (moment : ℕ) (bytes : List ℕ) (r : RequestFields) (reply : List ℕ)
     : Type 0 where
-  pub told : RepliesToStored old new r reply
+  pub answers : RepliesToStored old new r reply
   pub alone : AnswersAll old new moment (bytes ∷ []) (reply ∷ [])

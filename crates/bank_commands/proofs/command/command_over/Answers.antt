@@ -9,7 +9,7 @@ returns-in-Init g c =
     let it = c.init_over.ensures in
     rw c.in-Init.is record {
       does = it.inits;
-      tells = prints_none _ _ _ _ c.init_over.result.told it.inits (λ _ _ did. did.2);
+      tells = prints_none _ _ _ _ c.init_over.result.end it.inits (λ _ _ did. did.2);
       input = refl;
       clock = refl;
       idle = it.idle;
@@ -35,7 +35,7 @@ returns-in-Audit g c =
     let it = c.audit_over.ensures in
     rw c.in-Audit.is record {
       does = it.audits;
-      tells = prints_none _ _ _ _ c.audit_over.result.told it.audits.0 (λ _ _ did. (did.1.0, did.1.1));
+      tells = prints_none _ _ _ _ c.audit_over.result.end it.audits.0 (λ _ _ did. (did.1.0, did.1.1));
       input = refl;
       clock = refl;
       idle = it.idle;
@@ -46,7 +46,7 @@ returns-in-Statement g c =
     let it = c.statement_over.ensures in
     rw c.in-Statement.is record {
       does = it.states;
-      tells = states_done _ _ _ _ _ _ _ c.statement_over.result.told it.states;
+      tells = states_done _ _ _ _ _ _ _ c.statement_over.result.end it.states;
       input = refl;
       clock = refl;
       idle = it.idle;
@@ -57,7 +57,7 @@ returns-in-Statements g c =
     let it = c.statements_over.ensures in
     rw c.in-Statements.is record {
       does = it.states;
-      tells = all_states_done _ _ _ _ _ _ c.statements_over.result.told it.states;
+      tells = all_states_done _ _ _ _ _ _ c.statements_over.result.end it.states;
       input = refl;
       clock = refl;
       idle = it.idle;
@@ -68,7 +68,7 @@ returns-in-Replay g c =
     let it = c.replay_over.ensures in
     rw c.in-Replay.is record {
       does = it.replays;
-      tells = prints_none _ _ _ _ c.replay_over.result.told it.replays.0 (λ _ _ did. (did.1.0, did.1.1));
+      tells = prints_none _ _ _ _ c.replay_over.result.end it.replays.0 (λ _ _ did. (did.1.0, did.1.1));
       input = refl;
       clock = refl;
       idle = it.idle;
@@ -79,7 +79,7 @@ returns-in-Digest g c =
     let it = c.digest_over.ensures in
     rw c.in-Digest.is record {
       does = it.digests;
-      tells = prints_none _ _ _ _ c.digest_over.result.told it.digests.0 (λ _ _ did. (did.1.0, did.1.1));
+      tells = prints_none _ _ _ _ c.digest_over.result.end it.digests.0 (λ _ _ did. (did.1.0, did.1.1));
       input = refl;
       clock = refl;
       idle = it.idle;
@@ -90,7 +90,7 @@ returns-in-Export g c =
     let it = c.export_over.ensures in
     rw c.in-Export.is record {
       does = it.exports;
-      tells = written_done _ _ c.export_over.result.told it.exports.0 (λ _ _ did. (did.1.0, did.1.1));
+      tells = written_done _ _ c.export_over.result.end it.exports.0 (λ _ _ did. (did.1.0, did.1.1));
       input = refl;
       clock = refl;
       idle = it.idle;
@@ -101,7 +101,7 @@ returns-in-Plan g c =
     let it = c.plan_over.ensures in
     rw c.in-Plan.is record {
       does = it.plans;
-      tells = written_done _ _ c.plan_over.result.told it.plans.0 (λ _ _ did. (did.1.0, did.1.1));
+      tells = written_done _ _ c.plan_over.result.end it.plans.0 (λ _ _ did. (did.1.0, did.1.1));
       input = refl;
       clock = refl;
       idle = it.idle;
@@ -112,7 +112,7 @@ returns-in-Log g c =
     let it = c.log_over.ensures in
     rw c.in-Log.is record {
       does = it.logs;
-      tells = logs_done _ _ _ _ _ _ c.log_over.result.told it.logs;
+      tells = logs_done _ _ _ _ _ _ c.log_over.result.end it.logs;
       input = refl;
       clock = refl;
       idle = it.idle;
@@ -133,7 +133,7 @@ returns-in-Migrate g c =
     let it = c.migrate_over.ensures in
     rw c.in-Migrate.is record {
       does = it.migrates;
-      tells = prints_none _ _ _ _ c.migrate_over.result.told it.migrates (λ _ _ did. (did.0, did.3));
+      tells = prints_none _ _ _ _ c.migrate_over.result.end it.migrates (λ _ _ did. (did.0, did.3));
       input = refl;
       clock = refl;
       idle = it.idle;
@@ -144,7 +144,7 @@ returns-in-Why g c =
     let it = c.why_over.ensures in
     rw c.in-Why.is record {
       does = it.looks;
-      tells = prints_none _ _ _ _ c.why_over.result.told it.looks.0 (λ _ _ did. did.1.1);
+      tells = prints_none _ _ _ _ c.why_over.result.end it.looks.0 (λ _ _ did. did.1.1);
       input = refl;
       clock = refl;
       idle = it.idle;

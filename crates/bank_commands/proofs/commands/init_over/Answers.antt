@@ -8,7 +8,7 @@ returns-in-Err g c =
     let it = c.in-Err.ensures in
     record {
       inits = inl (
-        refused_over _ c.in-Err.refused c.refuse.result.conn c.refuse.result.told c.refuse.ensures.told
+        refused_over _ c.in-Err.refused c.refuse.result.conn c.refuse.result.end c.refuse.ensures.end
             c.refuse.ensures.conn record {
               fault = it.fault;
               taken = it.refused;
@@ -19,7 +19,7 @@ returns-in-Err g c =
             },
         refl,
       );
-      unprinted = λ is. opening_is_no_write c.in-Err.refused.fault c.refuse.result.told c.refuse.ensures.told is;
+      unprinted = λ is. opening_is_no_write c.in-Err.refused.fault c.refuse.result.end c.refuse.ensures.end is;
       idle = rw c.refuse.ensures.conn it.back.idle;
     }
 
@@ -34,10 +34,10 @@ returns g c =
         did = (
           record { made = it.made; survives = it.survives },
           refl,
-          rw c.done-told.ensures (line_told _ _ _ c.print_created.result line.prints.line line.prints.part line.fault),
+          rw c.done-end.ensures (line_told _ _ _ c.print_created.result line.prints.line line.prints.part line.fault),
         );
         conn = c.release.ensures.same;
       };
-      unprinted = rw c.done-told.ensures (line_not_written c.print_created.result line.failed);
+      unprinted = rw c.done-end.ensures (line_not_written c.print_created.result line.failed);
       idle = c.release.ensures.idle;
     }

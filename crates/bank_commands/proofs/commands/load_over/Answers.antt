@@ -13,10 +13,10 @@ returns-in-Err g c =
     record {
       loads = (
         inl (it.missed, refl),
-        refused_spares g.S.Store c.args.conn c.in-Err.ended.conn c.in-Err.ended.told it.missed,
+        refused_spares g.S.Store c.args.conn c.in-Err.ended.conn c.in-Err.ended.end it.missed,
       );
-      prints = rw (err_from_is_err_and c.in-Err.ended.told it.missed).1 (inl (Keeps-refl _));
-      unprinted = refused_not_write _ _ c.in-Err.ended.told it.missed;
+      prints = rw (err_from_is_err_and c.in-Err.ended.end it.missed).1 (inl (Keeps-refl _));
+      unprinted = refused_not_write _ _ c.in-Err.ended.end it.missed;
       idle = it.idle;
     }
 
@@ -28,16 +28,16 @@ returns g c =
         inr record {
           first = c.in-Ok.bank;
           last = c.load_into.new.bank;
-          did = (c.in-Ok.ensures.found, (rw c.loaded-told.ensures it.loads, it.honest));
+          did = (c.in-Ok.ensures.found, (rw c.loaded-end.ensures it.loads, it.honest));
           conn = c.release.ensures.same;
         },
         found_spares g.S.Store c.args.conn c.release.result c.in-Ok.bank c.load_into.new.bank c.in-Ok.ensures.found
             (call_spares g.S.Store c.in-Ok.bank c.load_into.new.bank it.spares) c.release.ensures.same,
       );
-      prints = prints_load _ _ c.loaded-told.result (bank_seen g.S.Store) (bank_reason g.S.Store)
+      prints = prints_load _ _ c.loaded-end.result (bank_seen g.S.Store) (bank_reason g.S.Store)
           (g.P.Plans.is_named c.args.plans.now c.args.plan.now)
           (known_source g.P.Plan.Source.remaining g.P.Plan.Source.calls) c.in-Ok.bank
-          c.load_into.new.bank (rw c.loaded-told.ensures it.loads);
-      unprinted = rw c.loaded-told.ensures (load_not_written c.load_into.result it.unprinted);
+          c.load_into.new.bank (rw c.loaded-end.ensures it.loads);
+      unprinted = rw c.loaded-end.ensures (load_not_written c.load_into.result it.unprinted);
       idle = c.release.ensures.idle;
     }

@@ -10,9 +10,9 @@ returns-in-Err g c =
     record {
       posts = (
         inl (it.missed, (refl, refl, refl)),
-        refused_spares g.S.Store c.args.conn c.in-Err.ended.conn c.in-Err.ended.told it.missed,
+        refused_spares g.S.Store c.args.conn c.in-Err.ended.conn c.in-Err.ended.end it.missed,
       );
-      ends = rw (err_from_is_err_and c.in-Err.ended.told it.missed).1 (tt, λ _. (refl, refl));
+      ends = rw (err_from_is_err_and c.in-Err.ended.end it.missed).1 (tt, λ _. (refl, refl));
       idle = it.idle;
     }
 
@@ -24,12 +24,12 @@ returns g c =
         inr record {
           first = c.in-Ok.bank;
           last = c.post_stream.new.bank;
-          did = (c.in-Ok.ensures.found, (c.post_stream.result, c.posted-told.ensures, it.streams));
+          did = (c.in-Ok.ensures.found, (c.post_stream.result, c.posted-end.ensures, it.streams));
           conn = c.release.ensures.same;
         },
         found_spares g.S.Store c.args.conn c.release.result c.in-Ok.bank c.post_stream.new.bank c.in-Ok.ensures.found
             (call_spares g.S.Store c.in-Ok.bank c.post_stream.new.bank it.spares) c.release.ensures.same,
       );
-      ends = rw c.posted-told.ensures (ends_post _ _ _ _ _ _ c.post_stream.result it.streams.batches.did);
+      ends = rw c.posted-end.ensures (ends_post _ _ _ _ _ _ c.post_stream.result it.streams.batches.did);
       idle = c.release.ensures.idle;
     }

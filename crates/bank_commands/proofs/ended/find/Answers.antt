@@ -10,7 +10,7 @@ returns-in-Err g c =
     let it = c.in-Err.ensures in
     record {
       found = tt;
-      missed = refused_over _ c.in-Err.refused c.refuse.result.conn c.refuse.result.told c.refuse.ensures.told
+      missed = refused_over _ c.in-Err.refused c.refuse.result.conn c.refuse.result.end c.refuse.ensures.end
           c.refuse.ensures.conn record {
             missed = it.missed;
             cause = it.cause;

@@ -53,5 +53,5 @@ returns-in_default g c =
 
 pub returns : goal.returns
 returns g c =
-    let it = c.command_over-told.ensures in
+    let it = c.command_over-end.ensures in
     record { tells = it.tells; input = it.input; clock = it.clock }

@@ -13,4 +13,4 @@ pub returns-in_default : goal.returns-in_default
 returns-in_default g c = inl ((_, refl), Keeps-refl _)
 
 pub returns : goal.returns
-returns g c = prints_none _ _ _ _ c.why_over.result.told c.why_over.ensures.looks.0 (λ _ _ did. did.1.1)
+returns g c = prints_none _ _ _ _ c.why_over.result.end c.why_over.ensures.looks.0 (λ _ _ did. did.1.1)

@@ -9,9 +9,9 @@ pub returns-in-Err : goal.returns-in-Err
 returns-in-Err g c =
     let it = c.in-Err.ensures in
     record {
-      follows = none_over g.S.Store c.args.conn c.in-Err.ended.conn c.in-Err.ended.told it.missed (refl, refl);
-      prints = rw (err_from_is_err_and c.in-Err.ended.told it.missed).1 tt;
-      unprinted = refused_not_write _ _ c.in-Err.ended.told it.missed;
+      follows = none_over g.S.Store c.args.conn c.in-Err.ended.conn c.in-Err.ended.end it.missed (refl, refl);
+      prints = rw (err_from_is_err_and c.in-Err.ended.end it.missed).1 tt;
+      unprinted = refused_not_write _ _ c.in-Err.ended.end it.missed;
       idle = it.idle;
     }
 
@@ -20,13 +20,13 @@ returns g c =
     let it = c.follow_found.ensures in
     record {
       follows = done_over g.S.Store c.args.conn c.release.result _ c.in-Ok.bank c.follow_found.new.bank
-          c.in-Ok.ensures.found (c.follow_found.result, c.done-told.ensures, it.follows) it.spares c.release.ensures.same;
+          c.in-Ok.ensures.found (c.follow_found.result, c.done-end.ensures, it.follows) it.spares c.release.ensures.same;
       prints = prints_follow (g.R.Source.remaining c.args.input.now) (g.R.Source.remaining c.follow_found.new.input)
           (g.R.Source.calls c.args.input.now) (g.R.Source.calls c.follow_found.new.input)
           (g.W.Sink.contents c.args.output.now) (g.W.Sink.contents c.follow_found.new.output) _ _ g.S.Store
           (g.P.Plans.is_named c.args.plans.now c.args.plan.now)
           (known_source g.P.Plan.Source.remaining g.P.Plan.Source.calls) c.in-Ok.bank c.follow_found.new.bank
-          c.follow_found.result c.done-told.result c.done-told.ensures it.follows;
-      unprinted = rw c.done-told.ensures (done_not_written c.follow_found.result it.unprinted);
+          c.follow_found.result c.done-end.result c.done-end.ensures it.follows;
+      unprinted = rw c.done-end.ensures (done_not_written c.follow_found.result it.unprinted);
       idle = c.release.ensures.idle;
     }

@@ -8,7 +8,7 @@ pub returns-in-Err : goal.returns-in-Err
 returns-in-Err g c =
     let it = c.in-Err.ensures in
     record {
-      logs = none_over g.S.Store c.args.conn c.in-Err.ended.conn c.in-Err.ended.told it.missed refl;
+      logs = none_over g.S.Store c.args.conn c.in-Err.ended.conn c.in-Err.ended.end it.missed refl;
       idle = it.idle;
     }
 
@@ -18,7 +18,7 @@ returns g c =
     record {
       logs = done_over g.S.Store c.args.conn c.release.result _ c.in-Ok.bank c.write_log.new.bank c.in-Ok.ensures.found (
         c.write_log.result,
-        c.logged-told.ensures,
+        c.logged-end.ensures,
         record {
           rows = it.rows;
           log = it.log;

@@ -8,7 +8,7 @@ pub returns-in-Err : goal.returns-in-Err
 returns-in-Err g c =
     let it = c.in-Err.ensures in
     record {
-      digests = none_over g.S.Store c.args.conn c.in-Err.ended.conn c.in-Err.ended.told it.missed refl;
+      digests = none_over g.S.Store c.args.conn c.in-Err.ended.conn c.in-Err.ended.end it.missed refl;
       idle = it.idle;
     }
 
@@ -18,7 +18,7 @@ returns g c =
     record {
       digests = done_over g.S.Store c.args.conn c.release.result _ c.in-Ok.bank c.digest.new.bank c.in-Ok.ensures.found (
         c.digest.result,
-        c.print_first-told.ensures,
+        c.print_first-end.ensures,
         record {
           rows = it.rows;
           log = it.log;

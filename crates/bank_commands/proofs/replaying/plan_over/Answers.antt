@@ -8,7 +8,7 @@ pub returns-in-Err : goal.returns-in-Err
 returns-in-Err g c =
     let it = c.in-Err.ensures in
     record {
-      plans = none_over g.S.Store c.args.conn c.in-Err.ended.conn c.in-Err.ended.told it.missed refl;
+      plans = none_over g.S.Store c.args.conn c.in-Err.ended.conn c.in-Err.ended.end it.missed refl;
       idle = it.idle;
     }
 
@@ -18,7 +18,7 @@ returns g c =
     record {
       plans = done_over g.S.Store c.args.conn c.release.result _ c.in-Ok.bank c.write_plan.new.bank c.in-Ok.ensures.found (
         c.write_plan.result,
-        c.written-told.ensures,
+        c.written-end.ensures,
         record {
           rows = it.rows;
           sound = it.sound;

@@ -8,7 +8,7 @@ pub returns-in-Err : goal.returns-in-Err
 returns-in-Err g c =
     let it = c.in-Err.ensures in
     record {
-      replays = none_over g.S.Store c.args.conn c.in-Err.ended.conn c.in-Err.ended.told it.missed refl;
+      replays = none_over g.S.Store c.args.conn c.in-Err.ended.conn c.in-Err.ended.end it.missed refl;
       idle = it.idle;
     }
 
@@ -18,7 +18,7 @@ returns g c =
     record {
       replays = done_over g.S.Store c.args.conn c.release.result _ c.in-Ok.bank c.replay.new.bank c.in-Ok.ensures.found (
         c.replay.result,
-        c.print_replay-told.ensures,
+        c.print_replay-end.ensures,
         record {
           tables = it.agrees.0;
           agrees = it.agrees.1;

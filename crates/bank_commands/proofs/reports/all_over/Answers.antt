@@ -4,14 +4,14 @@ use Rattle.bank_store.proofs.AsFound.{as_found_spares}
 use Rattle.bank_commands.proofs.Spared.{done_over, none_over}
 use Rattle.bank_commands.proofs.reports.all_over.Goals as goal
 
-pub all_stated-told-requires : goal.all_stated-told-requires
-all_stated-told-requires g c = c.write_statements.ensures.bank.found
+pub all_stated-end-requires : goal.all_stated-told-requires
+all_stated-end-requires g c = c.write_statements.ensures.bank.found
 
 pub returns-in-Err : goal.returns-in-Err
 returns-in-Err g c =
     let it = c.in-Err.ensures in
     record {
-      states = none_over g.S.Store c.args.conn c.in-Err.ended.conn c.in-Err.ended.told it.missed refl;
+      states = none_over g.S.Store c.args.conn c.in-Err.ended.conn c.in-Err.ended.end it.missed refl;
       idle = it.idle;
     }
 
@@ -21,7 +21,7 @@ returns g c =
     record {
       states = done_over g.S.Store c.args.conn c.release.result _ c.in-Ok.bank c.write_statements.new.bank c.in-Ok.ensures.found (
         c.write_statements.result,
-        c.all_stated-told.ensures,
+        c.all_stated-end.ensures,
         record {
           bank = it.bank;
           file = it.file;

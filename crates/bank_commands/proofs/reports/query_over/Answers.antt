@@ -8,7 +8,7 @@ pub returns-in-Err : goal.returns-in-Err
 returns-in-Err g c =
     let it = c.in-Err.ensures in
     record {
-      states = none_over g.S.Store c.args.conn c.in-Err.ended.conn c.in-Err.ended.told it.missed refl;
+      states = none_over g.S.Store c.args.conn c.in-Err.ended.conn c.in-Err.ended.end it.missed refl;
       idle = it.idle;
     }
 
@@ -18,7 +18,7 @@ returns g c =
     record {
       states = done_over g.S.Store c.args.conn c.release.result _ c.in-Ok.bank c.write_selected.new.bank c.in-Ok.ensures.found (
         c.write_selected.result,
-        c.stated-told.ensures,
+        c.stated-end.ensures,
         record {
           bank = it.bank;
           file = it.file;

@@ -10,8 +10,8 @@ pub returns-in-Err : goal.returns-in-Err
 returns-in-Err g c =
     let it = c.in-Err.ensures in
     record {
-      looks = none_over g.S.Store c.args.conn c.in-Err.ended.conn c.in-Err.ended.told it.missed refl;
-      unprinted = refused_not_write _ _ c.in-Err.ended.told it.missed;
+      looks = none_over g.S.Store c.args.conn c.in-Err.ended.conn c.in-Err.ended.end it.missed refl;
+      unprinted = refused_not_write _ _ c.in-Err.ended.end it.missed;
       idle = it.idle;
     }
 
@@ -21,8 +21,8 @@ returns g c =
     record {
       looks = done_over g.S.Store c.args.conn c.release.result _ c.in-Ok.bank c.in-Ok.bank c.in-Ok.ensures.found (
         refl,
-        rw c.done-told.ensures (line_told _ _ _ c.print_usable.result line.prints.line line.prints.part line.fault),
+        rw c.done-end.ensures (line_told _ _ _ c.print_usable.result line.prints.line line.prints.part line.fault),
       ) (idle_spares g.S.Store (connection_of c.in-Ok.bank)) c.release.ensures.same;
-      unprinted = rw c.done-told.ensures (line_not_written c.print_usable.result line.failed);
+      unprinted = rw c.done-end.ensures (line_not_written c.print_usable.result line.failed);
       idle = c.release.ensures.idle;
     }

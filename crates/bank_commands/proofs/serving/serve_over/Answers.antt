@@ -12,10 +12,10 @@ returns-in-Err g c =
     record {
       serves = (
         inl (it.missed, (refl, refl)),
-        refused_spares g.S.Store c.args.conn c.in-Err.ended.conn c.in-Err.ended.told it.missed,
+        refused_spares g.S.Store c.args.conn c.in-Err.ended.conn c.in-Err.ended.end it.missed,
       );
-      prints = rw (err_from_is_err_and c.in-Err.ended.told it.missed).1 (inl (Keeps-refl _));
-      unprinted = refused_not_write _ _ c.in-Err.ended.told it.missed;
+      prints = rw (err_from_is_err_and c.in-Err.ended.end it.missed).1 (inl (Keeps-refl _));
+      unprinted = refused_not_write _ _ c.in-Err.ended.end it.missed;
       idle = it.idle;
     }
 
@@ -27,15 +27,15 @@ returns g c =
         inr record {
           first = c.in-Ok.bank;
           last = c.listen.new.bank;
-          did = (c.in-Ok.ensures.found, rw c.done-told.ensures it.serves);
+          did = (c.in-Ok.ensures.found, rw c.done-end.ensures it.serves);
           conn = c.release.ensures.same;
         },
         found_spares g.S.Store c.args.conn c.release.result c.in-Ok.bank c.listen.new.bank c.in-Ok.ensures.found
             (call_spares g.S.Store c.in-Ok.bank c.listen.new.bank it.spares) c.release.ensures.same,
       );
-      prints = prints_serve _ _ c.done-told.result (bank_seen g.S.Store) (bank_reason g.S.Store) c.in-Ok.bank
+      prints = prints_serve _ _ c.done-end.result (bank_seen g.S.Store) (bank_reason g.S.Store) c.in-Ok.bank
           c.listen.new.bank (g.K.Clock.readings c.args.clock.now) (g.K.Clock.readings c.listen.new.clock)
-          c.args.connections (rw c.done-told.ensures it.serves);
-      unprinted = rw c.done-told.ensures (done_not_written c.listen.result it.unprinted);
+          c.args.connections (rw c.done-end.ensures it.serves);
+      unprinted = rw c.done-end.ensures (done_not_written c.listen.result it.unprinted);
       idle = c.release.ensures.idle;
     }

@@ -4,7 +4,7 @@ use Rattle.bank_lives.proofs.readings.reports_law.Goals as goal
 
 pub returns : goal.returns
 returns g c = record {
-  told = λ old new up honest survives stands.
+  answers = λ old new up honest survives stands.
       told_is_call (g.C.Counter.seen old) (g.C.Counter.seen new) up honest survives stands;
   failed = λ old new up honest survives.
       failed_ends (g.C.Counter.seen old) (g.C.Counter.seen new) up honest survives;

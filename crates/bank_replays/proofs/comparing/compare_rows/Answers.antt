@@ -43,7 +43,7 @@ returns-in_err-stands g c =
           let given = it.along before all has in
           rw same (why_among g.R.WalkedRow.item g.R.WalkedRow.Breaks _ _ given.0 _ _ given.1 fault
           (why_stopped g.R.WalkedRow.item g.R.WalkedRow.Breaks _ _ g.R.WalkedRow.Breaks (λ rule x breaks. breaks) _ _
-          fault (c.in_err-stands.ensures.told clean all there)
+          fault (c.in_err-stands.ensures.answers clean all there)
           (λ is. record {
             at = c.rows.stood.bank.now.conn;
             before = comes it.bank.survives;
@@ -83,9 +83,9 @@ returns-in-Ended g c =
           let before_due = clean_before two clean_due in
           so_far_same _ _ _ _ (it.same before before_due all others has has_due)
           (same_end g.R.WalkedRow.item g.R.WalkedRow.Breaks _ _ _ _ _ _
-          (c.in_ok-stands.ensures.told clean all
+          (c.in_ok-stands.ensures.answers clean all
           (subst (λ db. g.R.WalkedRow.HasItems db all) (sym (it.bank.still before).0) has))
-          (c.in-Ok.ensures.told clean_due others
+          (c.in-Ok.ensures.answers clean_due others
           (subst (λ db. g.R.WalkedRow.HasItems db others) (sym (it.due.still before_due).0) has_due))
           ended.0 ended.1);
       differs = λ clean clean_due d is. absurd (some_not_none d _ is refl);
@@ -113,9 +113,9 @@ returns-in-Differs g c =
             let before_due = clean_before two clean_due in
             told_first g.R.WalkedRow.key g.R.WalkedRow.item g.R.WalkedRow.Breaks _ _ _ _ _ _ _ _ set.0
             (it.same before before_due all others has has_due)
-            (c.in_ok-stands.ensures.told clean all
+            (c.in_ok-stands.ensures.answers clean all
             (subst (λ db. g.R.WalkedRow.HasItems db all) (sym (it.bank.still before).0) has))
-            (c.in-Ok.ensures.told clean_due others
+            (c.in-Ok.ensures.answers clean_due others
             (subst (λ db. g.R.WalkedRow.HasItems db others) (sym (it.due.still before_due).0) has_due))
             set.1;
       };
@@ -152,16 +152,16 @@ rows-preserved g c =
           let before = clean_before one clean in
           let given = it.along before all has in
           along_more g.R.WalkedRow.item g.R.WalkedRow.Breaks _ _ _ given.0 _
-          (c.in_ok-stands.ensures.told clean all
+          (c.in_ok-stands.ensures.answers clean all
           (subst (λ db. g.R.WalkedRow.HasItems db all) (sym (it.bank.still before).0) has)) given.1 set.0 set.2;
       same = λ clean clean_due all others has has_due.
           let before = clean_before one clean in
           let before_due = clean_before two clean_due in
           so_far_more _ _ _ _ _ _ _ (it.same before before_due all others has has_due)
           (same_step g.R.WalkedRow.item g.R.WalkedRow.Breaks _ _ _ _ _ _
-          (c.in_ok-stands.ensures.told clean all
+          (c.in_ok-stands.ensures.answers clean all
           (subst (λ db. g.R.WalkedRow.HasItems db all) (sym (it.bank.still before).0) has))
-          (c.in-Ok.ensures.told clean_due others
+          (c.in-Ok.ensures.answers clean_due others
           (subst (λ db. g.R.WalkedRow.HasItems db others) (sym (it.due.still before_due).0) has_due))
           set.0 set.1 set.2 set.3 set.4);
     }

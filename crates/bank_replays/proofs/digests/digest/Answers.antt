@@ -20,7 +20,7 @@ pub returns-then-is_down : goal.returns-then-is_down
 returns-then-is_down g c = record {
   rows = λ clean all has. tt;
   log = λ clean log shows. tt;
-  why = record { told = λ clean f has. sym c.is_down.ensures ∙ c.if-is_down.true };
+  why = record { answers = λ clean f has. sym c.is_down.ensures ∙ c.if-is_down.true };
   frugal = λ is. absurd cc;
   bank = idle_takes (bank_seen g.S.Store c.args.bank.now) _;
   down = λ down. (refl, refl);

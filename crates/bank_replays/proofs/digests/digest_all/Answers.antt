@@ -18,5 +18,5 @@ pub returns-in-Err : goal.returns-in-Err
 returns-in-Err g c = record {
   bank = read_fails _ c.in-Err.ensures.bank;
   rows = λ clean all has. tt;
-  why = why_err c.in-Err.fault _ (sym c.told.ensures) c.in-Err.ensures.why;
+  why = why_err c.in-Err.fault _ (sym c.bank_fault.ensures) c.in-Err.ensures.why;
 }

@@ -22,8 +22,8 @@ returns-in-Err g c =
     record {
       bank = read_fails _ it.bank;
       rows = λ clean all has. tt;
-      why = why_err c.in-Err.fault _ (sym c.told.ensures) it.why;
+      why = why_err c.in-Err.fault _ (sym c.bank_fault.ensures) it.why;
       frugal = λ is.
           digest_frugal c.none-digest.result it.visits.0 c.args.count c.in-Err.fault (omega (arith, c.ranges.count.fits)) c.none-digest.ensures.requests
-          it.visits.2 it.visits.3 (sym c.told.ensures ∙ err_is _ _ is);
+          it.visits.2 it.visits.3 (sym c.bank_fault.ensures ∙ err_is _ _ is);
     }

@@ -29,5 +29,5 @@ returns-in-Err g c = record {
   bank = read_fails _ c.in-Err.ensures.bank;
   rows = λ clean version decided has. tt;
   sound = λ clean log shows rule is.
-      sound_log clean log shows _ c.in-Err.fault c.in-Err.ensures.why refl rule (sym c.told.ensures ∙ err_is _ _ is);
+      sound_log clean log shows _ c.in-Err.fault c.in-Err.ensures.why refl rule (sym c.bank_fault.ensures ∙ err_is _ _ is);
 }

@@ -42,5 +42,5 @@ returns g c =
     record {
       bank = read_fails _ (read_then one.bank two.bank);
       rows = λ clean. tt;
-      why = why_err c.in-Err.fault _ (sym c.told.ensures) (why_then one.bank two.bank two.why);
+      why = why_err c.in-Err.fault _ (sym c.bank_fault.ensures) (why_then one.bank two.bank two.why);
     }

@@ -22,7 +22,7 @@ returns-in-Ok g c = record {
 pub returns-in-Err : goal.returns-in-Err
 returns-in-Err g c = record {
   bank = read_fails _ c.in-Err.ensures.bank;
-  why = why_err c.in-Err.fault _ (sym c.told.ensures) c.in-Err.ensures.why;
+  why = why_err c.in-Err.fault _ (sym c.bank_fault.ensures) c.in-Err.ensures.why;
   shows = tt;
   same = λ clean sure new. tt;
 }

@@ -22,7 +22,7 @@ returns-then-is_down g c = record {
   agrees = (tt, λ clean kept. tt);
   digest = λ clean. tt;
   differs = λ clean. tt;
-  why = record { told = λ clean f has. sym c.is_down.ensures ∙ c.if-is_down.true };
+  why = record { answers = λ clean f has. sym c.is_down.ensures ∙ c.if-is_down.true };
   bank = record {
     log = λ clean log shows. tt;
     sound = λ rule is. absurd cc;

@@ -101,9 +101,9 @@ returns-in-Some g c =
 pub returns-in_err-digest_both : goal.returns-in_err-digest_both
 returns-in_err-digest_both g c =
     let fault = c.in_err-digest_both.field-0.0 in
-    let told = err_from_is_err_and c.from_residual-in_err-digest_both.result
+    let is = err_from_is_err_and c.from_residual-in_err-digest_both.result
     c.from_residual-in_err-digest_both.ensures.1 in
-    let same : c.from_residual-in_err-digest_both.result ≡ Err fault = told.1 ∙ ap Err told.2 in
+    let same : c.from_residual-in_err-digest_both.result ≡ Err fault = is.1 ∙ ap Err is.2 in
     record {
       bank = rw same (read_fails fault
           (read_then (read_then c.in_ok-due.ensures.bank c.in_ok-difference.ensures.bank)

@@ -42,7 +42,7 @@ returns-in_err-row g c =
           let there = subst (λ db. g.R.WalkedRow.HasItems db all) (sym (it.bank.still (clean_before step clean)).0) has in
           why_stopped g.R.WalkedRow.item (Bars g.R.WalkedRow.item g.R.WalkedRow.Breaks (g.P.Visitor.Refuses c.args.visitor.now))
           (HasFailedToRead g.S.Store _ _) ⊥ g.R.WalkedRow.Breaks (λ rule x breaks. inl breaks) _ _ fault
-          (c.in_err-row.ensures.told clean all there)
+          (c.in_err-row.ensures.answers clean all there)
           (λ is. record {
             at = c.rows.walk.bank.now.conn;
             before = comes it.bank.survives;
@@ -62,7 +62,7 @@ returns-in_default g c =
       visits = visits_end _ (g.P.Visitor.Visited c.args.visitor.now c.args.target.now c.rows.target)
           (g.P.Visitor.Part c.args.visitor.now c.args.target.now c.rows.target) (λ coming fault. Unit {0}) g.R.WalkedRow.Breaks _ _ _ _ _ _ _
           (clean_before step) it.so_far c.args.most (omega (arith, c.rows-test.true))
-          (λ clean all has. rw c.in_default.is at (c.in_ok-row.ensures.told clean all
+          (λ clean all has. rw c.in_default.is at (c.in_ok-row.ensures.answers clean all
           (subst (λ db. g.R.WalkedRow.HasItems db all) (sym (it.bank.still (clean_before step clean)).0) has)));
     }
 
@@ -83,7 +83,7 @@ returns-in_err-visit g c =
           (c.in_err-visit.ensures.part c.args.target.now it.so_far.given it.so_far.visited)
           (λ more. why_refused g.R.WalkedRow.item g.R.WalkedRow.Breaks (g.P.Visitor.Refuses c.args.visitor.now) _ _ _ fault
           c.in_err-visit.ensures.why more)
-          (λ clean all has. rw c.in-Some.is at (c.in_ok-row.ensures.told clean all
+          (λ clean all has. rw c.in-Some.is at (c.in_ok-row.ensures.answers clean all
           (subst (λ db. g.R.WalkedRow.HasItems db all) (sym (it.bank.still (clean_before step clean)).0) has))));
     }
 
@@ -110,6 +110,6 @@ rows-preserved g c =
       so_far = visits_more _ _ (λ rows next fault. Unit {0}) (λ coming fault. Unit {0}) g.R.WalkedRow.Breaks _ _ _ _ _ _ _
           (clean_before step)
           it.so_far _ c.in-Some.row (c.in_ok-visit.ensures.visited c.args.target.now it.so_far.given it.so_far.visited)
-          (λ clean all has. rw c.in-Some.is at (c.in_ok-row.ensures.told clean all
+          (λ clean all has. rw c.in-Some.is at (c.in_ok-row.ensures.answers clean all
           (subst (λ db. g.R.WalkedRow.HasItems db all) (sym (it.bank.still (clean_before step clean)).0) has)));
     }

@@ -50,16 +50,16 @@ add_each-requires-5 g c =
 
 -- ---- a pass that failed
 
-pub returns-in_err-add_each-clause-told : goal.returns-in_err-add_each-clause-told
-returns-in_err-add_each-clause-told g c clean f has =
+pub returns-in_err-add_each-clause-answers : goal.returns-in_err-add_each-clause-answers
+returns-in_err-add_each-clause-answers g c clean f has =
     let last = c.in_err-add_each.ensures in
     let same : c.from_residual.result ≡ Err c.in_err-add_each.field-0.0 = search rules in
     let late : HasCleanDisk (state g.S.Store c.add_each.new.bank.conn) = search rules in
     rw same (says_any (HasFailedToRead g.S.Store c.args.bank.now.conn c.add_each.new.bank.conn)
-    c.in_err-add_each.field-0.0 (λ _ h. inr (inl h)) (last.told late f.tellers has.tellers))
+    c.in_err-add_each.field-0.0 (λ _ h. inr (inl h)) (last.answers late f.tellers has.tellers))
 
-pub returns-in_err-add_each-2-clause-told : goal.returns-in_err-add_each-2-clause-told
-returns-in_err-add_each-2-clause-told g c clean f has =
+pub returns-in_err-add_each-2-clause-answers : goal.returns-in_err-add_each-2-clause-answers
+returns-in_err-add_each-2-clause-answers g c clean f has =
     let last = c.in_err-add_each-2.ensures in
     let same : c.from_residual-in_err-add_each-2.result ≡ Err c.in_err-add_each-2.field-0.0 =
     search rules in
@@ -68,7 +68,7 @@ returns-in_err-add_each-2-clause-told g c clean f has =
     let there = has_mid f passed last.passed late has in
     rw same (says_after g.S.Store c.args.bank.now.conn c.add_each.new.bank.conn c.add_each-2.new.bank.conn
     c.in_err-add_each-2.field-0.0 (λ _ h. inl h) passed
-    (last.told late f.branches there.branches))
+    (last.answers late f.branches there.branches))
 
 pub returns-in_err-add_each-2-clause-passed : goal.returns-in_err-add_each-2-clause-passed
 returns-in_err-add_each-2-clause-passed g c =
@@ -76,8 +76,8 @@ returns-in_err-add_each-2-clause-passed g c =
     search rules in
     rw same (passed_then c.in_ok-add_each.ensures.passed c.in_err-add_each-2.ensures.passed)
 
-pub returns-in_err-add_each-3-clause-told : goal.returns-in_err-add_each-3-clause-told
-returns-in_err-add_each-3-clause-told g c clean f has =
+pub returns-in_err-add_each-3-clause-answers : goal.returns-in_err-add_each-3-clause-answers
+returns-in_err-add_each-3-clause-answers g c clean f has =
     let last = c.in_err-add_each-3.ensures in
     let same : c.from_residual-in_err-add_each-3.result ≡ Err c.in_err-add_each-3.field-0.0 =
     search rules in
@@ -86,7 +86,7 @@ returns-in_err-add_each-3-clause-told g c clean f has =
     let there = has_mid f passed last.passed late has in
     rw same (says_after g.S.Store c.args.bank.now.conn c.add_each-2.new.bank.conn c.add_each-3.new.bank.conn
     c.in_err-add_each-3.field-0.0 (λ _ h. inr (inr (inl h))) passed
-    (last.told late f.accounts there.accounts))
+    (last.answers late f.accounts there.accounts))
 
 pub returns-in_err-add_each-3-clause-passed : goal.returns-in_err-add_each-3-clause-passed
 returns-in_err-add_each-3-clause-passed g c =
@@ -95,8 +95,8 @@ returns-in_err-add_each-3-clause-passed g c =
     rw same (passed_three c.in_ok-add_each.ensures.passed c.in_ok-add_each-2.ensures.passed
     c.in_err-add_each-3.ensures.passed)
 
-pub returns-in_err-add_each-4-clause-told : goal.returns-in_err-add_each-4-clause-told
-returns-in_err-add_each-4-clause-told g c clean f has =
+pub returns-in_err-add_each-4-clause-answers : goal.returns-in_err-add_each-4-clause-answers
+returns-in_err-add_each-4-clause-answers g c clean f has =
     let last = c.in_err-add_each-4.ensures in
     let same : c.from_residual-in_err-add_each-4.result ≡ Err c.in_err-add_each-4.field-0.0 =
     search rules in
@@ -106,7 +106,7 @@ returns-in_err-add_each-4-clause-told g c clean f has =
     let there = has_mid f passed last.passed late has in
     rw same (says_after g.S.Store c.args.bank.now.conn c.add_each-3.new.bank.conn c.add_each-4.new.bank.conn
     c.in_err-add_each-4.field-0.0 (broken_asked f) passed
-    (last.told late (paired f.history f.requests) (asked_in _ f there)))
+    (last.answers late (paired f.history f.requests) (asked_in _ f there)))
 
 pub returns-in_err-add_each-4-clause-passed : goal.returns-in_err-add_each-4-clause-passed
 returns-in_err-add_each-4-clause-passed g c =
@@ -115,8 +115,8 @@ returns-in_err-add_each-4-clause-passed g c =
     rw same (passed_four c.in_ok-add_each.ensures.passed c.in_ok-add_each-2.ensures.passed
     c.in_ok-add_each-3.ensures.passed c.in_err-add_each-4.ensures.passed)
 
-pub returns-in_err-add_each-5-clause-told : goal.returns-in_err-add_each-5-clause-told
-returns-in_err-add_each-5-clause-told g c clean f has =
+pub returns-in_err-add_each-5-clause-answers : goal.returns-in_err-add_each-5-clause-answers
+returns-in_err-add_each-5-clause-answers g c clean f has =
     let last = c.in_err-add_each-5.ensures in
     let same : c.from_residual-in_err-add_each-5.result ≡ Err c.in_err-add_each-5.field-0.0 =
     search rules in
@@ -126,7 +126,7 @@ returns-in_err-add_each-5-clause-told g c clean f has =
     let there = has_mid f passed last.passed late has in
     rw same (says_after g.S.Store c.args.bank.now.conn c.add_each-4.new.bank.conn c.add_each-5.new.bank.conn
     c.in_err-add_each-5.field-0.0 (broken_posted f) passed
-    (last.told late (paired f.requests f.history) (posted_in _ f there)))
+    (last.answers late (paired f.requests f.history) (posted_in _ f there)))
 
 pub returns-in_err-add_each-5-clause-passed : goal.returns-in_err-add_each-5-clause-passed
 returns-in_err-add_each-5-clause-passed g c =

@@ -95,14 +95,14 @@ returns-in_err-add_all g c =
           (λ broken is clean log s.
           let has = has_file (database_of g.S.Store c.args.bank.now) s.tables s.are in
           not_damaged s.tables log s.commands s.shows broken
-          (rw is at (says.told clean (rows_in (stored s.tables)) has)))
+          (rw is at (says.answers clean (rows_in (stored s.tables)) has)))
           (reads_take_none old new _ _ _ (λ yes. absurd (rw same at yes)) says.passed.survives up);
       file = λ clean. record {
         numbers = λ f has. rw same tt;
         consistent = λ t has. rw same tt;
         damaged = λ broken is f has.
-            rw (error_is fault (Damaged broken) (sym same ∙ is)) at (says.told clean f has);
-        store = λ is f has. rw (error_is fault Store (sym same ∙ is)) at (says.told clean f has);
+            rw (error_is fault (Damaged broken) (sym same ∙ is)) at (says.answers clean f has);
+        store = λ is f has. rw (error_is fault Store (sym same ∙ is)) at (says.answers clean f has);
       };
       memory = λ is. absurd (says.frugal (ap Err (error_is _ _ (sym same ∙ is))));
       down = record {
@@ -138,7 +138,7 @@ returns g c =
       bank = record {
         tables = λ clean t shown. audited g c clean (stored t) (has_file db t shown);
         condition = λ clean t shown.
-            subst (λ told. IsTrue (is_sound told) ↔ IsConsistent t)
+            subst (λ found. IsTrue (is_sound found) ↔ IsConsistent t)
             (sym (audited g c clean (stored t) (has_file db t shown))) (tells_in_file db t shown);
         once = λ clean log t there shows. posted_once t log shows;
         above = λ clean log are t there shows. (undamaged t log are shows).above;
@@ -154,7 +154,7 @@ returns g c =
             let it = says.added clean f has in
             (it.0, it.1, c.into_audit.ensures (rows_of it.0) it.2 ∙ rows_tell it.0);
         consistent = λ t has.
-            subst (λ told. IsTrue (is_sound told) ↔ IsSoundFile t) (sym (audited g c clean t has))
+            subst (λ found. IsTrue (is_sound found) ↔ IsSoundFile t) (sym (audited g c clean t has))
             (tells t (has_ordinals db t has));
         damaged = λ broken is. absurd (not_ok _ _ _ refl is);
         store = λ is. absurd (not_ok _ _ _ refl is);

@@ -44,8 +44,8 @@ returns-in_err-row-clause-tried g c is =
 pub returns-in_err-row-clause-up : goal.returns-in_err-row-clause-up
 returns-in_err-row-clause-up g c = c.next.ensures.bank.up ∙ c.rows.invariant.up
 
-pub returns-in_err-row-clause-told : goal.returns-in_err-row-clause-told
-returns-in_err-row-clause-told g c clean all has =
+pub returns-in_err-row-clause-answers : goal.returns-in_err-row-clause-answers
+returns-in_err-row-clause-answers g c clean all has =
     let old = state g.S.Store c.args.walk.now.bank.now.conn in
     let mid = state g.S.Store c.rows.walk.bank.now.conn in
     let late : HasCleanDisk (state g.S.Store c.next.new.self.bank.now.conn) = clean in
@@ -60,7 +60,7 @@ returns-in_err-row-clause-told g c clean all has =
     c.rows.counter (λ b. b)
     c.rows.invariant.gathered
     g.R.WalkedRow.Breaks _ before all has _ c.in_err-row.field-0.0
-    (c.in_err-row.ensures.told late all there)
+    (c.in_err-row.ensures.answers late all there)
     (λ is. record {
       at = c.rows.walk.bank.now.conn;
       before = comes c.rows.invariant.survives;
@@ -79,8 +79,8 @@ returns-in_err-row-clause-passed g c =
 pub returns-in_default-clause-same_reference : goal.returns-in_default-clause-same_reference
 returns-in_default-clause-same_reference g c = c.next.ensures.bank.same_reference ∙ c.rows.invariant.reference
 
-pub returns-in_default-clause-told : goal.returns-in_default-clause-told
-returns-in_default-clause-told g c clean all has = tt
+pub returns-in_default-clause-answers : goal.returns-in_default-clause-answers
+returns-in_default-clause-answers g c clean all has = tt
 
 pub returns-in_default-clause-frugal : goal.returns-in_default-clause-frugal
 returns-in_default-clause-frugal g c = not_ok _ _ _ refl
@@ -103,13 +103,13 @@ returns-in_default-clause-added g c =
           let before : HasCleanDisk mid = omega (arith, c.next.ensures.bank.survives.clean, clean) in
           let there = subst (λ db. g.R.WalkedRow.HasItems db all) (sym (c.rows.invariant.still before).0)
           has in
-          let told = rw c.in_default.is at (c.in_ok-row.ensures.told clean all there) in
+          let answers = rw c.in_default.is at (c.in_ok-row.ensures.answers clean all there) in
           all_given g.R.WalkedRow.item g.R.WalkedRow.HasItems g.R.Summed.with_rows old.now (HasCleanDisk mid)
           (HasCleanDisk mid) c.args.sums.now c.rows.sums
           (λ all. items_to_come g.R.WalkedRow.key g.R.WalkedRow.item g.R.WalkedRow.is_given all
           c.args.walk.now)
           (λ all. items_to_come g.R.WalkedRow.key g.R.WalkedRow.item g.R.WalkedRow.is_given all c.rows.walk)
-          c.rows.counter (λ b. b) it before all has told.0,
+          c.rows.counter (λ b. b) it before all has answers.0,
     )
 
 pub returns-in_default-clause-passed : goal.returns-in_default-clause-passed
@@ -167,7 +167,7 @@ rows-preserved g c =
           c.rows.counter before it.gathered c.add_to.new.sums
           (λ all. items_to_come g.R.WalkedRow.key g.R.WalkedRow.item g.R.WalkedRow.is_given all
           c.next.new.self) c.in-Some.row
-          (λ clean all has. rw c.in-Some.is at (c.in_ok-row.ensures.told clean all
+          (λ clean all has. rw c.in-Some.is at (c.in_ok-row.ensures.answers clean all
           (subst (λ db. g.R.WalkedRow.HasItems db all) (sym (it.still (before clean)).0) has)))
           c.add_to.ensures;
       along = along_more (λ k. ComesFrom (λ r. g.R.WalkedRow.key (g.R.WalkedRow.item r)) k c.rows.walk)

@@ -19,9 +19,9 @@ drop-walk-requires g c = walk_fits g.row.R g.met.R.Summed.few_bytes
 
 -- ---- what was told
 
-pub returns-clause-told : goal.returns-clause-told
-returns-clause-told g c = told_of_all c.in_ok-walk.ensures.begins c.add_rows.result _
-    c.add_rows.ensures.told (search rules) (λ late. search rules)
+pub returns-clause-answers : goal.returns-clause-answers
+returns-clause-answers g c = told_of_all c.in_ok-walk.ensures.begins c.add_rows.result _
+    c.add_rows.ensures.answers (search rules) (λ late. search rules)
 
 pub returns-clause-added : goal.returns-clause-added
 returns-clause-added g c = added_of_all c.in_ok-walk.ensures.begins c.add_rows.result g.R.Summed.with_rows

@@ -18,7 +18,7 @@ returns-in_err-walk g c =
     let was = c.in_err-walk.ensures.begins.fault in
     let same : c.from_residual.result ≡ Err (Bank fault) = search rules in
     record {
-      told = λ clean rows has.
+      answers = λ clean rows has.
           rw (same, was.0) record {
             given = [];
             rest = given_of is_stated_of c.args.of rows;
@@ -50,11 +50,11 @@ returns g c =
     subst (λ bank. HasPairs (database_of g.S.Store bank) history_table reference_table rows) (sym begins.same) has
     in
     record {
-      told = λ clean rows has.
+      answers = λ clean rows has.
           let late : HasCleanDisk (state g.S.Store last.conn) = search rules in
           subst (λ (all : List Pair). VisitsPostings g.V.Visitor.Visited g.V.Visitor.Refused c.args.visitor.now
           c.visit_rows.new.visitor all (g.W.Sink.contents c.args.writer.now) (g.W.Sink.contents c.visit_rows.new.writer)
-          c.visit_rows.result) (begins.all rows has) (says.told late rows (there rows has));
+          c.visit_rows.result) (begins.all rows has) (says.answers late rows (there rows has));
       ends = says.ends;
       more = says.more;
       failed = says.failed;

@@ -43,12 +43,12 @@ returns-in_err-row g c =
     let same : c.from_residual.result ≡ Err (Bank fault) = search rules in
     record {
       same_reference = c.next.ensures.bank.same_reference ∙ it.reference;
-      told = λ clean rows has.
+      answers = λ clean rows has.
           let before = clean_before mid new quiet clean in
           let there = still_has old mid history_table reference_table rows (it.still before) has in
           rw same (end_reading g.V.Visitor.Visited c.args.visitor.now (g.W.Sink.contents c.args.writer.now)
           old.now (λ rows. postings_to_come rows c.args.walk.now) it.visited g.V.Visitor.Refused before rows has (Err (Bank fault))
-          (step_why it.visited.given _ _ fault (c.in_err-row.ensures.told clean rows there)));
+          (step_why it.visited.given _ _ fault (c.in_err-row.ensures.answers clean rows there)));
       ends = rw same (it.visited.given, inl it.visited.visited);
       more = rw same tt;
       failed = λ write. absurd (not_write _ fault same write);
@@ -88,12 +88,12 @@ returns-in_default g c =
     still_then old mid new (it.still (clean_before mid new quiet clean)) (c.in_ok-row.ensures.bank.same clean) in
     record {
       same_reference = c.next.ensures.bank.same_reference ∙ it.reference;
-      told = λ clean rows has.
+      answers = λ clean rows has.
           let before = clean_before mid new quiet clean in
           let there = still_has old mid history_table reference_table rows (it.still before) has in
           end_reading g.V.Visitor.Visited c.args.visitor.now (g.W.Sink.contents c.args.writer.now)
           old.now (λ rows. postings_to_come rows c.args.walk.now) it.visited g.V.Visitor.Refused before rows has (Ok tt)
-          (rw c.in_default.is at (c.in_ok-row.ensures.told clean rows there)).0;
+          (rw c.in_default.is at (c.in_ok-row.ensures.answers clean rows there)).0;
       ends = (it.visited.given, it.visited.visited);
       more = it.more;
       failed = λ no. absurd (not_ok _ _ _ refl no);
@@ -135,12 +135,12 @@ returns-in_err-visit g c =
     still_then old mid new (it.still (clean_before mid new quiet clean)) (c.in_ok-row.ensures.bank.same clean) in
     record {
       same_reference = c.next.ensures.bank.same_reference ∙ it.reference;
-      told = λ clean rows has.
+      answers = λ clean rows has.
           let before = clean_before mid new quiet clean in
           let there = still_has old mid history_table reference_table rows (it.still before) has in
           end_refused g.V.Visitor.Visited c.args.visitor.now (g.W.Sink.contents c.args.writer.now)
           old.now (λ rows. postings_to_come rows c.args.walk.now) it.visited g.V.Visitor.Refused before rows has _ c.in-Some.row _
-          (rw c.in-Some.is at (c.in_ok-row.ensures.told clean rows there)) _ _ fault same
+          (rw c.in-Some.is at (c.in_ok-row.ensures.answers clean rows there)) _ _ fault same
           (says.visited c.args.visitor.now (g.W.Sink.contents c.args.writer.now) it.visited.given it.visited.visited);
       ends = rw same (
         it.visited.given,
@@ -185,7 +185,7 @@ rows-preserved g c =
           (λ clean rows has.
           let there = still_has old mid history_table reference_table rows
           (it.still (clean_before mid new quiet clean)) has in
-          rw c.in-Some.is at (c.in_ok-row.ensures.told clean rows there))
+          rw c.in-Some.is at (c.in_ok-row.ensures.answers clean rows there))
           (c.in_ok-visit.ensures.visited c.args.visitor.now (g.W.Sink.contents c.args.writer.now) it.visited.given
           it.visited.visited);
     }
@@ -197,7 +197,7 @@ returns g c =
     let it = c.rows.invariant in
     record {
       same_reference = it.reference;
-      told = λ clean rows has.
+      answers = λ clean rows has.
           end_reading g.V.Visitor.Visited c.args.visitor.now (g.W.Sink.contents c.args.writer.now)
           old.now (λ rows. postings_to_come rows c.args.walk.now) it.visited g.V.Visitor.Refused clean rows has (Err (Bank (Damaged Value)))
           (inr (refl, omega (arith, it.visited.many, c.rows-test.false)));

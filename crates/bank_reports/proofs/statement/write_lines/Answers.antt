@@ -17,7 +17,7 @@ pub returns-in_err-put : goal.returns-in_err-put
 returns-in_err-put g c =
     let same : c.from_residual.result ≡ Err Write = search rules in
     record {
-      told = λ clean rows has.
+      answers = λ clean rows has.
           rw same (heading_err c.args.account c.args.form.now (filter (is_stated_of (Some c.args.account)) rows) _ _
           (same_part _ _ (c.as_str.ensures.value ∙ c.heading.ensures) c.in_err-put.ensures.err));
       flushed = rw same tt;
@@ -38,7 +38,7 @@ pub returns-in_err-put-2 : goal.returns-in_err-put-2
 returns-in_err-put-2 g c =
     let same : c.from_residual-in_err-put-2.result ≡ Err Write = search rules in
     record {
-      told = λ clean rows has.
+      answers = λ clean rows has.
           rw same (names_err c.args.account c.args.form.now (filter (is_stated_of (Some c.args.account)) rows) _ _
           (same_all _ _ (c.as_str.ensures.value ∙ c.heading.ensures) c.in_ok-put.ensures.ok) _
           (same_part _ _ (c.as_str-2.ensures.value ∙ c.names.ensures) c.in_err-put-2.ensures.err));
@@ -67,11 +67,11 @@ returns-in_err-visit_postings g c =
     let same : c.from_residual-in_err-visit_postings.result ≡ Err fault = search rules in
     let says = c.in_err-visit_postings.ensures in
     record {
-      told = λ clean rows has.
+      answers = λ clean rows has.
           rw same (postings_err c.args.account c.args.form.now (filter (is_stated_of (Some c.args.account)) rows) _ _
           (same_all _ _ (c.as_str.ensures.value ∙ c.heading.ensures) c.in_ok-put.ensures.ok) _
           (same_all _ _ (c.as_str-2.ensures.value ∙ c.names.ensures) c.in_ok-put-2.ensures.ok) _
-          fault (lines_in c.none-lines.ensures.form (says.told clean rows has)));
+          fault (lines_in c.none-lines.ensures.form (says.answers clean rows has)));
       flushed = rw same tt;
       failed = λ write.
           later_failed (more_more c.in_ok-put.ensures.more c.in_ok-put-2.ensures.more)
@@ -93,11 +93,11 @@ returns-in_err-put_last g c =
     let same : c.from_residual-in_err-put_last.result ≡ Err Write = search rules in
     let says = c.in_ok-visit_postings.ensures in
     record {
-      told = λ clean rows has.
+      answers = λ clean rows has.
           rw same (closing_err c.args.account c.args.form.now (filter (is_stated_of (Some c.args.account)) rows) _ _
           (same_all _ _ (c.as_str.ensures.value ∙ c.heading.ensures) c.in_ok-put.ensures.ok) _
           (same_all _ _ (c.as_str-2.ensures.value ∙ c.names.ensures) c.in_ok-put-2.ensures.ok) _
-          (lines_in c.none-lines.ensures.form (says.told clean rows has)) _
+          (lines_in c.none-lines.ensures.form (says.answers clean rows has)) _
           (same_part _ _ (c.as_str-3.ensures.value ∙ c.closing.ensures)
           c.in_err-put_last.ensures.err));
       flushed = rw same tt;
@@ -120,11 +120,11 @@ pub returns : goal.returns
 returns g c =
     let says = c.in_ok-visit_postings.ensures in
     record {
-      told = λ clean rows has.
+      answers = λ clean rows has.
           all_written c.args.account c.args.form.now (filter (is_stated_of (Some c.args.account)) rows) _ _
           (same_all _ _ (c.as_str.ensures.value ∙ c.heading.ensures) c.in_ok-put.ensures.ok) _
           (same_all _ _ (c.as_str-2.ensures.value ∙ c.names.ensures) c.in_ok-put-2.ensures.ok) _
-          (lines_in c.none-lines.ensures.form (says.told clean rows has)) _
+          (lines_in c.none-lines.ensures.form (says.answers clean rows has)) _
           (same_all _ _ (c.as_str-3.ensures.value ∙ c.closing.ensures)
           c.in_ok-put_last.ensures.ok);
       flushed =

@@ -30,8 +30,8 @@ returns-in_err-visit_postings g c =
     let same : c.from_residual.result ≡ Err fault = search rules in
     let says = c.in_err-visit_postings.ensures in
     record {
-      told = λ clean rows has.
-          let it = says.told clean rows has in
+      answers = λ clean rows has.
+          let it = says.answers clean rows has in
           let read = sums_read it in
           rw same record {
             summed = it.given;
@@ -62,8 +62,8 @@ returns g c =
     let second = c.write_lines.ensures in
     let before = λ (clean : HasCleanDisk new). clean_before mid new second.reads.survives clean in
     record {
-      told = λ clean rows has.
-          let it = first.told (before clean) rows has in
+      answers = λ clean rows has.
+          let it = first.answers (before clean) rows has in
           let read = sums_read it in
           let there = still_has old mid history_table reference_table rows (first.reads.still (before clean) tt) has in
           let summed = subst (λ (r : Range). HasSummed r c.visit_postings.new.visitor it.given)
@@ -81,7 +81,7 @@ returns g c =
                   (subst (λ (form : Form). WritesStatement c.args.account form all
                   (g.W.Sink.contents c.visit_postings.new.writer) (g.W.Sink.contents c.write_lines.new.writer)
                   c.write_lines.result)
-                  (c.of_sums-part.ensures c.args.range it.given summed) (second.told clean rows there)),
+                  (c.of_sums-part.ensures c.args.range it.given summed) (second.answers clean rows there)),
             );
           };
       flushed = on_ok_weaker c.write_lines.result (λ e. more_last IsFlush first.more e) second.flushed;

@@ -159,7 +159,7 @@ stated : (g : Over) (c : goal.After-write_open g)
     (g.W.Sink.contents c.args.writer.now) (g.W.Sink.contents c.write_open.new.writer) c.write_open.result
 stated g c clean rows has =
     let balance = rw c.in-Some.is at (c.in_ok-balance.ensures.stored (clean_at g c clean)) in
-    (c.in-Some.balance, balance, c.write_open.ensures.told clean rows (rows_at g c clean rows has))
+    (c.in-Some.balance, balance, c.write_open.ensures.answers clean rows (rows_at g c clean rows has))
 
 -- what is told of it where the bank shows a log
 told_of : (g : Over) (c : goal.After-write_open g)
@@ -177,7 +177,7 @@ told_of g c clean log s =
       is = same;
       all = filter (is_stated_of (Some c.args.account)) (stated_rows t);
       rows = account_rows _ t log c.args.account shown.are shown.shows;
-      told = c.write_open.ensures.told clean (stated_rows t) (has_stated _ t shown.are);
+      answers = c.write_open.ensures.answers clean (stated_rows t) (has_stated _ t shown.are);
       commands = shown.commands;
     }
 

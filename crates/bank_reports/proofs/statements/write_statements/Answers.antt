@@ -73,7 +73,7 @@ returns-in_err-visit_postings g c =
     let was_up = λ (down : (bank_seen g.S.Store c.args.bank.now).is_down).
     tested_up _ _ c.is_down.ensures c.if-is_down.false down in
     let written = λ (clean : HasCleanDisk new) (rows : List Pair) (has : HasPairs db history_table reference_table rows).
-    ungathered c.args.query fault (says.told clean rows has) in
+    ungathered c.args.query fault (says.answers clean rows has) in
     let on_log = λ (clean : HasCleanDisk new) (log : List Command) (s : ShowsLog (bank_seen g.S.Store c.args.bank.now) log).
     written clean (stated_rows s.tables) (has_stated db s.tables s.are) in
     record {
@@ -130,23 +130,23 @@ returns g c =
     let w = g.W.Sink.contents c.args.writer.now in
     let first = c.in_ok-visit_postings.ensures in
     let second = c.write_gathered.ensures in
-    let told = c.write_gathered.result in
+    let end = c.write_gathered.result in
     let silent = first.ends.1.silent in
     let was_up = λ (down : (bank_seen g.S.Store c.args.bank.now).is_down).
     tested_up _ _ c.is_down.ensures c.if-is_down.false down in
     let written = λ (clean : HasCleanDisk new) (rows : List Pair) (has : HasPairs db history_table reference_table rows).
-    gathered_then c.args.query (g.W.Sink.contents c.write_gathered.new.writer) told (first.told clean rows has)
+    gathered_then c.args.query (g.W.Sink.contents c.write_gathered.new.writer) end (first.answers clean rows has)
     second.written in
     let on_log = λ (clean : HasCleanDisk new) (log : List Command) (s : ShowsLog (bank_seen g.S.Store c.args.bank.now) log).
     written clean (stated_rows s.tables) (has_stated db s.tables s.are) in
-    let only = gathered_ends c.args.query _ _ _ told second.written in
+    let only = gathered_ends c.args.query _ _ _ end second.written in
     record {
       bank = record {
-        text = of_ok told (λ is clean log s.
+        text = of_ok end (λ is clean log s.
             all_whole log s.commands c.args.query (stated_rows s.tables) (all_rows db s.tables log s.are s.shows) w _
             (subst (λ r. WritesStatements c.args.query (stated_rows s.tables) w
             (g.W.Sink.contents c.write_gathered.new.writer) r) is (on_log clean log s)));
-        part = of_err told (λ fault is clean log s.
+        part = of_err end (λ fault is clean log s.
             all_part log s.commands c.args.query (stated_rows s.tables) (all_rows db s.tables log s.are s.shows) w _
             fault (subst (λ r. WritesStatements c.args.query (stated_rows s.tables) w
             (g.W.Sink.contents c.write_gathered.new.writer) r) is (on_log clean log s)));
@@ -168,7 +168,7 @@ returns g c =
           | inl missing ↦ absurd (only.found missing)
           | inr down ↦ absurd (was_up (first.reads.up down))
         ];
-        flushed = on_ok_weaker told (λ e. more_last IsFlush first.more e) second.flushed;
+        flushed = on_ok_weaker end (λ e. more_last IsFlush first.more e) second.flushed;
         failed = λ write. later_failed first.more (second.failed write);
       };
       memory = λ is. only.memory is ∙ silent;

@@ -14,7 +14,7 @@ returns-in-Ok g c =
     let same = sym c.over.ensures.conn in
     let found : HasCleanDisk new → BankIsFound old new =
     subst (λ h. HasCleanDisk (state g.S.Store h) → BankIsFound old (state g.S.Store h)) same
-    c.in-Ok.ensures.told in
+    c.in-Ok.ensures.answers in
     let quiet : Survives old new (λ _. ⊥) =
     subst (λ h. Survives old (state g.S.Store h) (λ _. ⊥)) same c.in-Ok.ensures.looks.survives in
     let up : IsSome c.over.result.fault → ⊥ =
@@ -35,18 +35,18 @@ returns-in-Err g c =
     let old = state g.S.Store c.args.conn in
     let new = state g.S.Store c.find_bank.new.conn in
     let fault = c.in-Err.fault in
-    let told = c.in-Err.ensures.told in
+    let answers = c.in-Err.ensures.answers in
     record {
       found = tt;
       alloc = tt;
-      missed = λ clean. (told clean).0;
+      missed = λ clean. (answers clean).0;
       cause = c.in-Err.ensures.looks.cause;
       back = record {
         idle = c.in-Err.ensures.looks.mode;
-        same = λ clean other. as_it_was old new fault (told clean).1 other;
-        undone = λ clean. undone_if_open old new fault (told clean).1;
+        same = λ clean other. as_it_was old new fault (answers clean).1 other;
+        undone = λ clean. undone_if_open old new fault (answers clean).1;
       };
-      known = λ clean log s. known old fault s.tables log (told clean).0 s.are s.commands s.shows;
+      known = λ clean log s. known old fault s.tables log (answers clean).0 s.are s.commands s.shows;
       remains = λ clean log at.
           still_left old new ⊥ ⊥ (λ _. ⊥) _ c.in-Err.ensures.looks.survives (λ left none. none) clean at.survives;
       survives = c.in-Err.ensures.looks.survives;

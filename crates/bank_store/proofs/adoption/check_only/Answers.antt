@@ -21,8 +21,8 @@ returns-in_default-clause-looks g c =
       survives = failed.reads.survives;
     }
 
-pub returns-clause-told : goal.returns-clause-told
-returns-clause-told g c clean =
+pub returns-clause-answers : goal.returns-clause-answers
+returns-clause-answers g c clean =
     let old = state g.S.Store c.args.conn.now in
     let new = state g.S.Store c.only_meta.new.conn in
     let m = c.in-Some.meta in
@@ -32,5 +32,5 @@ returns-clause-told g c clean =
     to_z-of_z w64 c.args.version c.ranges.version in
     only_counted c.args.version old new (read.reads.same clean).0 m
     (λ checks rows has.
-    subst (λ (o : Option StoredMeta). TellsOnly rows o) c.in-Some.is (read.told clean checks rows has))
+    subst (λ (o : Option StoredMeta). TellsOnly rows o) c.in-Some.is (read.answers clean checks rows has))
     (sym version ∙ (ap (to_z w64) c.if-meta-version.false ∙ wanted)) c.check_count.result c.check_count.ensures

@@ -18,10 +18,10 @@ returns-in_err-tables_there g c =
     let seen = c.tables_there.ensures.looks in
     let is : c.from_residual.result ≡ Err e.field-0.0 = search rules in
     record {
-      told =
+      answers =
           λ clean. subst (λ (r : Result (Unit {0}) OpenFault). SeeksTables old new r)
           (sym (is ∙ ap Err e.ensures.fault))
-          (tt, e.ensures.told clean);
+          (tt, e.ensures.answers clean);
       looks = rw is (record { cause = e.ensures.looks.cause; mode = seen.mode; survives = seen.survives });
     }
 
@@ -31,10 +31,10 @@ returns-in-Absent g c =
     let new = state g.S.Store c.tables_there.new.conn in
     let seen = c.tables_there.ensures.looks in
     record {
-      told =
+      answers =
           λ clean.
           subst (λ (p : Presence). IsPresent old.now all_probes p × IsAsBefore old new) c.in-Absent.is
-          (c.in_ok-tables_there.ensures.told clean);
+          (c.in_ok-tables_there.ensures.answers clean);
       looks = record { cause = tt; mode = seen.mode; survives = seen.survives };
     }
 
@@ -44,11 +44,11 @@ returns-in-Partial g c =
     let new = state g.S.Store c.tables_there.new.conn in
     let seen = c.tables_there.ensures.looks in
     record {
-      told =
+      answers =
           λ clean.
           let there =
           subst (λ (p : Presence). IsPresent old.now all_probes p × IsAsBefore old new) c.in-Partial.is
-          (c.in_ok-tables_there.ensures.told clean) in
+          (c.in_ok-tables_there.ensures.answers clean) in
           ((there.0, c.requires.ours (still_clean seen.survives clean)), there.1);
       looks = record { cause = tt; mode = seen.mode; survives = seen.survives };
     }
@@ -61,14 +61,14 @@ returns-in_err-settled_meta-in-Whole g c =
     let e = c.in_err-settled_meta-in-Whole in
     let is : c.from_residual-in_err-settled_meta-in-Whole.result ≡ Err e.field-0.0 = search rules in
     record {
-      told =
+      answers =
           λ clean.
           let there =
           subst (λ (p : Presence). IsPresent old.now all_probes p × IsAsBefore old mid) c.in-Whole.is
-          (c.in_ok-tables_there.ensures.told (still_clean e.ensures.looks.survives clean)) in
+          (c.in_ok-tables_there.ensures.answers (still_clean e.ensures.looks.survives clean)) in
           subst (λ (r : Result (Unit {0}) OpenFault). SeeksTables old new r) (sym is)
           (missed old mid new there.1 (Misses old) tt (λ none other. (there.0, none, other)) e.field-0.0
-          e.ensures.reads.fault (e.ensures.reads.told clean) (e.ensures.reads.other clean) (e.ensures.same clean));
+          e.ensures.reads.fault (e.ensures.reads.answers clean) (e.ensures.reads.other clean) (e.ensures.same clean));
       looks =
           rw is (looks_then g.S.Store c.args.conn.now c.tables_there.new.conn c.settled_meta.new.conn
           (Err e.field-0.0) (Err e.field-0.0) (λ knows. knows) c.tables_there.ensures.looks.survives e.ensures.looks);
@@ -81,12 +81,12 @@ returns-in-None g c =
     let new = state g.S.Store c.settled_meta.new.conn in
     let read = c.in_ok-settled_meta-in-Whole.ensures in
     record {
-      told =
+      answers =
           λ clean.
           let there =
           subst (λ (p : Presence). IsPresent old.now all_probes p × IsAsBefore old mid) c.in-Whole.is
-          (c.in_ok-tables_there.ensures.told (still_clean read.looks.survives clean)) in
-          looked old mid new None there.0 there.1 (λ rows has. sym c.in-None.is ∙ read.reads.told clean rows has)
+          (c.in_ok-tables_there.ensures.answers (still_clean read.looks.survives clean)) in
+          looked old mid new None there.0 there.1 (λ rows has. sym c.in-None.is ∙ read.reads.answers clean rows has)
           (read.same clean) (Err (Damaged Meta)) (inl refl);
       looks =
           looks_then g.S.Store c.args.conn.now c.tables_there.new.conn c.settled_meta.new.conn c.settled_meta.result
@@ -101,12 +101,12 @@ returns-in-Some g c =
     let read = c.in_ok-settled_meta-in-Whole.ensures in
     let meta = Some c.in-Some.meta in
     record {
-      told =
+      answers =
           λ clean.
           let there =
           subst (λ (p : Presence). IsPresent old.now all_probes p × IsAsBefore old mid) c.in-Whole.is
-          (c.in_ok-tables_there.ensures.told (still_clean read.looks.survives clean)) in
-          looked old mid new meta there.0 there.1 (λ rows has. sym c.in-Some.is ∙ read.reads.told clean rows has)
+          (c.in_ok-tables_there.ensures.answers (still_clean read.looks.survives clean)) in
+          looked old mid new meta there.0 there.1 (λ rows has. sym c.in-Some.is ∙ read.reads.answers clean rows has)
           (read.same clean) c.check_meta.result c.check_meta.ensures;
       looks =
           looks_then g.S.Store c.args.conn.now c.tables_there.new.conn c.settled_meta.new.conn c.settled_meta.result

@@ -10,8 +10,8 @@ use Rattle.posting_rules.specs.declared.open_fault.OpenFault.{OpenFault, TheVari
 use Rattle.bank_store.proofs.{Causes.looks_then, Causes.still_clean, FoundBank.other_read}
 use Rattle.bank_store.proofs.adoption.refuse_other_version.Goals as goal
 
-pub returns-in-Ok-Some-clause-told : goal.returns-in-Ok-Some-clause-told
-returns-in-Ok-Some-clause-told g c clean =
+pub returns-in-Ok-Some-clause-answers : goal.returns-in-Ok-Some-clause-answers
+returns-in-Ok-Some-clause-answers g c clean =
     let old = state g.S.Store c.args.conn.now in
     let mid = state g.S.Store c.count_tables.new.conn in
     let new = state g.S.Store c.settled_meta.new.conn in
@@ -19,10 +19,10 @@ returns-in-Ok-Some-clause-told g c clean =
     let m = row.meta in
     let there =
     subst (λ (p : Presence). IsPresent old.now (map probe_of (Meta ∷ [])) p × IsAsBefore old mid) c.in-Whole.is
-    (c.in_ok-count_tables.ensures.told (still_clean c.settled_meta.ensures.looks.survives clean)) in
+    (c.in_ok-count_tables.ensures.answers (still_clean c.settled_meta.ensures.looks.survives clean)) in
     let same : to_z w64 (of_z w64 m.version) ≡ m.version = search rules in
     other_read old mid new m (to_z w64 (of_z w64 m.version)) there.0.0 there.1
-    (λ rows has. sym row.field-0-is ∙ row.ensures.reads.told clean rows has) (row.ensures.same clean) same
+    (λ rows has. sym row.field-0-is ∙ row.ensures.reads.answers clean rows has) (row.ensures.same clean) same
     (λ one. c.if-meta-ne-VERSION.true (ap (of_z w64) (sym same ∙ one)))
 
 pub returns-in-Err-Store-clause-looks : goal.returns-in-Err-Store-clause-looks

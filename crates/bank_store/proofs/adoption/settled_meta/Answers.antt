@@ -16,13 +16,13 @@ returns-in-Ok g c =
     let asked = c.probe_table.ensures.survives in
     record {
       reads = record {
-        told = λ clean. read.reads.told (still_clean asked clean);
+        answers = λ clean. read.reads.answers (still_clean asked clean);
         fault = read.reads.fault;
         other = λ clean. read.reads.other (still_clean asked clean);
       };
       same =
           λ clean.
-          let still = (probed (s mid) (s new) (probe_of Meta) c.in-Ok.field-0 (c.in-Ok.ensures.told clean)
+          let still = (probed (s mid) (s new) (probe_of Meta) c.in-Ok.field-0 (c.in-Ok.ensures.answers clean)
           (c.in-Ok.ensures.text clean)).1 in
           read_only (s old) (s new) c.stored_meta-meta.result
           (as_before (s old) (s mid) (s new) (read.undone (still_clean asked clean) still.was_open) still);
@@ -40,12 +40,12 @@ returns-in-Err g c =
     let read = c.stored_meta-meta.ensures in
     let asked = c.probe_table.ensures.survives in
     record {
-      reads = record { told = λ clean rows has. tt; fault = inl refl; other = λ clean. tt };
+      reads = record { answers = λ clean rows has. tt; fault = inl refl; other = λ clean. tt };
       same =
           λ clean.
           back (s old) (s mid) (s new) c.in-Err.field-0 c.note_settled.ensures
           (read.undone (still_clean asked clean)) (c.probe_table.ensures.mode read.looks.mode ∙ sym c.requires)
-          (c.in-Err.ensures.told clean);
+          (c.in-Err.ensures.answers clean);
       looks =
           fails_then g.S.Store old mid new (λ _. ⊥) c.stored_meta-meta.result read.looks (probe_of Meta)
           c.in-Err.field-0 c.in-Err.ensures;

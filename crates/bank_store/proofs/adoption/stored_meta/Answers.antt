@@ -17,15 +17,15 @@ returns-clause-reads g c =
     let midway : HasCleanDisk (state g.S.Store c.conn-2-1.given.0) → HasCleanDisk (state g.S.Store then) =
     λ clean. still_clean c.drop-tx-2.ensures.survives (rw same clean) in
     record {
-      told = λ clean rows has.
+      answers = λ clean rows has.
           let begun : HoldsRows (state g.S.Store at).now meta rows = rw c.begin-tx.ensures.begun has in
-          rw c.unread.ensures.told
+          rw c.unread.ensures.answers
           (read_err (state g.S.Store at) (state g.S.Store then) (meta_in rows) c.in-Err.fault
-          (c.in-Err.ensures.says.told (midway clean) rows begun));
+          (c.in-Err.ensures.says.answers (midway clean) rows begun));
       fault = c.unread.ensures.fault;
       other = λ clean.
-          let told = other_value _ c.in-Err.fault (c.in-Err.ensures.other (midway clean)) in
-          rw c.unread.ensures.told (rw c.begin-tx.ensures.begun at told);
+          let answers = other_value _ c.in-Err.fault (c.in-Err.ensures.other (midway clean)) in
+          rw c.unread.ensures.answers (rw c.begin-tx.ensures.begun at answers);
     }
 
 pub returns-clause-looks : goal.returns-clause-looks
@@ -38,7 +38,7 @@ returns-clause-looks g c =
     rw c.begin-tx.ensures.begun (begun_after g.S.Store old true) in
     let ended = c.drop-tx-2.ensures.survives in
     record {
-      cause = rw (c.unread.ensures.told, ← same)
+      cause = rw (c.unread.ensures.answers, ← same)
           (known_within g.S.Store old at then c.drop-tx-2.new.self.0 begun (still_clean ended) (comes ended)
           (unread_by c.in-Err.fault)
           (read_failed g.S.Store at then c.in-Err.fault (λ clean. (c.in-Err.ensures.says.leaves clean).1)));

@@ -27,7 +27,7 @@ pieces-init g c = record {
   mode = c.requires.idle;
   still = λ clean. (refl, refl, refl, refl);
   survives = nothing_called (state g.S.Store c.args.conn.now);
-  told = λ clean all has.
+  answers = λ clean all has.
       rw (after_key c.args.after (pos c.args.after) refl c.requires.after)
       (none_yet (items_from kept_key (pos (c.args.after + 1)) all) c.args.entries.now.items);
 }
@@ -65,11 +65,11 @@ pieces-preserved g c =
       mode = c.kept_outside.ensures.mode;
       still = λ clean. still_then (state g.S.Store old) (state g.S.Store mid) (state g.S.Store new) (it.still (before clean)) (piece.same clean);
       survives = quiet_then (state g.S.Store old) (state g.S.Store mid) (state g.S.Store new) it.survives c.kept_outside.ensures.survives;
-      told = λ clean all has.
+      answers = λ clean all has.
           rw whole (piece_goes_on _ _ _ rows c.pieces.left c.in_ok-later.later _ _ _ (omega (arith, it.count))
-          (it.told (before clean) all has)
+          (it.answers (before clean) all has)
           (rw (c.in-Some.is, sym c.as_slice.ensures.value)
-          at (piece.told clean all (there g old mid all (it.still (before clean)) has)))
+          at (piece.answers clean all (there g old mid all (it.still (before clean)) has)))
           put.put put.each put.left (omega (arith, c.if-later-eq0.false)));
     }
 
@@ -85,7 +85,7 @@ returns-in_err-rest g c =
     let before = λ (clean : HasCleanDisk (state g.S.Store new)).
     clean_before (state g.S.Store mid) (state g.S.Store new) piece.survives clean in
     rw same (record {
-      told = tt;
+      answers = tt;
       cause = λ clean. fault_within (IsFirstBroken g.S.Store) g.S.Store old mid new new fault
           (λ rule broken. subst (IsBroken rule) (it.still (before clean)).0 broken) (comes it.survives)
           (same_moment (state g.S.Store new)) (c.in_err-rest.ensures.cause clean);
@@ -111,13 +111,13 @@ returns-in_err-later g c =
     let still = λ (clean : HasCleanDisk (state g.S.Store new)).
     still_then (state g.S.Store old) (state g.S.Store mid) (state g.S.Store new) (it.still (before clean)) (piece.same clean) in
     rw same (record {
-      told = tt;
+      answers = tt;
       cause = λ clean.
           subst (IsFault (IsFirstBroken g.S.Store) g.S.Store old new) (sym damage.0)
           (subst (IsBroken Request) (it.still (before clean)).0
           (no_request_broken g.S.Store mid new (to_z w64 c.pieces.from-bits) (map kept_item c.as_slice.result.now)
           (λ all. items_after kept_key c.in_ok-rest.rest all)
-          (λ all has. rw (sym c.as_slice.ensures.value) at (piece.told clean all has)) damage.1));
+          (λ all has. rw (sym c.as_slice.ensures.value) at (piece.answers clean all has)) damage.1));
       same = λ clean. tt;
       undone = λ clean. still_undone (state g.S.Store old) (state g.S.Store new) (still clean);
       mode = piece.mode;
@@ -139,11 +139,11 @@ returns-in_default g c =
     let still = λ (clean : HasCleanDisk (state g.S.Store new)).
     still_then (state g.S.Store old) (state g.S.Store mid) (state g.S.Store new) (it.still (before clean)) (piece.same clean) in
     record {
-      told = λ clean all has.
+      answers = λ clean all has.
           piece_ends _ _ _ rows c.pieces.left c.in_ok-later.later _ _ _ (omega (arith, it.count))
-          (it.told (before clean) all has)
+          (it.answers (before clean) all has)
           (rw (c.in_default.is, sym c.as_slice.ensures.value)
-          at (piece.told clean all (there g old mid all (it.still (before clean)) has)))
+          at (piece.answers clean all (there g old mid all (it.still (before clean)) has)))
           put.put put.each put.left (inl refl);
       cause = λ clean. tt;
       same = still;
@@ -166,11 +166,11 @@ returns-then-later-eq0 g c =
     let still = λ (clean : HasCleanDisk (state g.S.Store new)).
     still_then (state g.S.Store old) (state g.S.Store mid) (state g.S.Store new) (it.still (before clean)) (piece.same clean) in
     record {
-      told = λ clean all has.
+      answers = λ clean all has.
           piece_ends _ _ _ rows c.pieces.left c.in_ok-later.later _ _ _ (omega (arith, it.count))
-          (it.told (before clean) all has)
+          (it.answers (before clean) all has)
           (rw (sym c.as_slice.ensures.value)
-          at (piece.told clean all (there g old mid all (it.still (before clean)) has)))
+          at (piece.answers clean all (there g old mid all (it.still (before clean)) has)))
           put.put put.each put.left (inr c.if-later-eq0.true);
       cause = λ clean. tt;
       same = still;

@@ -20,7 +20,7 @@ invariant-pieces g l =
       mode : l.conn.in_transaction ≡ false;
       still : HasCleanDisk now → IsStill old now;
       survives : Survives old now (λ _. ⊥);
-      told : HasCleanDisk now → (all : List KeptItem) → HoldsKept old.now all
+      answers : HasCleanDisk now → (all : List KeptItem) → HoldsKept old.now all
           → SoFar (items_from kept_key (pos (l.fn.after + 1)) all) (items_from kept_key l.from all)
           (ENTRIES_PER_ANSWER - l.left) l.fn.entries.items l.entries.items;
     }

@@ -19,7 +19,7 @@ returns-in_err-read_entries g c =
     let it = c.read_entries.ensures in
     rw same (record {
       says = reads_failed g.S.Store old new fault it.mode it.undone it.survives c.in_err-read_entries.ensures.cause;
-      told = tt;
+      answers = tt;
       stored = tt;
       still = tt;
       left = quiet_also (state g.S.Store old) (state g.S.Store new) _ it.survives;
@@ -39,7 +39,7 @@ returns-in_err-decided g c =
     rw same (record {
       says = failed_by g.S.Store old new fault
           (reads_then g.S.Store old mid new c.read_entries.ensures.survives one.same (Err fault) two.says);
-      told = tt;
+      answers = tt;
       stored = tt;
       still = tt;
       left = left_since g.S.Store old mid new c.read_entries.ensures.survives one.same (Err fault) two.says two.left;
@@ -61,7 +61,7 @@ returns g c =
       says = answered_by g.S.Store old new n (nat_le c.args.after n)
           (λ t is. ap (nat_le c.args.after) is)
           (reads_then g.S.Store old mid new c.read_entries.ensures.survives one.same (Ok n) two.says);
-      told = λ clean all has. one.told (clean_mid clean) all has;
+      answers = λ clean all has. one.answers (clean_mid clean) all has;
       stored = λ clean.
           subst (OfRows (λ rows. (decided : ℕ) → HoldsDecided rows decided
           → nat_le c.args.after n ≡ nat_le c.args.after decided)) (one.same (clean_mid clean)).0

@@ -13,7 +13,7 @@ returns-in-Err-clause-says g c =
     let here = c.in-Err.ensures.says in
     record {
       same_reference = here.same_reference;
-      told = λ clean live. rw c.unmoved.ensures (refused_unmoved c.args.from _ _ c.in-Err.e (here.told clean live));
+      answers = λ clean live. rw c.unmoved.ensures (refused_unmoved c.args.from _ _ c.in-Err.e (here.answers clean live));
       leaves = λ clean live. here.leaves clean live;
       survives = here.survives;
     }
@@ -34,11 +34,11 @@ returns-in-Ok-true-clause-says g c =
     let two = c.in-Ok-true.ensures in
     record {
       same_reference = two.same_reference ∙ one.same_reference;
-      told = λ clean live.
+      answers = λ clean live.
           let before = still_clean two.survives clean in
           let shows = one.leaves before live in
-          let set = two.told clean shows.mode in
-          moved c.args.from (s old) (s mid) (s new) (one.told before live).0 (rw c.in-Ok-true.field-0-test at set)
+          let set = two.answers clean shows.mode in
+          moved c.args.from (s old) (s mid) (s new) (one.answers before live).0 (rw c.in-Ok-true.field-0-test at set)
           (two.leaves clean shows.mode).1;
       leaves = λ clean live.
           let shows = one.leaves (still_clean two.survives clean) live in
@@ -56,11 +56,11 @@ returns-in-Ok-false-clause-says g c =
     let two = c.in-Ok-false.ensures in
     record {
       same_reference = two.same_reference ∙ one.same_reference;
-      told = λ clean live.
+      answers = λ clean live.
           let before = still_clean two.survives clean in
           let shows = one.leaves before live in
-          let set = two.told clean shows.mode in
-          not_there c.args.from (s old) (s mid) (s new) (one.told before live).0 (rw c.in-Ok-false.field-0-test at set);
+          let set = two.answers clean shows.mode in
+          not_there c.args.from (s old) (s mid) (s new) (one.answers before live).0 (rw c.in-Ok-false.field-0-test at set);
       leaves = λ clean live.
           let shows = one.leaves (still_clean two.survives clean) live in
           commits_nothing (s old) (s new)

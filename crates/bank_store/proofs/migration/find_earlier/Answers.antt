@@ -24,10 +24,10 @@ returns-in_default g c =
     let old = state g.S.Store c.args.conn.now in
     let new = state g.S.Store c.count_tables.new.conn in
     record {
-      told = λ clean.
-          let told = of_earlier c.args.from c.after_meta.result.now old new c.in_ok-count_tables.field-0
-          c.after_meta.ensures (there.told clean) in
-          (some_lacking c.args.from old.now c.in_ok-count_tables.field-0 c.in_default.not-Whole told.0, told.1);
+      answers = λ clean.
+          let answers = of_earlier c.args.from c.after_meta.result.now old new c.in_ok-count_tables.field-0
+          c.after_meta.ensures (there.answers clean) in
+          (some_lacking c.args.from old.now c.in_ok-count_tables.field-0 c.in_default.not-Whole answers.0, answers.1);
       looks = record { cause = tt; mode = there.looks.mode; survives = there.looks.survives };
     }
 
@@ -39,21 +39,21 @@ returns-in_err-settled_meta g c =
     let e = c.in_err-settled_meta in
     let is : c.from_residual-in_err-settled_meta.result ≡ Err e.field-0.0 = search rules in
     rw is (record {
-      told = λ clean.
+      answers = λ clean.
           let there =
           subst (λ (p : Presence). IsPresent old.now (earlier_probes c.args.from) p × IsAsBefore old mid) c.in-Whole.is
           (of_earlier c.args.from c.after_meta.result.now old mid c.in_ok-count_tables.field-0 c.after_meta.ensures
-          (c.in_ok-count_tables.ensures.told (still_clean e.ensures.looks.survives clean))) in
+          (c.in_ok-count_tables.ensures.answers (still_clean e.ensures.looks.survives clean))) in
           missed old mid new there.1 (MissesEarlier c.args.from old.now) tt (λ none other. (there.0, none, other))
-          e.field-0.0 e.ensures.reads.fault (e.ensures.reads.told clean) (e.ensures.reads.other clean)
+          e.field-0.0 e.ensures.reads.fault (e.ensures.reads.answers clean) (e.ensures.reads.other clean)
           (e.ensures.same clean);
       looks =
           looks_then g.S.Store c.args.conn.now c.count_tables.new.conn c.settled_meta.new.conn (Err e.field-0.0)
           (Err e.field-0.0) (λ knows. knows) c.count_tables.ensures.looks.survives e.ensures.looks;
     })
 
-pub returns-in-Some-clause-told : goal.returns-in-Some-clause-told
-returns-in-Some-clause-told g c clean =
+pub returns-in-Some-clause-answers : goal.returns-in-Some-clause-answers
+returns-in-Some-clause-answers g c clean =
     let old = state g.S.Store c.args.conn.now in
     let mid = state g.S.Store c.count_tables.new.conn in
     let new = state g.S.Store c.settled_meta.new.conn in
@@ -61,6 +61,6 @@ returns-in-Some-clause-told g c clean =
     let there =
     subst (λ (p : Presence). IsPresent old.now (earlier_probes c.args.from) p × IsAsBefore old mid) c.in-Whole.is
     (of_earlier c.args.from c.after_meta.result.now old mid c.in_ok-count_tables.field-0 c.after_meta.ensures
-    (c.in_ok-count_tables.ensures.told (still_clean read.looks.survives clean))) in
+    (c.in_ok-count_tables.ensures.answers (still_clean read.looks.survives clean))) in
     counted c.args.from old mid new there.0 there.1 (read.same clean) c.in-Some.meta
-    (λ rows has. sym c.in-Some.is ∙ read.reads.told clean rows has) c.check_count.result c.check_count.ensures
+    (λ rows has. sym c.in-Some.is ∙ read.reads.answers clean rows has) c.check_count.result c.check_count.ensures

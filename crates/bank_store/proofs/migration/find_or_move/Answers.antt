@@ -15,12 +15,12 @@ use Rattle.bank_store.proofs.migration.find_or_move.Goals as goal
 moves_on : {S X Y : Type 0} (g : Ghosts S) (old mid new : Held S) (version : ℤ) (from : ℕ) → IsFrom version from
     → (fault : OpenFault) → fault ≡ Version version
     → (HasCleanDisk (state g mid) → SeeksBank (state g old) (state g mid) (Err fault))
-    → Survives (state g old) (state g mid) (λ _. ⊥) → (told : Result X OpenFault)
-    → IsOpenCall g mid new (HasMoved from (state g mid).now) told → (result : Result Y OpenFault)
-    → (IfErr told (KnowsCause g old new) → IfErr result (KnowsCause g old new))
+    → Survives (state g old) (state g mid) (λ _. ⊥) → (inner : Result X OpenFault)
+    → IsOpenCall g mid new (HasMoved from (state g mid).now) inner → (result : Result Y OpenFault)
+    → (IfErr inner (KnowsCause g old new) → IfErr result (KnowsCause g old new))
     → IsOpenCall g old new (HasCarriedOver (state g old)) result
-moves_on g old mid new version from is fault tells looked first told moves result answers =
-    call_then g old mid new told result answers first (HasMoved from (state g mid).now) (HasCarriedOver (state g old))
+moves_on g old mid new version from is fault tells looked first inner moves result answers =
+    call_then g old mid new inner result answers first (HasMoved from (state g mid).now) (HasCarriedOver (state g old))
     (λ clean left moved.
     let found = subst (λ (f : OpenFault). SeeksBank (state g old) (state g mid) (Err f)) tells
     (looked (still_clean moves.survives clean)) in (
@@ -42,14 +42,14 @@ returns-in_err-move_found-in-Some g c =
     let e = c.in_err-move_found-in-Some in
     let is : c.from_residual.result ≡ Err e.field-0.0 = search rules in
     rw is (record {
-      told = λ clean.
+      answers = λ clean.
           unmoved_at c.in-Some.from (s old) (s mid) (s new) first.version from
           (subst (λ (f : OpenFault). SeeksBank (s old) (s mid) (Err f)) first.field-0-is
-          (first.ensures.told (still_clean e.ensures.call.survives clean))) e.field-0.0 (e.ensures.told clean);
+          (first.ensures.answers (still_clean e.ensures.call.survives clean))) e.field-0.0 (e.ensures.answers clean);
       from = tt;
       call =
           moves_on g.S.Store old mid new first.version c.in-Some.from from first.field-0 first.field-0-is
-          first.ensures.told first.ensures.looks.survives (Err e.field-0.0) e.ensures.call (Err e.field-0.0)
+          first.ensures.answers first.ensures.looks.survives (Err e.field-0.0) e.ensures.call (Err e.field-0.0)
           (λ knows. knows);
     })
 
@@ -59,5 +59,5 @@ returns-in_ok-move_found-in-Some-clause-call g c =
     let same : to_z w64 (of_z w64 first.version) ≡ first.version = search rules in
     let from : IsFrom first.version c.in-Some.from = rw same at c.in-Some.ensures.some in
     moves_on g.S.Store c.args.conn.now c.find_bank.new.conn c.move_found.new.conn first.version c.in-Some.from from
-    first.field-0 first.field-0-is first.ensures.told first.ensures.looks.survives c.move_found.result
+    first.field-0 first.field-0-is first.ensures.answers first.ensures.looks.survives c.move_found.result
     c.move_found.ensures.call _ (λ _. tt)

@@ -14,7 +14,7 @@ returns-in-Ok-clause-migrated g c =
     is_migrated g.S.Store c.args.conn c.over.result
     (λ some. (let none = c.over.ensures.up in let h = rw none at some in cc)) c.in-Ok.migrated
     (subst (λ h. HasCleanDisk (state g.S.Store h) → Migrates old (state g.S.Store h) (Ok c.in-Ok.migrated)) same
-    here.told) here.from
+    here.answers) here.from
     (subst (λ h. Survives old (state g.S.Store h) (HasCarriedOver old)) same here.call.survives)
 
 pub returns-in-Ok-clause-known : goal.returns-in-Ok-clause-known
@@ -24,25 +24,25 @@ returns-in-Ok-clause-known g c =
     knows_migrated g.S.Store c.args.conn c.over.result
     (λ some. (let none = c.over.ensures.up in let h = rw none at some in cc)) c.in-Ok.migrated
     (subst (λ h. HasCleanDisk (state g.S.Store h) → Migrates old (state g.S.Store h) (Ok c.in-Ok.migrated))
-    (sym c.over.ensures.conn) here.told) here.from
+    (sym c.over.ensures.conn) here.answers) here.from
 
 pub returns-in-Err-clause-misplaced : goal.returns-in-Err-clause-misplaced
-returns-in-Err-clause-misplaced g c clean = (c.in-Err.ensures.told clean).0
+returns-in-Err-clause-misplaced g c clean = (c.in-Err.ensures.answers clean).0
 
 pub returns-in-Err-clause-back : goal.returns-in-Err-clause-back
 returns-in-Err-clause-back g c =
     let old = state g.S.Store c.args.conn in
     let new = state g.S.Store c.find_or_move.new.conn in
-    let told = c.in-Err.ensures.told in
+    let answers = c.in-Err.ensures.answers in
     record {
       idle = c.in-Err.ensures.call.mode;
-      same = λ clean other. as_it_was old new c.in-Err.fault (told clean).1 other;
-      undone = λ clean. undone_if_open old new c.in-Err.fault (told clean).1;
+      same = λ clean other. as_it_was old new c.in-Err.fault (answers clean).1 other;
+      undone = λ clean. undone_if_open old new c.in-Err.fault (answers clean).1;
     }
 
 pub returns-in-Err-clause-known : goal.returns-in-Err-clause-known
 returns-in-Err-clause-known g c =
-    knows_refused g.S.Store c.args.conn _ (λ clean. (c.in-Err.ensures.told clean).0)
+    knows_refused g.S.Store c.args.conn _ (λ clean. (c.in-Err.ensures.answers clean).0)
 
 pub returns-in-Err-clause-remains : goal.returns-in-Err-clause-remains
 returns-in-Err-clause-remains g c = leaves_bank g.S.Store c.args.conn _ c.in-Err.ensures.call.survives

@@ -20,17 +20,17 @@ returns-in_err-change_tables g c =
     let is = c.begin-tx.ensures.begun in
     let same : new ≡ c.conn-1.given.0 = search rules in
     let e = c.in_err-change_tables in
-    let told : c.from_residual.result ≡ Err e.field-0.0 = search rules in
+    let answers : c.from_residual.result ≡ Err e.field-0.0 = search rules in
     let ended = c.drop-tx.ensures.survives in
     record {
       moved = search rules;
       undone = search rules;
-      why = rw (told, ← same) (λ clean.
+      why = rw (answers, ← same) (λ clean.
           from_begun c.args.from g.S.Store old at last new is (λ db. IsUnmoved c.args.from db e.field-0.0)
-          (e.ensures.says.told (still_clean ended clean) (live c.args.from g.S.Store old at last new is)));
+          (e.ensures.says.answers (still_clean ended clean) (live c.args.from g.S.Store old at last new is)));
       call = record {
         cause =
-            rw (told, ← same)
+            rw (answers, ← same)
             (known_within g.S.Store old at last new (rw is (begun_after g.S.Store old true)) (still_clean ended)
             (comes ended) e.field-0.0 (e.ensures.cause (live c.args.from g.S.Store old at last new is)));
         mode = rw (← same) c.drop-tx.ensures.ended;
@@ -66,7 +66,7 @@ returns-in-Err g c =
             ));
         mode = c.commit.ensures.ended;
         survives =
-            stops c.args.from g.S.Store old at last new is changed.survives c.in-Err.ensures.survives changed.told;
+            stops c.args.from g.S.Store old at last new is changed.survives c.in-Err.ensures.survives changed.answers;
       });
     }
 
@@ -77,7 +77,7 @@ returns-in-Ok g c =
     record {
       moved = rw (← same) (λ clean.
           bank_moved c.args.from g.S.Store c.args.conn.now c.begin-tx.result.conn.now
-          c.change_tables.new.tx.conn.now c.commit.new.tx.0 c.begin-tx.ensures.begun changed.told
+          c.change_tables.new.tx.conn.now c.commit.new.tx.0 c.begin-tx.ensures.begun changed.answers
           (still_clean c.commit.ensures.survives clean)
           (λ t shows. (c.in-Ok.ensures.ok clean t shows).0) (λ t shows. c.in-Ok.ensures.alone clean t shows)
           (c.in-Ok.ensures.same clean));
@@ -88,6 +88,6 @@ returns-in-Ok g c =
         mode = c.commit.ensures.ended;
         survives =
             stops c.args.from g.S.Store c.args.conn.now c.begin-tx.result.conn.now c.change_tables.new.tx.conn.now
-            c.commit.new.tx.0 c.begin-tx.ensures.begun changed.survives c.in-Ok.ensures.survives changed.told;
+            c.commit.new.tx.0 c.begin-tx.ensures.begun changed.survives c.in-Ok.ensures.survives changed.answers;
       });
     }

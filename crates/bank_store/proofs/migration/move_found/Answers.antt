@@ -18,18 +18,18 @@ returns-in_err-check_only g c =
     let version : to_z w64 c.args.from ≡ pos c.args.from =
     as_integer c.args.from c.args.from refl (omega (arith, c.requires.earlier.1)) in
     rw is (record {
-      told = λ clean.
-          let found = c.in_ok-find_earlier.ensures.told (still_clean e.ensures.looks.survives clean) in
+      answers = λ clean.
+          let found = c.in_ok-find_earlier.ensures.answers (still_clean e.ensures.looks.survives clean) in
           not_only c.args.from (s old) (s mid) (s new) found.0 found.1 e.field-0.0
-          (rw version at (e.ensures.told clean));
+          (rw version at (e.ensures.answers clean));
       call =
           call_then g.S.Store old mid new (Err e.field-0.0) (Err e.field-0.0) (λ knows. knows)
           c.find_earlier.ensures.looks.survives (λ _. ⊥) (HasMoved c.args.from (s old).now)
           (λ clean left none. absurd none) e.ensures.looks;
     })
 
-pub returns-clause-told : goal.returns-clause-told
-returns-clause-told g c clean =
+pub returns-clause-answers : goal.returns-clause-answers
+returns-clause-answers g c clean =
     let s = state g.S.Store in
     let old = s c.args.conn.now in
     let mid = s c.find_earlier.new.conn in
@@ -37,11 +37,11 @@ returns-clause-told g c clean =
     let new = s c.move_settled.new.conn in
     let here = c.move_settled.ensures in
     let checked_clean = still_clean here.moves.call.survives clean in
-    let found = c.in_ok-find_earlier.ensures.told
+    let found = c.in_ok-find_earlier.ensures.answers
     (still_clean c.check_only.ensures.looks.survives checked_clean) in
     let version : to_z w64 c.args.from ≡ pos c.args.from =
     as_integer c.args.from c.args.from refl (omega (arith, c.requires.earlier.1)) in
-    let one = rw version at (c.in_ok-check_only.ensures.told checked_clean) in
+    let one = rw version at (c.in_ok-check_only.ensures.answers checked_clean) in
     found_moves c.args.from old at new (with_only c.args.from old mid found.0 found.1 one.0)
     (as_before old mid at found.1 one.1) c.move_settled.result (here.moves.moved clean) (here.moves.why clean)
     (here.same clean)
@@ -60,11 +60,11 @@ returns-clause-call g c =
     (HasMoved c.args.from (s mid).now) (HasMoved c.args.from (s old).now)
     (λ clean left moved.
     let before = still_clean checks.survives (still_clean moves.call.survives clean) in
-    let found = c.in_ok-find_earlier.ensures.told before in
+    let found = c.in_ok-find_earlier.ensures.answers before in
     subst (λ (db : Database). HasMoved c.args.from db left) found.1.now_is moved)
     (call_then g.S.Store mid at new result result (λ knows. knows) checks.survives
     (HasMoved c.args.from (s at).now) (HasMoved c.args.from (s mid).now)
     (λ clean left moved.
-    let one = c.in_ok-check_only.ensures.told (still_clean moves.call.survives clean) in
+    let one = c.in_ok-check_only.ensures.answers (still_clean moves.call.survives clean) in
     subst (λ (db : Database). HasMoved c.args.from db left) one.1.now_is moved)
     moves.call)

@@ -22,7 +22,7 @@ returns-in_default-probe_table-clause-moves g c =
           λ clean.
           back (s old) (s mid) (s new) c.in_default-probe_table.field-0 c.note_settled.ensures
           (tried.undone (still_clean asked.survives clean)) (asked.mode tried.call.mode ∙ sym c.requires.mode)
-          (c.in_default-probe_table.ensures.told clean);
+          (c.in_default-probe_table.ensures.answers clean);
       why = λ clean. tt;
       call =
           fails_then g.S.Store old mid new (HasMoved c.args.from (s old).now) (Err c.in-Err.fault) tried.call
@@ -45,7 +45,7 @@ returns-clause-moves g c =
       moved = λ clean. tt;
       undone =
           λ clean is_open.
-          let still = (probed (s mid) (s new) (probe_of Meta) c.in-Ok.field-0 (c.in-Ok.ensures.told clean)
+          let still = (probed (s mid) (s new) (probe_of Meta) c.in-Ok.field-0 (c.in-Ok.ensures.answers clean)
           (c.in-Ok.ensures.text clean)).1 in
           as_before (s old) (s mid) (s new) (tried.undone (still_clean asked clean) still.was_open) still;
       why = λ clean. tried.why (still_clean asked clean);
@@ -58,6 +58,6 @@ pub returns-clause-same : goal.returns-clause-same
 returns-clause-same g c clean =
     let s = state g.S.Store in
     let still = (probed (s c.move_bank.new.conn) (s c.probe_table.new.conn) (probe_of Meta) c.in-Ok.field-0
-    (c.in-Ok.ensures.told clean) (c.in-Ok.ensures.text clean)).1 in
+    (c.in-Ok.ensures.answers clean) (c.in-Ok.ensures.text clean)).1 in
     read_only (s c.args.conn.now) (s c.probe_table.new.conn) {X = Unit {0}} (Err c.in-Err.fault)
     ((returns-clause-moves g c).undone clean still.is_open)

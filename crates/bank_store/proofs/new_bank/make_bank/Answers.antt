@@ -22,7 +22,7 @@ returns-in-Absent-clause-blank g c clean =
     let midway : HasCleanDisk mid = omega (arith, c.make_settled.ensures.makes.survives.clean) in
     let there =
     subst (λ (p : Presence). IsPresent old.now all_probes p × IsAsBefore old mid) c.in-Absent.is
-    (c.in_ok-tables_there.ensures.told midway) in
+    (c.in_ok-tables_there.ensures.answers midway) in
     on_ok _ there.0 c.make_settled.result
 
 pub returns-in-Absent-clause-makes : goal.returns-in-Absent-clause-makes
@@ -35,7 +35,7 @@ returns-in-Absent-clause-makes g c = record {
       let old = state g.S.Store c.args.conn.now in
       let mid = state g.S.Store c.tables_there.new.conn in
       let midway : HasCleanDisk mid = omega (arith, c.make_settled.ensures.makes.survives.clean) in
-      let there = c.in_ok-tables_there.ensures.told midway in
+      let there = c.in_ok-tables_there.ensures.answers midway in
       if_err (λ fault. fault ≡ NotBlank → IsRefusedOnTheWay mid) (λ fault. fault ≡ NotBlank → IsTaken old)
       (λ fault refused taken. inr (refused_before old mid there.1.now_is
       c.tables_there.ensures.looks.survives.limit (refused taken)))
@@ -60,7 +60,7 @@ returns-in_default-clause-makes g c = record {
   refused =
       λ clean taken. inl (some_there (state g.S.Store c.args.conn.now).now c.in_ok-tables_there.field-0
       c.in_default.not-Absent
-      (c.in_ok-tables_there.ensures.told clean).0);
+      (c.in_ok-tables_there.ensures.answers clean).0);
   cause = tt;
   survives = search rules;
   mode = search rules;
@@ -90,10 +90,10 @@ returns-in-Absent-clause-same g c clean =
     let midway : HasCleanDisk mid = omega (arith, c.make_settled.ensures.makes.survives.clean) in
     let there =
     subst (λ (p : Presence). IsPresent old.now all_probes p × IsAsBefore old mid) c.in-Absent.is
-    (c.in_ok-tables_there.ensures.told midway) in
+    (c.in_ok-tables_there.ensures.answers midway) in
     if_err (LeavesAll mid new) (LeavesAll old new)
     (λ fault same taken. as_before old mid new there.1 (same taken)) c.make_settled.result
     (c.make_settled.ensures.same clean)
 
 pub returns-in_default-clause-same : goal.returns-in_default-clause-same
-returns-in_default-clause-same g c clean = λ taken. (c.in_ok-tables_there.ensures.told clean).1
+returns-in_default-clause-same g c clean = λ taken. (c.in_ok-tables_there.ensures.answers clean).1

@@ -25,7 +25,7 @@ returns-in_default-probe_table-clause-makes g c =
           λ clean.
           back (s old) (s mid) (s new) c.in_default-probe_table.field-0 c.note_settled.ensures
           (tried.undone (still_clean asked clean)) (mode ∙ sym c.requires)
-          (c.in_default-probe_table.ensures.told clean);
+          (c.in_default-probe_table.ensures.answers clean);
       fault = inl refl;
       refused = λ clean taken. absurd (let it = taken in cc);
       cause =
@@ -51,7 +51,7 @@ returns-clause-makes g c =
       made = λ clean. tt;
       undone =
           λ clean is_open.
-          let still = (probed (s mid) (s new) (probe_of Meta) c.in-Ok.field-0 (c.in-Ok.ensures.told clean)
+          let still = (probed (s mid) (s new) (probe_of Meta) c.in-Ok.field-0 (c.in-Ok.ensures.answers clean)
           (c.in-Ok.ensures.text clean)).1 in
           as_before (s old) (s mid) (s new) (tried.undone (still_clean asked clean) still.was_open) still;
       fault = tried.fault;

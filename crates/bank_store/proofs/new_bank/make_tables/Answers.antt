@@ -27,7 +27,7 @@ returns-in-Err g c =
           subst (λ h. IsRefusedOnTheWay (state g.S.Store h)) c.begin-tx.ensures.begun
           (refused_because (state g.S.Store c.begin-tx.result.conn.now)
           (state g.S.Store c.create_tables.new.tx.conn.now) c.in-Err.e c.unmade.result
-          c.unmade.ensures.told (c.in-Err.ensures.told midway live) taken);
+          c.unmade.ensures.answers (c.in-Err.ensures.answers midway live) taken);
       cause =
           let old = c.args.conn.now in
           let at = c.begin-tx.result.conn.now in
@@ -36,10 +36,10 @@ returns-in-Err g c =
           rw c.begin-tx.ensures.begun (begun_after g.S.Store old true) in
           let live : at.in_transaction ≡ true = ap (λ h. h.in_transaction) c.begin-tx.ensures.begun in
           let ended = c.drop-tx.ensures.survives in
-          rw (c.unmade.ensures.told, ← same)
+          rw (c.unmade.ensures.answers, ← same)
           (unmade_within g.S.Store old at then c.drop-tx.new.self.0 begun (still_clean ended) (comes ended)
           (unmade_by c.in-Err.e)
-          (making_failed g.S.Store at then c.in-Err.e (λ clean. c.in-Err.ensures.told clean live)));
+          (making_failed g.S.Store at then c.in-Err.e (λ clean. c.in-Err.ensures.answers clean live)));
       survives = search rules;
       mode = rw (← same) c.drop-tx.ensures.ended;
     }

@@ -13,10 +13,10 @@ pub loop-table-init : goal.loop-table-init
 loop-table-init g c =
     let here = c.in-Ok.ensures in
     record {
-      told = λ clean. rw c.of-there.ensures
+      answers = λ clean. rw c.of-there.ensures
           (probed (state g.S.Store c.args.conn.now) (state g.S.Store c.probe_table.new.conn) (probe_of c.args.first)
           c.in-Ok.is_there
-          (here.told clean) (here.text clean));
+          (here.answers clean) (here.text clean));
       looks = record { cause = tt; mode = here.mode c.requires; survives = here.survives };
     }
 
@@ -30,22 +30,22 @@ loop-table-preserved g c =
     let is = c.in-Ok-probe_table.is_there in
     let here = c.in-Ok-probe_table.ensures in
     record {
-      told = λ clean. rw (c.and-there.ensures, c.of.ensures)
+      answers = λ clean. rw (c.and-there.ensures, c.of.ensures)
           (subst (λ ps. IsPresent (state g.S.Store old).now ps (joined there (presence_of is))
           × IsAsBefore (state g.S.Store old) (state g.S.Store new))
           (sym (next_probe c.args.first others at _ c.loop-table-test.true))
           (one_more g.S.Store old c.loop-table.conn new (probe_of c.args.first)
           (map probe_of (take at others)) _ there is
-          (c.loop-table.invariant.told (still_clean here.survives clean)) here clean));
+          (c.loop-table.invariant.answers (still_clean here.survives clean)) here clean));
       looks = record { cause = tt; mode = here.mode c.loop-table.invariant.looks.mode; survives = search rules };
     }
 
-pub returns-clause-told : goal.returns-clause-told
-returns-clause-told g c clean =
+pub returns-clause-answers : goal.returns-clause-answers
+returns-clause-answers g c clean =
     let others = c.args.others.now in
     let all : c.loop-table.table-index ≡ length others =
     omega (arith, c.loop-table-test.false, c.loop-table.auto.table-index-end) in
-    let so_far = rw all at (c.loop-table.invariant.told clean) in
+    let so_far = rw all at (c.loop-table.invariant.answers clean) in
     rw (take-length others) at so_far
 
 pub returns-in_default-clause-looks : goal.returns-in_default-clause-looks

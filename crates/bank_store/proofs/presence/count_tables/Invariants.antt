@@ -10,7 +10,7 @@ invariant-loop-table g l =
     let old = state g.S.Store l.fn.conn in
     let new = state g.S.Store l.conn in
     record {
-      told : HasCleanDisk new
+      answers : HasCleanDisk new
           → IsPresent old.now (map probe_of (l.fn.first ∷ take l.table-index l.fn.others)) l.there
           × IsAsBefore old new;
       looks : LooksIn g.S.Store l.fn.conn l.conn (Ok l.there);

@@ -76,12 +76,12 @@ returns-clause-idle g c clean records made t shows so none =
       | then-judged-before+in_ok-write w ↦
           let before : HasCleanDisk (state g.S.Store c.fill.new.tx.conn.now) = omega
           (arith, w.in_ok-write.ensures.does.says.survives.clean, rw w.tx-is at clean) in
-          let told = reads.says.told before t shows so in
-          absurd (w.if-judged-before.true (counts_none it first t so told none))
+          let answers = reads.says.answers before t shows so in
+          absurd (w.if-judged-before.true (counts_none it first t so answers none))
       | else-judged-before w ↦
-          let told = reads.says.told (rw w.tx-is at clean) t shows so in
+          let answers = reads.says.answers (rw w.tx-is at clean) t shows so in
           rw w.tx-is (record {
-            leads = it.back (omega (arith, w.if-judged-before.false)) t so told;
+            leads = it.back (omega (arith, w.if-judged-before.false)) t so answers;
             stays = (fill.says.says.leaves (rw w.tx-is at clean)).0;
           })
     ]

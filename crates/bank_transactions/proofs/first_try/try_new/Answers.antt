@@ -20,7 +20,7 @@ returns-in_err-probe_table-clause-says g c =
     c.conn-1.given.0 c.probe_table.new.conn c.begin-tx.ensures.begun c.begin-tx.ensures.settled
     c.in-Ok-Again.ensures.quiet (rw back at c.rollback.ensures.undone) (rw back at c.rollback.ensures.survives)
     (c.probe_table.ensures.mode (rw back at c.rollback.ensures.ended)) c.probe_table.ensures.survives
-    c.in_err-probe_table.field-0.0 (λ clean. rw c.in_err-probe_table.was at c.probe_table.ensures.told clean))
+    c.in_err-probe_table.field-0.0 (λ clean. rw c.in_err-probe_table.was at c.probe_table.ensures.answers clean))
 
 pub returns-clause-says : goal.returns-clause-says
 returns-clause-says g c =
@@ -99,8 +99,8 @@ returns-clause-remembers g c =
 -- a probe changes nothing, whether it is understood or not
 unchanged_by : (old new : State) (table : Table) (is_understood : Bool) → TellsProbe old new table (Ok is_understood)
     → IsUnchanged old new
-unchanged_by old new table true told = told.1
-unchanged_by old new table false told = told.1
+unchanged_by old new table true answers = answers.1
+unchanged_by old new table false answers = answers.1
 
 pub returns-in-Ok-Again-clause-remembers : goal.returns-in-Ok-Again-clause-remembers
 returns-in-Ok-Again-clause-remembers g c =
@@ -112,5 +112,5 @@ returns-in-Ok-Again-clause-remembers g c =
     (as_before g.S.Store c.args.conn.now c.begin-tx.result c.answer_new-tried.new.tx c.conn-1.given.0
     c.probe_table.new.conn c.begin-tx.ensures.begun c.begin-tx.ensures.settled c.in-Ok-Again.ensures.quiet
     (rw back at c.rollback.ensures.undone) left (c.probe_table.ensures.mode (rw back at c.rollback.ensures.ended)) more
-    (λ clean. unchanged_by _ _ _ c.in_ok-probe_table.field-0 (c.in_ok-probe_table.ensures.told clean)))
+    (λ clean. unchanged_by _ _ _ c.in_ok-probe_table.field-0 (c.in_ok-probe_table.ensures.answers clean)))
     (λ clean. omega (arith, left.clean, more.clean, clean)) (rw c.in-Ok-Again.field-0-is at c.in-Ok-Again.ensures.recalls)

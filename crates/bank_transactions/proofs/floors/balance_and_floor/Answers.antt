@@ -37,7 +37,7 @@ pub returns-clause-says : goal.returns-clause-says
 returns-clause-says g c =
     let key = c.branch_of_account.ensures in
     reads_so (reads_pair c.in_ok-balance.ensures.says c.in_ok-floor.ensures.says)
-    (λ t sound. (sound, λ told. told ∙ ap (λ k. (account_balance_in t c.args.account, floor_in t k)) key))
+    (λ t sound. (sound, λ answers. answers ∙ ap (λ k. (account_balance_in t c.args.account, floor_in t k)) key))
 
 pub returns-then-is_below-clause-says : goal.returns-then-is_below-clause-says
 returns-then-is_below-clause-says g c =

@@ -25,7 +25,7 @@ returns-in_err-row-clause-says g c =
 -- so damage is told where no bank's rows are held
 no_bank : (n : ℕ) (row : Option BranchRow) (is : Bool) → (IfSome row (λ r. r.branch ≡ n) → is ≡ true) → is ≡ false
     → (rows : StoredRows) → FindsStored (row_under rows.branches n) read_branch (Ok row) → ⊥
-no_bank n row is told other rows finds = let it = sym other ∙ told (its_row rows n row finds) in cc
+no_bank n row is answers other rows finds = let it = sym other ∙ answers (its_row rows n row finds) in cc
 
 pub returns-then-not-is_its-clause-says : goal.returns-then-not-is_its-clause-says
 returns-then-not-is_its-clause-says g c =
@@ -33,12 +33,12 @@ returns-then-not-is_its-clause-says g c =
     (recall_tells (λ rows. row_under rows.branches c.args.branch) read_branch _ c.in_ok-row.ensures.recalls
     (λ t sound finds. branch_found t c.args.branch sound _ finds))
     (λ clean rows has keeps. no_bank c.args.branch c.in_ok-row.row c.is_its.result c.is_its.ensures.1 c.if-not-is_its.true
-    rows (c.in_ok-row.ensures.recalls.told clean rows has))
+    rows (c.in_ok-row.ensures.recalls.answers clean rows has))
 
 pub returns-then-not-is_its-clause-stored : goal.returns-then-not-is_its-clause-stored
 returns-then-not-is_its-clause-stored g c clean rows has =
     absurd (no_bank c.args.branch c.in_ok-row.row c.is_its.result c.is_its.ensures.1 c.if-not-is_its.true
-    rows (c.in_ok-row.ensures.recalls.told clean rows has))
+    rows (c.in_ok-row.ensures.recalls.answers clean rows has))
 
 pub returns-clause-says : goal.returns-clause-says
 returns-clause-says g c =

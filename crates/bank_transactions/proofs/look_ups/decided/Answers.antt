@@ -33,7 +33,7 @@ returns-in_err-meta-clause-says g c =
 pub returns-in_default-clause-says : goal.returns-in_default-clause-says
 returns-in_default-clause-says g c =
     reads_broken Meta (looked_at c.in_ok-meta.ensures.says) (λ clean.
-    meta_broken _ _ None (rw c.in_default.is at (c.in_ok-meta.ensures.says.told clean))
+    meta_broken _ _ None (rw c.in_default.is at (c.in_ok-meta.ensures.says.answers clean))
     (λ n version is most. let no = is in cc))
 
 not_negative : (z : ℤ) (n : ℕ) → z ≡ pos n → int_lt z (pos 0) ≡ true → ⊥
@@ -47,7 +47,7 @@ pub returns-then-meta-lt0-clause-says : goal.returns-then-meta-lt0-clause-says
 returns-then-meta-lt0-clause-says g c =
     let m = c.in-Some.meta in
     reads_broken Meta (looked_at c.in_ok-meta.ensures.says) (λ clean.
-    meta_broken _ _ (Some m) (rw c.in-Some.is at (c.in_ok-meta.ensures.says.told clean)) (λ n version found most.
+    meta_broken _ _ (Some m) (rw c.in-Some.is at (c.in_ok-meta.ensures.says.answers clean)) (λ n version found most.
     let same : to_z w64 (of_z w64 m.decided) ≡ m.decided = search rules in
     let is : to_z w64 (of_z w64 m.decided) ≡ pos n = same ∙ decided_of m n version found in
     elim c.then-meta-lt0.branch [
@@ -59,11 +59,11 @@ returns-then-meta-lt0-clause-says g c =
 pub returns-clause-says : goal.returns-clause-says
 returns-clause-says g c = record {
   says = record {
-    told = λ clean t shows sound.
+    answers = λ clean t shows sound.
         let m = c.in-Some.meta in
-        let told = c.in_ok-meta.ensures.says.told clean (meta_entry VERSION t.decided ∷ []) (has_one _ t shows) in
+        let answers = c.in_ok-meta.ensures.says.answers clean (meta_entry VERSION t.decided ∷ []) (has_one _ t shows) in
         let same : to_z w64 (of_z w64 m.decided) ≡ m.decided = search rules in
-        ap nat_abs (same ∙ row_is m t.decided (sym c.in-Some.is ∙ told.0));
+        ap nat_abs (same ∙ row_is m t.decided (sym c.in-Some.is ∙ answers.0));
     same_reference = search rules;
     leaves = search rules;
     survives = search rules;
@@ -83,10 +83,10 @@ pub returns-clause-stored : goal.returns-clause-stored
 returns-clause-stored g c = λ clean rows has.
     let m = c.in-Some.meta in
     let same : to_z w64 (of_z w64 m.decided) ≡ m.decided = search rules in
-    let told = (c.in_ok-meta.ensures.says.told clean rows.meta
+    let answers = (c.in_ok-meta.ensures.says.answers clean rows.meta
     (record { sound = has.sound; holds = has.each.0 })).0 in (
       m.version,
-      sym told ∙ c.in-Some.is
+      sym answers ∙ c.in-Some.is
           ∙ with_decided m _ (sym same ∙ whole (to_z w64 (of_z w64 m.decided)) c.if-meta-lt0.false),
     )
 

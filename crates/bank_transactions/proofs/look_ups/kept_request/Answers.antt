@@ -53,7 +53,7 @@ pub returns-clause-stored : goal.returns-clause-stored
 returns-clause-stored g c clean rows has =
     let mid : HasCleanDisk (state g.S.Store c.find_request.new.tx.conn.now) =
     omega (arith, c.in_ok-reference.ensures.says.says.survives.clean, clean) in
-    let found = rw c.in-Some.is at ((c.in_ok-row.ensures.says.told mid rows has).0) in
+    let found = rw c.in-Some.is at ((c.in_ok-row.ensures.says.answers mid rows has).0) in
     let there = subst (λ (db : Database). HoldsBank db rows) (sym (c.in_ok-row.ensures.says.leaves mid).0.now_is) has in
     subst (λ (kept : KeptFields). HoldsKept rows c.args.teller c.args.number (Some kept))
     (sym c.kept_with.ensures)

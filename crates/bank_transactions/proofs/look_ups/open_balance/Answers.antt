@@ -33,7 +33,7 @@ returns-then-is_some-is_open-clause-says g c =
     subst (λ (k : ℕ). FindsStored (branch_under rows k) read_branch (Ok c.in_ok-branch.branch))
     c.branch_of_account.ensures (c.in_ok-branch.ensures.stored clean rows there) in
     let same = fitting rows n c.in_ok-balance.balance c.in_ok-branch.branch
-    (c.in_ok-balance.ensures.looks_up.told mid rows has).0 branch (keeps.1 n some most) in
+    (c.in_ok-balance.ensures.looks_up.answers mid rows has).0 branch (keeps.1 n some most) in
     search rules)
 
 pub returns-clause-says : goal.returns-clause-says
@@ -55,7 +55,7 @@ pub returns-clause-stored : goal.returns-clause-stored
 returns-clause-stored g c clean =
     let mid : HasCleanDisk (state g.S.Store c.balance_of.new.tx.conn.now) =
     omega (arith, c.in_ok-branch.ensures.says.says.survives.clean, clean) in
-    let looked = c.in_ok-balance.ensures.looks_up.told mid in
+    let looked = c.in_ok-balance.ensures.looks_up.answers mid in
     let still = (c.in_ok-balance.ensures.looks_up.leaves mid).0.now_is in
     record {
       found = λ rows has. (looked rows has).0;

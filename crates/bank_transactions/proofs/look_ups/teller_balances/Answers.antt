@@ -76,7 +76,7 @@ pub returns-in-Some-Some-clause-stored : goal.returns-in-Some-Some-clause-stored
 returns-in-Some-Some-clause-stored g c clean =
     let mid : HasCleanDisk (state g.S.Store c.balance_of.new.tx.conn.now) =
     omega (arith, c.in_ok-branch.ensures.says.says.survives.clean, clean) in
-    let teller = rw c.in-Some-Some.is-0 at (c.in_ok-balance.ensures.looks_up.told mid) in
+    let teller = rw c.in-Some-Some.is-0 at (c.in_ok-balance.ensures.looks_up.answers mid) in
     let branch = rw c.in-Some-Some.is-1 at (c.in_ok-branch.ensures.stored clean) in
     stored _ _ c.args.teller c.branch_of_teller.result c.branch_of_teller.ensures
     (c.in_ok-balance.ensures.looks_up.leaves mid).0.now_is (Some c.in-Some-Some.balance) (Some c.in-Some-Some.branch)
@@ -86,7 +86,7 @@ pub returns-in-None-None-clause-stored : goal.returns-in-None-None-clause-stored
 returns-in-None-None-clause-stored g c clean =
     let mid : HasCleanDisk (state g.S.Store c.balance_of.new.tx.conn.now) =
     omega (arith, c.in_ok-branch.ensures.says.says.survives.clean, clean) in
-    let teller = rw c.in-None-None.is-0 at (c.in_ok-balance.ensures.looks_up.told mid) in
+    let teller = rw c.in-None-None.is-0 at (c.in_ok-balance.ensures.looks_up.answers mid) in
     let branch = rw c.in-None-None.is-1 at (c.in_ok-branch.ensures.stored clean) in
     stored _ _ c.args.teller c.branch_of_teller.result c.branch_of_teller.ensures
     (c.in_ok-balance.ensures.looks_up.leaves mid).0.now_is None None (λ rows has. (teller rows has).0) branch refl

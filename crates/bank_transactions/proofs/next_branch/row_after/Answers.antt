@@ -18,7 +18,7 @@ returns-in_err-row-clause-says g c =
 pub returns-then-get-from-clause-says : goal.returns-then-get-from-clause-says
 returns-then-get-from-clause-says g c = reads_broken Value (looked_at c.in_ok-row.ensures.looks_up) (λ clean.
     above_broken _ c.args.after c.in-Some.row
-    (λ rows has. (rw c.in-Some.is at (c.in_ok-row.ensures.looks_up.told clean rows has).0))
+    (λ rows has. (rw c.in-Some.is at (c.in_ok-row.ensures.looks_up.answers clean rows has).0))
     (λ above. omega (arith, c.from.ensures, c.get.ensures.value, c.if-get-from.true)))
 
 pub returns-in_default-clause-says : goal.returns-in_default-clause-says

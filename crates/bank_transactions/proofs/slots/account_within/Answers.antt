@@ -41,7 +41,7 @@ returns-then-is_some-is_open-clause-stored g c =
 pub returns-clause-stored : goal.returns-clause-stored
 returns-clause-stored g c clean rows has beside =
     account_held rows c.args.account c.in_ok-balance.balance c.args.floor c.args.branch
-    (c.in_ok-balance.ensures.recalls.told clean rows has) beside (search rules) (search rules)
+    (c.in_ok-balance.ensures.recalls.answers clean rows has) beside (search rules) (search rules)
 
 -- ---- what is remembered
 

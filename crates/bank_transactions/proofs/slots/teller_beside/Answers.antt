@@ -24,4 +24,4 @@ no_balance t n sound none =
 pub returns-in-None-clause-says : goal.returns-in-None-clause-says
 returns-in-None-clause-says g c =
     reads_so c.in_ok-balance.ensures.says
-    (λ t sound. (sound, λ told. no_balance t c.args.teller sound (sym c.in-None.is ∙ told)))
+    (λ t sound. (sound, λ answers. no_balance t c.args.teller sound (sym c.in-None.is ∙ answers)))

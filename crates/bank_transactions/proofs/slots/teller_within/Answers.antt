@@ -39,7 +39,7 @@ returns-then-is_some-clause-stored g c =
 pub returns-clause-stored : goal.returns-clause-stored
 returns-clause-stored g c clean rows has branch =
     teller_held rows c.args.teller c.in_ok-balance.balance c.args.branch
-    (c.in_ok-balance.ensures.recalls.told clean rows has) branch (search rules)
+    (c.in_ok-balance.ensures.recalls.answers clean rows has) branch (search rules)
 
 -- ---- what is remembered
 

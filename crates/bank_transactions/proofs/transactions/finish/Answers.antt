@@ -8,7 +8,7 @@ returns-in_err-answer g c =
     rw (same, c.in_err-answer.was) record {
       mode = c.drop-tx.ensures.ended;
       given = tt;
-      told = λ clean. (refl, c.drop-tx.ensures.undone clean);
+      answers = λ clean. (refl, c.drop-tx.ensures.undone clean);
       survives = c.drop-tx.ensures.survives;
     }
 
@@ -18,6 +18,6 @@ returns g c =
     rw c.in_ok-answer.was record {
       mode = done.ended;
       given = refl;
-      told = λ clean. (done.same clean, λ t shows. ((done.ok clean t shows).0, done.alone clean t shows));
+      answers = λ clean. (done.same clean, λ t shows. ((done.ok clean t shows).0, done.alone clean t shows));
       survives = done.survives;
     }

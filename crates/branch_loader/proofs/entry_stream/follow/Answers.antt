@@ -154,7 +154,7 @@ pub returns-in_err-take_all : goal.returns-in_err-take_all
 returns-in_err-take_all g c =
     let it = c.reads.invariant in
     let fault = c.in_err-take_all.field-0.0 in
-    let told = err_from_is_err_and c.from_residual.result c.from_residual.ensures.1 in
+    let is = err_from_is_err_and c.from_residual.result c.from_residual.ensures.1 in
     let long : length c.fill_buffer.new.buffer ≡ BUFFER = omega (arith, c.fill_buffer.auto.buffer, it.room) in
     let on =
     read_on _ _ _ (joined (entries_of it.entries)) c.reads.buffer c.fill_buffer.new.buffer c.reads.filled
@@ -164,7 +164,7 @@ returns-in_err-take_all g c =
       | in-Err w ↦ inr (w.in-Err.ensures.err, w.filled-is)
     ]) in
     let bytes = take c.match-fill_buffer.filled c.fill_buffer.new.buffer in
-    rw (told.1, told.2)
+    rw (is.1, is.2)
     (broke_off g.C.Counter.seen g.C.Counter.spares g.C.Counter.reason c.args.plan.now _ _ _ _ c.args.bank.now
     c.take_all.new.counter it.entries c.as_chunks.result.0.now bytes c.as_chunks.result.1.now c.reads.count
     c.take_all.new.self.waiting c.take_all.new.self.looked.items on.0

@@ -8,4 +8,4 @@ returns-clause-plan c =
     c.from_reader-records.ensures.source c.from_reader-records.ensures.state)
 
 pub returns-clause-read : goal.returns-clause-read
-returns-clause-read c is = not_csv c.read_rows-plan.result _ _ c.read_rows-plan.ensures.told is
+returns-clause-read c is = not_csv c.read_rows-plan.result _ _ c.read_rows-plan.ensures.calls is

@@ -57,22 +57,22 @@ returns-in_err-row-clause-plan g c all left =
     let p = err_from_is_err_and c.from_residual-in_err-row.result c.from_residual-in_err-row.ensures.1 in
     rw (p.1, p.2) (tells-fault (plan_of_records all) c.in_err-row.field-0.0 fault)
 
-pub returns-in_err-row-clause-told : goal.returns-in_err-row-clause-told
-returns-in_err-row-clause-told g c =
+pub returns-in_err-row-clause-calls : goal.returns-in_err-row-clause-calls
+returns-in_err-row-clause-calls g c =
     let p = err_from_is_err_and c.from_residual-in_err-row.result c.from_residual-in_err-row.ensures.1 in
     rw (p.1, p.2) (row_told c.in-Some.has_floors c.rows.rows.items (fields_of c.next_record-in-rows.new.fields)
     c.in_err-row.field-0.0 _ _
     (sym (rw c.as_slice.ensures.value at c.in_err-row.ensures)))
 
-pub returns-in_err-next_record-2-clause-told : goal.returns-in_err-next_record-2-clause-told
-returns-in_err-next_record-2-clause-told g c =
+pub returns-in_err-next_record-2-clause-calls : goal.returns-in_err-next_record-2-clause-calls
+returns-in_err-next_record-2-clause-calls g c =
     let p = err_from_is_err_and c.from_residual-in_err-next_record-2.result
     c.from_residual-in_err-next_record-2.ensures.1 in
     rw (p.1, p.2) (fault_told _ _ _ c.in_err-next_record-2.field-0.0 c.in_err-next_record-2.ensures.fault
     c.in_err-next_record-2.ensures.failed c.rows.invariant.more)
 
-pub returns-in_err-map_err-clause-told : goal.returns-in_err-map_err-clause-told
-returns-in_err-map_err-clause-told g c =
+pub returns-in_err-map_err-clause-calls : goal.returns-in_err-map_err-clause-calls
+returns-in_err-map_err-clause-calls g c =
     let refused : c.in_err-map_err.field-0.0 ≡ Memory = search rules in
     let p = err_from_is_err_and c.from_residual-in_err-map_err.result
     c.from_residual-in_err-map_err.ensures.1 in

@@ -5,12 +5,12 @@ use Rattle.arrayvec.specs.declared.array_string.ArrayString.{ArrayString}
 use Rattle.command_line.specs.Lines.{fault_line}
 use Rattle.command_line.proofs.lines.told_text.Goals as goal
 
-abbrev Took : ArrayString 160 → List ℕ → ArrayString 160 → Type 0
-Took s bytes t = t.bytes ≡ s.bytes ++ bytes
+abbrev Appended : ArrayString 160 → List ℕ → ArrayString 160 → Type 0
+Appended s bytes t = t.bytes ≡ s.bytes ++ bytes
 
 pub returns-in-Ok : goal.returns-in-Ok
 returns-in-Ok c =
     inl (
-    contents_after_writes Took (λ line. line.bytes) (λ s bytes t is. is) _ _ _ c.in-Ok.ensures.writes
+    contents_after_writes Appended (λ line. line.bytes) (λ s bytes t is. is) _ _ _ c.in-Ok.ensures.writes
     ∙ ap (λ (bytes : List ℕ). bytes ++ fault_line c.args.fault.now) c.new-line.ensures
     )

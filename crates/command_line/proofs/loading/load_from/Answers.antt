@@ -25,12 +25,12 @@ returns-in_err-plan g c =
 pub returns-in_err-loaded : goal.returns-in_err-loaded
 returns-in_err-loaded g c =
     let fault = c.in_err-loaded.field-0.0 in
-    let told = c.in_err-loaded.ensures.fault in
+    let ended = c.in_err-loaded.ensures.fault in
     let same : c.from_residual-in_err-loaded.result ≡ Err (fault_of_bank fault) = search rules in
     let it = refused g.C.Counter.seen g.C.Counter.reason (g.W.Sink.contents c.args.output.now)
     (g.W.Sink.calls c.args.output.now) c.args.bank.now
     c.load.new.counter _ _ fault same c.in_ok-plan.ensures
-    (record { answered = told.0; after = told.1; why = c.in_err-loaded.ensures.why }) in
+    (record { answered = ended.0; after = ended.1; why = c.in_err-loaded.ensures.why }) in
     record {
       loads = it.loads;
       line = it.line;

@@ -17,16 +17,16 @@ returns-in_err-matches g c =
     let words = map g.S.AsStr.text c.args.words.now in
     let given = map g.S.AsStr.text c.own_words.result.now in
     let error = c.in_err-matches.field-0.0 in
-    let told = err_from_is_err_and c.from_residual.result c.from_residual.ensures.1 in
+    let is = err_from_is_err_and c.from_residual.result c.from_residual.ensures.1 in
     let as_given : FailsBy (fault_of bank_app given) c.from_residual.result = search rules in
     let fails : FailsBy (fault_of bank_app (words_read words)) c.from_residual.result =
     subst (λ (w : List Text). FailsBy (fault_of bank_app w) c.from_residual.result) c.own_words.ensures as_given in
     let taken = taken_as_read error words
     (λ takes_read. c.in_err-matches.ensures.taken (ap (takes bank_app) c.own_words.ensures ∙ takes_read)) in
     record {
-      command = rw told.1 tt;
-      ranges = rw told.1 tt;
-      taken = rw (told.1, told.2) taken;
+      command = rw is.1 tt;
+      ranges = rw is.1 tt;
+      taken = rw (is.1, is.2) taken;
       fault = fails_as_read c.from_residual.result words fails;
       help = help_given c.from_residual.result words fails;
     }
@@ -40,10 +40,10 @@ returns g c =
     let name = c.in-Some.name.now in
     let rows = rows_of (found_of c.in-Some.values.now) in
     let met = met_rows c.in_ok-matches.matches name rows c.in-Some.ensures.name c.in-Some.ensures.rows in
-    let told : subcommand_of bank_app words ≡ Some (name, rows) =
+    let asked : subcommand_of bank_app words ≡ Some (name, rows) =
     ap (subcommand_of bank_app) (sym same) ∙ (sym c.in_ok-matches.ensures.matches ∙ met) in
     record {
-      command = rw told c.command_of.ensures.command;
+      command = rw asked c.command_of.ensures.command;
       ranges = c.command_of.ensures.ranges;
       taken = tt;
       fault = ap (fault_of bank_app) (sym (same_at_none words none)) ∙ none;

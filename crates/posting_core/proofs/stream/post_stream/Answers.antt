@@ -124,7 +124,7 @@ returns-in-Ok-eq0-2 g c =
 pub returns-in_err-reply_to_batch : goal.returns-in_err-reply_to_batch
 returns-in_err-reply_to_batch g c =
     let fault = c.in_err-reply_to_batch.field-0.0 in
-    let told = err_from_is_err_and c.from_residual.result c.from_residual.ensures.1 in
+    let is = err_from_is_err_and c.from_residual.result c.from_residual.ensures.1 in
     let a = c.in_err-reply_to_batch.ensures.answers in
     let long : length c.fill_buffer_beside.new.buffer ≡ BUFFER = omega
     (arith, c.fill_buffer_beside.auto.buffer, c.reads.invariant.room) in
@@ -158,7 +158,7 @@ returns-in_err-reply_to_batch g c =
     c.fill_buffer_beside.ensures.beside
     (gave ∙ omega (arith, c.as_chunks.ensures.front_len, c.as_chunks.ensures.back_len, len))
     (omega (arith, c.as_chunks.ensures.back_len))) in
-    rw (told.1, told.2) (record {
+    rw (is.1, is.2) (record {
       streams = streams_of g.C.Counter.seen g.C.Counter.reason c.args.bank.now c.reply_to_batch.new.bank _ s
           (refused_broken g.C.Counter.seen g.C.Counter.reason c.args.bank.now c.reads.bank
           c.reply_to_batch.new.bank _ _ fault a.0 _ _ c.as_chunks.result.0.now on.0 cut
@@ -173,7 +173,7 @@ returns-in_err-reply_to_batch g c =
           (idle_after g.C.Counter.seen c.args.bank.now c.reads.bank c.reads.invariant.idle
           c.reply_to_batch.new.bank (λ down. (c.in_err-reply_to_batch.ensures.down down).1))
           (ends_broken _ _ _ _ _ _ _ _ _ _ fault c.reads.invariant.through a.2
-          c.in_err-reply_to_batch.ensures.told);
+          c.in_err-reply_to_batch.ensures.calls);
       spares = g.met.C.Counter.spares_then c.args.bank.now c.reads.bank c.reply_to_batch.new.bank
           c.reads.invariant.spares c.in_err-reply_to_batch.ensures.spares;
     })
@@ -215,7 +215,7 @@ reads-preserved g c =
             spares = g.met.C.Counter.spares_then c.args.bank.now c.reads.bank w.reply_to_batch.new.bank
                 c.reads.invariant.spares w.in_ok-reply_to_batch.ensures.spares;
             made = made_one _ _ c.reads.invariant.made c.fill_buffer_beside.ensures.tells refl;
-            through = through_batch c.reads.invariant.through w.in_ok-reply_to_batch.ensures.told;
+            through = through_batch c.reads.invariant.through w.in_ok-reply_to_batch.ensures.calls;
             done = _;
             going = going_batch a.0 (take c.match-fill_buffer_beside.filled c.fill_buffer_beside.new.buffer)
                 (take left after) _ rs on.0 cut (

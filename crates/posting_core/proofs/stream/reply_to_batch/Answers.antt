@@ -30,8 +30,8 @@ returns-in-Ok-write_out-clause-answers g c =
       },
     )
 
-pub returns-in-Ok-write_out-clause-told : goal.returns-in-Ok-write_out-clause-told
-returns-in-Ok-write_out-clause-told g c = c.in-Ok-write_out.ensures.flushed
+pub returns-in-Ok-write_out-clause-calls : goal.returns-in-Ok-write_out-clause-calls
+returns-in-Ok-write_out-clause-calls g c = c.in-Ok-write_out.ensures.flushed
 
 pub returns-in-Err-clause-answers : goal.returns-in-Err-clause-answers
 returns-in-Err-clause-answers g c = (
@@ -40,8 +40,8 @@ returns-in-Err-clause-answers g c = (
   record { wrote = Keeps-refl _; refuses = c.in-Err.ensures.call.fault },
 )
 
-pub returns-in-Err-clause-told : goal.returns-in-Err-clause-told
-returns-in-Err-clause-told g c = refl
+pub returns-in-Err-clause-calls : goal.returns-in-Err-clause-calls
+returns-in-Err-clause-calls g c = refl
 
 pub returns-in-Err-clause-why : goal.returns-in-Err-clause-why
 returns-in-Err-clause-why g c = c.in-Err.ensures.call.why
@@ -67,5 +67,5 @@ returns-clause-answers g c =
       },
     )
 
-pub returns-clause-told : goal.returns-clause-told
-returns-clause-told g c = c.in-Err-write_out.ensures.failed
+pub returns-clause-calls : goal.returns-clause-calls
+returns-clause-calls g c = c.in-Err-write_out.ensures.failed

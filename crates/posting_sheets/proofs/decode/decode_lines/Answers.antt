@@ -92,7 +92,7 @@ returns-in-Err-2-clause-ends g c beside at = (
 -- bytes that are no reply, or a line that isn't written
 pub returns-in_err-write_line-clause-decodes : goal.returns-in_err-write_line-clause-decodes
 returns-in_err-write_line-clause-decodes g c beside at =
-    let told = err_from_is_err_and c.from_residual.result c.from_residual.ensures.1 in
+    let answers = err_from_is_err_and c.from_residual.result c.from_residual.ensures.1 in
     let len : length c.fill_buffer.new.buffer ≡ REPLY_BYTES = c.fill_buffer.auto.buffer ∙ c.reads.invariant.room in
     let on = decoded-filled c.reads.buffer c.fill_buffer.new.buffer c.reads.filled c.match-fill_buffer.filled
     (c.reads.invariant.decoded beside at)
@@ -101,20 +101,20 @@ returns-in_err-write_line-clause-decodes g c beside at =
       | in-Err w ↦ inr (w.in-Err.ensures.err, w.filled-is)
     ]) in
     let whole = decoded-full c.match-fill_buffer.filled c.fill_buffer.new.buffer on c.if-filled-eq-REPLY_BYTES.true len in
-    rw (told.1, told.2)
+    rw (answers.1, answers.2)
     (decoded-broken (g.W.Sink.contents c.write_line.new.writer) beside c.fill_buffer.new.buffer
     c.in_err-write_line.field-0.0 len whole
     (c.in_err-write_line.ensures.line beside (c.reads.invariant.after beside at)).0)
 
 pub returns-in_err-write_line-clause-ends : goal.returns-in_err-write_line-clause-ends
 returns-in_err-write_line-clause-ends g c beside at =
-    let told = err_from_is_err_and c.from_residual.result c.from_residual.ensures.1 in
-    rw (told.1, told.2)
+    let answers = err_from_is_err_and c.from_residual.result c.from_residual.ensures.1 in
+    rw (answers.1, answers.2)
     (broken-ends c.args.money beside (g.W.Sink.contents c.reads.writer) (g.W.Sink.contents c.write_line.new.writer)
     (g.W.Sink.calls c.args.writer.now) (g.W.Sink.calls c.reads.writer) (g.W.Sink.calls c.write_line.new.writer)
     c.reads.count c.fill_buffer.new.buffer c.in_err-write_line.field-0.0 (g.R.Source.remaining c.fill_buffer.new.reader)
     (g.R.Source.calls c.args.reader.now) (g.R.Source.calls c.fill_buffer.new.reader) (c.reads.invariant.flushed beside at)
-    (c.in_err-write_line.ensures.line beside (c.reads.invariant.after beside at)).0 (c.in_err-write_line.ensures.told beside (c.reads.invariant.after beside at)))
+    (c.in_err-write_line.ensures.line beside (c.reads.invariant.after beside at)).0 (c.in_err-write_line.ensures.answers beside (c.reads.invariant.after beside at)))
 
 -- too many reads
 pub returns-clause-decodes : goal.returns-clause-decodes
@@ -162,7 +162,7 @@ reads-preserved g c =
                 (w.in_ok-write_line.ensures.line beside (c.reads.invariant.after beside at)).0 refl;
             made = made_one _ _ c.reads.invariant.made c.fill_buffer.ensures.tells refl;
             flushed = λ beside at. more_last IsFlush (last_some IsFlush (c.reads.invariant.flushed beside at))
-                (w.in_ok-write_line.ensures.told beside (c.reads.invariant.after beside at));
+                (w.in_ok-write_line.ensures.answers beside (c.reads.invariant.after beside at));
           })
       | else-filled-eq-REPLY_BYTES w ↦
           let other = w.if-filled-eq-REPLY_BYTES.false in

@@ -5,8 +5,8 @@ use Rattle.posting_sheets.specs.Walking.{line_with}
 use Rattle.posting_sheets.proofs.Decoded.{untold, written-all}
 use Rattle.posting_sheets.proofs.decode.write_line.Goals as goal
 
-pub returns-in_err-row-clause-told : goal.returns-in_err-row-clause-told
-returns-in_err-row-clause-told g c beside at =
+pub returns-in_err-row-clause-answers : goal.returns-in_err-row-clause-answers
+returns-in_err-row-clause-answers g c beside at =
     let same : c.from_residual.result ≡ Err c.in_err-row.field-0.0 = search rules in
     rw same (untold beside _ _ c.in_err-row.field-0.0 _ (c.in_err-row.ensures.found beside at))
 

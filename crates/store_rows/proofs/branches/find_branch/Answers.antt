@@ -9,4 +9,4 @@ returns-clause-looks_up g c = looks_up g.S.Store _ _ branch_of (seeks_branch c.a
 
 pub returns-clause-lies : goal.returns-clause-lies
 returns-clause-lies g c = branch_found g.S.Store c.args.tx.now c.row_under.new.tx c.row_under.result c.args.branch c.found.result c.found.ensures
-    (rw c.get.ensures.value at c.row_under.ensures.told)
+    (rw c.get.ensures.value at c.row_under.ensures.answers)

@@ -5,7 +5,7 @@ use Rattle.store_rows.proofs.creation.add_meta.Goals as goal
 
 pub returns : goal.returns
 returns g c = record {
-  told = λ clean live made. starts _ _ c.execute.result made
+  answers = λ clean live made. starts _ _ c.execute.result made
       (rw (c.params-to_sql.ensures, c.params-to_sql-2.ensures, c.params-to_sql-3.ensures) at
       (c.execute.ensures.runs clean live));
   leaves = search rules;

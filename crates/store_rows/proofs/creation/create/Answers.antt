@@ -18,12 +18,12 @@ returns-in_err-create_tables-clause-cause g c =
     (state g.S.Store c.drop-tx.new.self.0)) =
     λ clean. let clean0 : HasCleanDisk (state g.S.Store c.create_tables.new.tx.conn.now) = omega
     (arith, c.drop-tx.ensures.survives.clean) in
-    let told = subst (λ h. CreatesBank (state g.S.Store h) (state g.S.Store c.create_tables.new.tx.conn.now)
+    let answers = subst (λ h. CreatesBank (state g.S.Store h) (state g.S.Store c.create_tables.new.tx.conn.now)
     (Err e.field-0.0)) begun
-    (e.ensures.told clean0 live) in
+    (e.ensures.answers clean0 live) in
     rw same (fails_created (state g.S.Store c.args.conn.now) (state g.S.Store c.create_tables.new.tx.conn.now)
     (state g.S.Store c.drop-tx.new.self.0)
-    e.field-0.0 told c.drop-tx.ensures.survives.counts (c.drop-tx.ensures.undone clean)) in
+    e.field-0.0 answers c.drop-tx.ensures.survives.counts (c.drop-tx.ensures.undone clean)) in
     search (rules, it)
 
 pub returns-in_err-commit-clause-cause : goal.returns-in_err-commit-clause-cause

@@ -8,7 +8,7 @@ use Rattle.store_rows.proofs.creation.create_tables.Goals as goal
 pub returns : goal.returns
 returns g c = record {
   same_reference = search rules;
-  told = search rules;
+  answers = search rules;
   leaves = search rules;
   survives = search rules;
 }
@@ -21,12 +21,12 @@ returns-in_err-add_meta g c =
     let two = e.ensures in
     record {
       same_reference = two.same_reference ∙ one.same_reference;
-      told = λ clean live.
+      answers = λ clean live.
           let before : HasCleanDisk (state g.S.Store c.make_tables.new.tx.conn.now) = omega
           (arith, two.survives.clean) in
-          let made = one.told before live in
+          let made = one.answers before live in
           rw same (starts_not _ _ _ e.field-0.0 made.0 made.1 made.2 one.survives.limit one.survives.counts
-          (two.told clean made.1.0.mode made.0.empty));
+          (two.answers clean made.1.0.mode made.0.empty));
       leaves = search rules;
       survives = survives_both _ _ _ one.survives two.survives;
     }

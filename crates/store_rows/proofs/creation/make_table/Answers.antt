@@ -15,7 +15,7 @@ failed old new text (Err e) ran = Changing text [] ran
 
 pub returns : goal.returns
 returns g c = record {
-  told = λ clean live t creates. makes_told _ _ c.args.text.now t creates sequence.0 sequence.1
+  answers = λ clean live t creates. makes_told _ _ c.args.text.now t creates sequence.0 sequence.1
       c.execute.result
       (c.execute.ensures.runs clean live);
   leaves = λ clean live. (

@@ -61,11 +61,11 @@ loop-at-preserved g c =
             let begun = so_far.begun before live in
             let still = begun_live (drop first all_texts) g.S.Store c.args.tx.now.conn.now c.loop-at.tx.conn.now
             (at - first) begun live in
-            let told = here.told clean still next.0.1 (rw text (creates_at at next.0 next.1)) in
+            let answers = here.answers clean still next.0.1 (rw text (creates_at at next.0 next.1)) in
             inr (subst (λ n. Reached (drop first all_texts) (state g.S.Store c.args.tx.now.conn.now)
             (state g.S.Store c.make_table.new.tx.conn.now) n) (omega (arith, past))
             (one_more (drop first all_texts) g.S.Store c.args.tx.now.conn.now c.loop-at.tx.conn.now
-            (state g.S.Store c.make_table.new.tx.conn.now) (at - first) next.0 has told
+            (state g.S.Store c.make_table.new.tx.conn.now) (at - first) next.0 has answers
             (here.leaves clean still).0 here.survives.counts begun));
         survives = survives_both _ _ _ so_far.survives here.survives;
       };
@@ -91,10 +91,10 @@ returns-in_err-make_table-clause-says g c =
     let begun = so_far.begun before live in
     let still = begun_live (drop first all_texts) g.S.Store old mid (at - first) begun live in
     then_fails (drop first all_texts) g.S.Store old mid new (at - first) next.0 has e still
-    (rw text at (here.told clean still next.0.1 (rw text (creates_at at next.0 next.1)))) begun in
+    (rw text at (here.answers clean still next.0.1 (rw text (creates_at at next.0 next.1)))) begun in
     record {
       same_reference = here.same_reference ∙ so_far.same_reference;
-      told = λ clean live. rw same (fails clean live);
+      answers = λ clean live. rw same (fails clean live);
       leaves = λ clean live. rw same (makes_leave (drop first all_texts) (state g.S.Store old) new e (fails clean live));
       survives = survives_both _ _ _ so_far.survives here.survives;
     }
@@ -126,7 +126,7 @@ returns-clause-says g c =
     (uncounted first) some (rw all at (so_far.begun clean live)) in
     record {
       same_reference = so_far.same_reference;
-      told = λ clean live. ends clean live;
+      answers = λ clean live. ends clean live;
       leaves = λ clean live. (ends clean live).1.0;
       survives = so_far.survives;
     }

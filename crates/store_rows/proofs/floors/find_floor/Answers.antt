@@ -23,4 +23,4 @@ returns-clause-within g c = within c.row_under.result c.found.result c.found.ens
 
 pub returns-clause-lies : goal.returns-clause-lies
 returns-clause-lies g c = floor_found g.S.Store c.args.tx.now c.row_under.new.tx c.row_under.result c.args.branch c.found.result c.found.ensures
-    (rw c.get.ensures.value at c.row_under.ensures.told)
+    (rw c.get.ensures.value at c.row_under.ensures.answers)

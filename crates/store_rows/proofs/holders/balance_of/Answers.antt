@@ -14,7 +14,7 @@ pub returns-in-Account-clause-lies : goal.returns-in-Account-clause-lies
 returns-in-Account-clause-lies g c =
     rw c.in-Account.is
     (account_found g.S.Store c.args.tx.now c.row_under.new.tx c.row_under.result c.in-Account.account c.found.result c.found.ensures
-    (rw c.get.ensures.value at c.row_under.ensures.told))
+    (rw c.get.ensures.value at c.row_under.ensures.answers))
 
 pub returns-in-Teller-clause-looks_up : goal.returns-in-Teller-clause-looks_up
 returns-in-Teller-clause-looks_up g c =
@@ -27,4 +27,4 @@ pub returns-in-Teller-clause-lies : goal.returns-in-Teller-clause-lies
 returns-in-Teller-clause-lies g c =
     rw c.in-Teller.is
     (teller_found g.S.Store c.args.tx.now c.row_under-in-Teller.new.tx c.row_under-in-Teller.result c.in-Teller.teller c.found-in-Teller.result
-    c.found-in-Teller.ensures (rw c.get-in-Teller.ensures.value at c.row_under-in-Teller.ensures.told))
+    c.found-in-Teller.ensures (rw c.get-in-Teller.ensures.value at c.row_under-in-Teller.ensures.answers))

@@ -6,16 +6,16 @@ use Rattle.store_rows.proofs.metas.meta_row.Goals as goal
 
 pub returns-clause-says : goal.returns-clause-says
 returns-clause-says g c = record {
-  told = λ clean rows has. tells_meta _ _ rows has c.row_under.result (c.row_under.ensures.told clean);
+  answers = λ clean rows has. tells_meta _ _ rows has c.row_under.result (c.row_under.ensures.answers clean);
   leaves = λ clean.
       let only = only_reads gets.meta.is c.args.tx.now.conn.now.schema in (
         c.row_under.ensures.leaves clean only,
         first_told _ _ _ _ c.row_under.result only
-            (c.row_under.ensures.told clean),
+            (c.row_under.ensures.answers clean),
       );
   same_reference = search rules;
   survives = search rules;
 }
 
 pub returns-clause-asks : goal.returns-clause-asks
-returns-clause-asks g c = c.row_under.ensures.told
+returns-clause-asks g c = c.row_under.ensures.answers

@@ -6,8 +6,8 @@ use Rattle.store_rows.proofs.metas.read_meta.Goals as goal
 
 pub returns-clause-says : goal.returns-clause-says
 returns-clause-says g c = record {
-  told = λ clean rows has. finds_meta _ _ (meta_in rows) c.meta_row.result c.found.result c.found.ensures
-      (c.meta_row.ensures.says.told clean rows has);
+  answers = λ clean rows has. finds_meta _ _ (meta_in rows) c.meta_row.result c.found.result c.found.ensures
+      (c.meta_row.ensures.says.answers clean rows has);
   leaves = λ clean. looks _ _ meta_of c.meta_row.result c.found.result c.found.ensures
       (c.meta_row.ensures.says.leaves clean).0;
   same_reference = search rules;

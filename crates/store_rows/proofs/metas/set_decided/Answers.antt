@@ -6,13 +6,13 @@ use Rattle.store_rows.proofs.metas.set_decided.Goals as goal
 
 pub returns-clause-sets : goal.returns-clause-sets
 returns-clause-sets g c = record {
-  told = λ clean live t shows. tells_decided _ _ t shows c.args.decided c.write_under.result
+  answers = λ clean live t shows. tells_decided _ _ t shows c.args.decided c.write_under.result
       (rw (as_integer c.args.decided c.args.decided refl (omega arith)) at
-      (c.write_under.ensures.told clean live));
+      (c.write_under.ensures.answers clean live));
   leaves = λ clean live.
       let both = spared_met _ spares.set_meta _ _ _ c.write_under.result
       (rw (as_integer c.args.decided c.args.decided refl (omega arith)) at
-      (c.write_under.ensures.told clean live)) in (
+      (c.write_under.ensures.answers clean live)) in (
         rw (as_integer c.args.decided c.args.decided refl (omega arith)) at
             (c.write_under.ensures.leaves clean live),
         both.0,

@@ -5,11 +5,11 @@ use Rattle.store_rows.proofs.metas.set_version.Goals as goal
 
 pub returns : goal.returns
 returns g c = record {
-  told = λ clean live. tells_version _ _ c.args.version c.write_under.result
-      (rw (to_z-of_z w64 c.args.version c.ranges.version) at (c.write_under.ensures.told clean live));
+  answers = λ clean live. tells_version _ _ c.args.version c.write_under.result
+      (rw (to_z-of_z w64 c.args.version c.ranges.version) at (c.write_under.ensures.answers clean live));
   leaves = λ clean live. (
     rw (to_z-of_z w64 c.args.version c.ranges.version) at (c.write_under.ensures.leaves clean live),
-    version_spared _ _ _ c.write_under.result (c.write_under.ensures.told clean live),
+    version_spared _ _ _ c.write_under.result (c.write_under.ensures.answers clean live),
   );
   same_reference = search rules;
   survives = search rules;

@@ -5,17 +5,17 @@ use Rattle.store_rows.specs.{Creation.MakesAll, Migration.MakesLacking, Migratio
 use Rattle.store_rows.proofs.Lacking.{lacking_made}
 use Rattle.store_rows.proofs.migration.make_lacking.Goals as goal
 
-told : (from : ℕ) (old new : State) (r : Result (Unit {0}) Error) → MakesAll (lacking from) old new r
+answers : (from : ℕ) (old new : State) (r : Result (Unit {0}) Error) → MakesAll (lacking from) old new r
     → MakesLacking from old new r
-told from old new (Ok done) made = (lacking_made from old.now new.now made.0, made.1)
-told from old new (Err e) fails = fails
+answers from old new (Ok done) made = (lacking_made from old.now new.now made.0, made.1)
+answers from old new (Err e) fails = fails
 
 pub returns-clause-says : goal.returns-clause-says
 returns-clause-says g c =
     let all = c.make_tables.ensures.says in
     record {
       same_reference = all.same_reference;
-      told = λ clean live. told c.args.from _ _ c.make_tables.result (all.told clean live);
+      answers = λ clean live. answers c.args.from _ _ c.make_tables.result (all.answers clean live);
       leaves = λ clean live. all.leaves clean live;
       survives = all.survives;
     }

@@ -15,9 +15,9 @@ returns g c =
     let probe = probe_of table in
     let text : HasCleanDisk new → TellsUnderstood old new probe.0 c.is_understood.result =
     λ clean. rw c.probe_text.ensures at
-    (c.is_understood.ensures.told clean (rw c.probe_text.ensures ((probes table).shows _))) in
+    (c.is_understood.ensures.answers clean (rw c.probe_text.ensures ((probes table).shows _))) in
     record {
-      told =
+      answers =
           λ clean. tells_probe probe.1 probe.0 (probes table) (stands_alone table) old new
           c.is_understood.result (text clean);
       text = text;

@@ -13,4 +13,4 @@ returns-clause-shown g c =
     on_clean _ _ c.found.result (λ clean.
     let ran = rw c.get.ensures.value at c.row_under.ensures in
     read_told _ _ _ _ reference_of c.row_under.result c.found.result c.found.ensures
-    ((seeks_reference c.args.ordinal).only _) (ran.told clean))
+    ((seeks_reference c.args.ordinal).only _) (ran.answers clean))

@@ -12,4 +12,4 @@ pub returns-clause-shown : goal.returns-clause-shown
 returns-clause-shown g c =
     on_clean _ _ c.found.result (λ clean.
     let ran = rw (c.get.ensures.value, c.get-2.ensures.value) at c.row_under_two.ensures in
-    read_told _ _ _ _ request_of c.row_under_two.result c.found.result c.found.ensures (only _) (ran.told clean))
+    read_told _ _ _ _ request_of c.row_under_two.result c.found.result c.found.ensures (only _) (ran.answers clean))

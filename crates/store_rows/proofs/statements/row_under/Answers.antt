@@ -6,7 +6,7 @@ use Rattle.store_rows.proofs.statements.row_under.Goals as goal
 
 pub returns : goal.returns
 returns g c = record {
-  told = λ clean. rw (c.params-to_sql.ensures, as_integer c.args.key c.args.key refl (omega arith)) at
+  answers = λ clean. rw (c.params-to_sql.ensures, as_integer c.args.key c.args.key refl (omega arith)) at
       (c.query_row.ensures.row clean);
   leaves = λ clean only.
       asked _ _ _ _ c.query_row.result (c.query_row.ensures.row clean)

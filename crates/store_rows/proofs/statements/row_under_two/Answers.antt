@@ -6,7 +6,7 @@ use Rattle.store_rows.proofs.statements.row_under_two.Goals as goal
 
 pub returns : goal.returns
 returns g c = record {
-  told = λ clean. rw (
+  answers = λ clean. rw (
     c.params-to_sql.ensures,
     c.params-to_sql-2.ensures,
     as_integer c.args.first c.args.first refl (omega arith),

@@ -8,7 +8,7 @@ use Rattle.store_rows.proofs.statements.write_under.Goals as goal
 
 pub returns : goal.returns
 returns g c = record {
-  told = λ clean live. (
+  answers = λ clean live. (
     c.in_ok-count.count,
     rw (
       c.params-to_sql.ensures,
@@ -35,7 +35,7 @@ returns-in_err-count g c =
     let e = c.in_err-count in
     let same : c.from_residual.result ≡ Err e.field-0.0 = search rules in
     record {
-      told = λ clean live. rw same (rw (
+      answers = λ clean live. rw same (rw (
         c.params-to_sql.ensures,
         c.params-to_sql-2.ensures,
         as_integer c.args.key c.args.key refl (omega arith),

@@ -26,17 +26,17 @@ loop-row-preserved g c =
           rw (c.push.ensures.items, key)
           (one_more (λ r. entry_key (entry r)) from items c.in-Ok.read next
           (rw same at c.loop-row.invariant.rises) (le_from _ _ c.in-Ok.ensures.1));
-      told = λ rows rise wide is.
+      answers = λ rows rise wide is.
           rw (c.push.ensures.items, key)
           (gathers_on g.R.StoredRow.kind AHEAD found from rows rise wide is items next row low at
-          ((rw same at (c.loop-row.invariant.told rows rise wide)) is) c.in-Ok.read c.in-Ok.ensures);
+          ((rw same at (c.loop-row.invariant.answers rows rise wide)) is) c.in-Ok.read c.in-Ok.ensures);
     }
 
 pub returns-then-is_full : goal.returns-then-is_full
 returns-then-is_full g c =
     let same = to_z-of_z w64 c.args.from c.ranges.from in
     record {
-      told = λ rows rise wide is. (rw same at (c.loop-row.invariant.told rows rise wide)) is;
+      answers = λ rows rise wide is. (rw same at (c.loop-row.invariant.answers rows rise wide)) is;
       ended = λ none. absurd (full_there AHEAD c.loop-row.rows.items (lit< tt) (sym c.if-is_full.ensures.value)
           none);
       rises = rw same at c.loop-row.invariant.rises;
@@ -55,10 +55,10 @@ returns-then-is_empty g c =
     let at = c.row-item.is ∙ ap (λ n. get_or found n row) (sym count) in
     let none = none_there items (sym c.if-is_empty.ensures) in
     record {
-      told = λ rows rise wide is.
+      answers = λ rows rise wide is.
           gathers_none g.R.StoredRow.kind AHEAD found from rows rise wide is items
           (to_z w64 c.loop-row.next-bits) row low at
-          ((rw same at (c.loop-row.invariant.told rows rise wide)) is) c.in-Err.fault none c.in-Err.ensures;
+          ((rw same at (c.loop-row.invariant.answers rows rise wide)) is) c.in-Err.fault none c.in-Err.ensures;
       ended = tt;
       rises = tt;
       cause = next_rows g.R.StoredRow.kind (to_z w64 c.loop-row.next-bits) row c.in-Err.fault c.in-Err.ensures;
@@ -68,7 +68,7 @@ pub returns-in-Err : goal.returns-in-Err
 returns-in-Err g c =
     let same = to_z-of_z w64 c.args.from c.ranges.from in
     record {
-      told = λ rows rise wide is. (rw same at (c.loop-row.invariant.told rows rise wide)) is;
+      answers = λ rows rise wide is. (rw same at (c.loop-row.invariant.answers rows rise wide)) is;
       ended = λ none. absurd (some_there c.loop-row.rows.items (sym c.if-is_empty.ensures) none);
       rises = rw same at c.loop-row.invariant.rises;
       cause = tt;
@@ -83,7 +83,7 @@ returns-then-is_empty-2 g c =
     let low : length c.args.found.now ≤ 0 =
     omega (arith, c.loop-row.invariant.count, c.loop-row-test.false, ap length none) in
     record {
-      told = λ rows rise wide is. rw none (no_more (rows_from from rows) c.args.found.now low is);
+      answers = λ rows rise wide is. rw none (no_more (rows_from from rows) c.args.found.now low is);
       ended = λ nothing. refl;
       rises =
           rest_after (λ r. entry_key (g.R.StoredRow.kind.entry r)) from items (to_z w64 c.loop-row.next-bits)
@@ -96,7 +96,7 @@ pub returns-else-is_empty-2 : goal.returns-else-is_empty-2
 returns-else-is_empty-2 g c =
     let same = to_z-of_z w64 c.args.from c.ranges.from in
     record {
-      told = λ rows rise wide is. (rw same at (c.loop-row.invariant.told rows rise wide)) is;
+      answers = λ rows rise wide is. (rw same at (c.loop-row.invariant.answers rows rise wide)) is;
       ended = λ none. absurd (some_there c.loop-row.rows.items (sym c.if-is_empty-2.ensures) none);
       rises = rw same at c.loop-row.invariant.rises;
       cause = tt;

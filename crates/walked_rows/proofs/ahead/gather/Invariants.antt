@@ -9,7 +9,7 @@ abbrev pub invariant-loop-row : goal.invariant-loop-row
 invariant-loop-row g l = record {
   count : length l.rows.items ≡ l.row-index;
   rises : RisesFrom l.fn.from (map (λ r. entry_key (g.R.StoredRow.kind.entry r)) l.rows.items) (Some l.next);
-  told : (rows : List Entry) → Rise rows → IsWide (width_of g.R.StoredRow.kind.table) rows
+  answers : (rows : List Entry) → Rise rows → IsWide (width_of g.R.StoredRow.kind.table) rows
       → l.fn.found ≡ map given (take AHEAD (rows_from l.fn.from rows))
       → rows_from l.fn.from rows ≡ map g.R.StoredRow.kind.entry l.rows.items ++ rows_from l.next rows;
 }

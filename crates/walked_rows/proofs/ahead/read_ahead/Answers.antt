@@ -17,14 +17,14 @@ returns-in-Ok g c =
     let sought = c.in-Ok.ensures in
     let gathered = c.gather.ensures in
     record {
-      told = λ clean rows has.
+      answers = λ clean rows has.
           let is_given = g.R.StoredRow.kind.is_given c.args.of in
           let given = filter is_given rows in
           match_err _ _ _ c.gather.result
           (never_first (IsStoreError old new) (BreaksBy g.R.StoredRow.kind.reading) (rows_from c.args.from given))
-          ((rw whole at (gathered.told given (rise_filter is_given rows has.holds.rows.rise)
+          ((rw whole at (gathered.answers given (rise_filter is_given rows has.holds.rows.rise)
           (wide_filter (width_of g.R.StoredRow.kind.table) is_given rows has.holds.rows.wide)))
-          (c.deref.ensures.value ∙ (rw whole at (sought.told clean rows has))));
+          (c.deref.ensures.value ∙ (rw whole at (sought.answers clean rows has))));
       ended = gathered.ended;
       rises = rw whole at gathered.rises;
       reads = reads_any sought.reads c.gather.result;
@@ -36,7 +36,7 @@ pub returns-in-Err : goal.returns-in-Err
 returns-in-Err g c =
     let sought = c.in-Err.ensures in
     record {
-      told = sought.told;
+      answers = sought.answers;
       ended = tt;
       rises = tt;
       reads = fails_too sought.reads;

@@ -16,8 +16,8 @@ returns-in_err-found-clause-failed g c =
     query_failed (state g.S.Store c.args.conn.now) (state g.S.Store c.rows_shown.new.conn) METAS_FROM.now _ e.field-0.0
     ((walks_metas []).only c.args.conn.now.schema) (e.ensures.shown clean))
 
-pub returns-clause-told : goal.returns-clause-told
-returns-clause-told g c clean checks rows has =
+pub returns-clause-answers : goal.returns-clause-answers
+returns-clause-answers g c clean checks rows has =
     tells_only (state g.S.Store c.args.conn.now) (state g.S.Store c.rows_shown.new.conn) checks rows has
     c.in_ok-found.found.items c.only_row.result (rw c.params-to_sql.ensures at (c.in_ok-found.ensures.shown clean))
     (rw c.deref.ensures.value at c.only_row.ensures)

@@ -19,13 +19,13 @@ returns-in-Ok g c =
     let sought = c.in-Ok.ensures in
     let gathered = c.gather_beside.ensures in
     record {
-      told = λ clean all has.
+      answers = λ clean all has.
           let whole = all_pass (g.O.StoredRow.kind.is_given None) g.O.StoredRow.kind.all_given all in
-          let found = (rw same at (sought.told clean all has))
+          let found = (rw same at (sought.answers clean all has))
           ∙ ap (λ es. map given (take AHEAD (rows_from from es))) whole in
           match_err _ _ _ c.gather_beside.result
           (never_under (IsStoreError old new) (BreaksBy g.O.StoredRow.kind.reading) from all)
-          ((rw same at (gathered.told all has.holds.rows.rise has.holds.rows.wide))
+          ((rw same at (gathered.answers all has.holds.rows.rise has.holds.rows.wide))
           (c.deref.ensures.value ∙ found));
       beyond = rw same at gathered.beyond;
       reads = reads_any sought.reads c.gather_beside.result;
@@ -37,7 +37,7 @@ pub returns-in-Err : goal.returns-in-Err
 returns-in-Err g c =
     let sought = c.in-Err.ensures in
     record {
-      told = sought.told;
+      answers = sought.answers;
       beyond = tt;
       reads = fails_too sought.reads;
       cause = λ clean. cause_here g.S.Store c.args.conn.now c.seek.new.conn c.in-Err.e (sought.failed clean);

@@ -27,15 +27,15 @@ returns-in-Ok g c =
     let joined = c.join_first.ensures in
     let between = clean_between g.S.Store mid new joined.reads.survives in
     record {
-      told = λ clean all has.
+      answers = λ clean all has.
           let unchanged = read.reads.same (between clean) in
           let given = g.R.StoredRow.kind.is_given c.args.of in
-          let told = rw whole at (read.told (between clean) has.rows has.has) in
+          let answers = rw whole at (read.answers (between clean) has.rows has.has) in
           let others = subst (λ db. HoldsRows db g.O.StoredRow.kind.table has.others)
           (sym unchanged.0.now_is) has.has_others in
           MatchResult-weaker c.join_first.result
-          ((rw c.as_slice.ensures.value at (joined.told clean (filter given has.rows) has.others
-          (rise_filter given has.rows has.has.holds.rows.rise) others from)) told)
+          ((rw c.as_slice.ensures.value at (joined.answers clean (filter given has.rows) has.others
+          (rise_filter given has.rows has.has.holds.rows.rise) others from)) answers)
           (filled (pair_of g.R.StoredRow.kind.entry g.O.StoredRow.kind.entry) has.others has.rows given all
           has.are from c.join_first.new.rows.items)
           (breaks_given has.others has.rows given all has.are from _
@@ -54,11 +54,11 @@ returns-in-Err g c =
     let whole = to_z-of_z w64 c.args.from c.ranges.from in
     let read = c.in-Err.ensures in
     record {
-      told = λ clean all has.
+      answers = λ clean all has.
           breaks_own has.others has.rows (g.R.StoredRow.kind.is_given c.args.of) all has.are c.args.from
           (IsStoreError (state g.S.Store c.args.conn.now) (state g.S.Store c.read_ahead.new.conn))
           (BreaksBy g.R.StoredRow.kind.reading) (BreaksBy g.O.StoredRow.kind.reading)
-          c.in-Err.fault (rw whole at (read.told clean has.rows has.has));
+          c.in-Err.fault (rw whole at (read.answers clean has.rows has.has));
       ended = tt;
       rises = tt;
       reads = read.reads;

@@ -41,8 +41,8 @@ loop-row-preserved g c =
           rw c.push.ensures.items
           (one_more (λ j. entry_key (entry j.stored)) start c.loop-row.rows.items _ next
           (rw same at c.loop-row.invariant.rises) keys.0);
-      told = λ base others rise own_is others_are.
-          let both = (rw same at (c.loop-row.invariant.told base others rise)) own_is others_are in
+      answers = λ base others rise own_is others_are.
+          let both = (rw same at (c.loop-row.invariant.answers base others rise)) own_is others_are in
           rw c.push.ensures.items
           (joins_on (pair_of entry g.O.StoredRow.kind.entry) others base rise start c.loop-row.rows.items next
           _ (entry r) (map entry (drop (at + 1) c.args.own.now) ++ rows_after c.args.rest base) both.1
@@ -59,8 +59,8 @@ returns-then-is_beyond g c =
     let n = c.key-key.result in
     let key = λ (x : g.row.R.Denot). entry_key (g.R.StoredRow.kind.entry x) in
     record {
-      told = λ base others rise own_is others_are.
-          ((rw same at (c.loop-row.invariant.told base others rise)) own_is others_are).1;
+      answers = λ base others rise own_is others_are.
+          ((rw same at (c.loop-row.invariant.answers base others rise)) own_is others_are).1;
       rises = rw same at c.loop-row.invariant.rises;
       some = λ r more is before none.
           let none_yet : c.loop-row.row-index ≡ 0 = sym c.loop-row.invariant.count ∙ ap length none in
@@ -82,8 +82,8 @@ returns g c =
     let next = to_z w64 c.loop-row.next-bits in
     let left = none_left c.loop-row.row-index c.args.own.now c.loop-row-test.false in
     record {
-      told = λ base others rise own_is others_are.
-          let both = (rw same at (c.loop-row.invariant.told base others rise)) own_is others_are in
+      answers = λ base others rise own_is others_are.
+          let both = (rw same at (c.loop-row.invariant.answers base others rise)) own_is others_are in
           both.1 ∙ ap (λ l. map (pair_of entry other) c.loop-row.rows.items ++ paired others l)
           (both.0 ∙ ap (λ l. map entry l ++ rows_after c.args.rest base) left);
       rises =

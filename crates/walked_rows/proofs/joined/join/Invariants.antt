@@ -12,7 +12,7 @@ invariant-loop-row g l = record {
       (map (λ r. entry_key (g.R.StoredRow.kind.entry r)) (drop l.row-index l.fn.own)) l.fn.rest;
   rises : RisesFrom l.fn.start (map (λ j. entry_key (g.R.StoredRow.kind.entry j.stored)) l.rows.items)
       (Some l.next);
-  told : (base others : List Entry) → Rise base
+  answers : (base others : List Entry) → Rise base
       → rows_from l.fn.start base ≡ map g.R.StoredRow.kind.entry l.fn.own ++ rows_after l.fn.rest base
       → rows_from l.fn.start others
       ≡ map g.O.StoredRow.kind.entry l.fn.beside ++ rows_after l.fn.after others

@@ -9,9 +9,9 @@ returns-in-Ok g c =
     let after = c.in-Ok.after in
     let start = to_z-of_z w64 c.args.start c.ranges.start in
     record {
-      told = λ clean base others rise has own_is.
-          (rw (start, c.as_slice.ensures.value) at (c.join.ensures.told base others rise)) own_is
-          (rw start at (c.in-Ok.ensures.told clean others has));
+      answers = λ clean base others rise has own_is.
+          (rw (start, c.as_slice.ensures.value) at (c.join.ensures.answers base others rise)) own_is
+          (rw start at (c.in-Ok.ensures.answers clean others has));
       rises = rw start at c.join.ensures.rises;
       some = λ r more is at none.
           c.join.ensures.some r more is
@@ -25,7 +25,7 @@ pub returns-in-Err : goal.returns-in-Err
 returns-in-Err g c =
     let start = to_z-of_z w64 c.args.start c.ranges.start in
     record {
-      told = λ clean base others rise has own_is. (rw start at (c.in-Err.ensures.told clean others has));
+      answers = λ clean base others rise has own_is. (rw start at (c.in-Err.ensures.answers clean others has));
       rises = tt;
       some = λ r more is at. tt;
       reads = c.in-Err.ensures.reads;

@@ -31,12 +31,12 @@ returns-in-Some g c =
     let at = as_integer n n refl c.key-start.ensures.most ∙ sym c.key-start.ensures.key in
     let first = first_is own row c.in-Some.ensures.value in
     record {
-      told = λ clean base others rise has from told.
+      answers = λ clean base others rise has from answers.
           let after = map entry more ++ rows_after c.args.rest base in
-          let is = told ∙ ap (λ l. map entry l ++ rows_after c.args.rest base) first in
+          let is = answers ∙ ap (λ l. map entry l ++ rows_after c.args.rest base) first in
           MatchResult-weaker c.join_ahead.result
-          (c.join_ahead.ensures.told clean base others rise has
-          (sym (from_first base rise from start (entry row) after is at) ∙ told))
+          (c.join_ahead.ensures.answers clean base others rise has
+          (sym (from_first base rise from start (entry row) after is at) ∙ answers))
           (joined_first (pair_of entry g.O.StoredRow.kind.entry) others base rise from start (entry row) after
           is at
           c.join_ahead.new.rows.items)
@@ -57,7 +57,7 @@ returns-in-Some g c =
 pub returns-in-None : goal.returns-in-None
 returns-in-None g c =
     record {
-      told = λ clean base others rise has from is.
+      answers = λ clean base others rise has from is.
           let none = nothing_is c.args.own.now c.in-None.ensures.value in
           nothing_joined g.R.StoredRow.kind.entry (pair_of g.R.StoredRow.kind.entry g.O.StoredRow.kind.entry)
           others base from c.args.own.now c.args.rest c.clear.new.self.items none (c.requires.ended none)

@@ -27,10 +27,10 @@ returns-in-Ok g c =
     let referred = c.refer_each.ensures in
     let between = clean_between g.S.Store mid new referred.reads.survives in
     record {
-      told = λ clean all has.
+      answers = λ clean all has.
           rw (sym (all_given all)) (
           let unchanged = read.reads.same (between clean) in
-          let told = rw whole at (read.told (between clean) (paired has.postings has.rows) record {
+          let answers = rw whole at (read.answers (between clean) (paired has.postings has.rows) record {
             rows = has.rows;
             others = has.postings;
             has = has.has;
@@ -40,10 +40,10 @@ returns-in-Ok g c =
           let others = subst (λ db. HoldsRows db reference_table has.references)
           (sym unchanged.0.now_is) has.has_references in
           MatchResult-weaker c.refer_each.result
-          ((rw (c.as_slice.ensures.value, whole) at (referred.told clean
+          ((rw (c.as_slice.ensures.value, whole) at (referred.answers clean
           (pair_with has.postings) (λ e. refl) (filter (λ _. true) has.rows) has.references
           (rise_filter (λ _. true) has.rows has.has.holds.rows.rise) others))
-          (asked_read has.postings has.rows from _ _ told))
+          (asked_read has.postings has.rows from _ _ answers))
           (kept_so_far has.postings has.references has.rows all has.are from c.refer_each.new.rows.items)
           (kept_breaks has.postings has.references has.rows all has.are from _ _
           (store_on g.S.Store c.args.conn.now mid new (inl unchanged) read.reads.survives)));
@@ -59,12 +59,12 @@ returns-in-Err g c =
     let whole = to_z-of_z w64 c.args.from c.ranges.from in
     let read = c.in-Err.ensures in
     record {
-      told = λ clean all has. rw (sym (all_given all))
+      answers = λ clean all has. rw (sym (all_given all))
           (kept_breaks_own has.postings has.references has.rows all has.are c.args.from
           (IsStoreError (state g.S.Store c.args.conn.now) (state g.S.Store c.fill_joined.new.conn))
           c.in-Err.fault
           (asked_breaks has.postings has.rows c.args.from _ c.in-Err.fault
-          (rw whole at (read.told clean (paired has.postings has.rows) record {
+          (rw whole at (read.answers clean (paired has.postings has.rows) record {
             rows = has.rows;
             others = has.postings;
             has = has.has;

@@ -11,8 +11,8 @@ use Rattle.walked_rows.proofs.references.reference_under.Goals as goal
 pub rows_shown-requires : goal.rows_shown-requires
 rows_shown-requires g c = only_references
 
-pub returns-in-Ok-clause-told : goal.returns-in-Ok-clause-told
-returns-in-Ok-clause-told g c clean all has =
+pub returns-in-Ok-clause-answers : goal.returns-in-Ok-clause-answers
+returns-in-Ok-clause-answers g c clean all has =
     let n = c.args.ordinal in
     let same : to_z w64 n ≡ pos n = as_integer n n refl c.requires in
     tells_reference (state g.S.Store c.args.conn.now) (state g.S.Store c.rows_shown.new.conn) all has n
@@ -34,8 +34,8 @@ returns-in-Err-clause-cause g c clean =
 pub returns-in-Err-clause-reads : goal.returns-in-Err-clause-reads
 returns-in-Err-clause-reads g c = fails_too c.in-Err.ensures.reads
 
-pub returns-in-Err-clause-told : goal.returns-in-Err-clause-told
-returns-in-Err-clause-told g c clean all has =
+pub returns-in-Err-clause-answers : goal.returns-in-Err-clause-answers
+returns-in-Err-clause-answers g c clean all has =
     let n = c.args.ordinal in
     let same : to_z w64 n ≡ pos n = as_integer n n refl c.requires in
     tells_failure (state g.S.Store c.args.conn.now) (state g.S.Store c.rows_shown.new.conn) all has n

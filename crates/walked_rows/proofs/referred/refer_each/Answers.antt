@@ -54,9 +54,9 @@ loop-row-preserved g c =
           (one_more g.R.Referred.key from c.loop-row.rows.items one next (rw same at so_far.rises)
           (subst (λ k. next ≤ℤ k) (sym made.key) keys.0)));
       reads = if_any (reads_on so_far.reads (reads_any c.in-Ok.ensures.reads _));
-      told = λ view back base others rise clean has own_is.
+      answers = λ view back base others rise clean has own_is.
           let before = clean_between g.S.Store mid new c.in-Ok.ensures.reads.survives clean in
-          let both = (rw same at (so_far.told view back base others rise before has)) own_is in
+          let both = (rw same at (so_far.answers view back base others rise before has)) own_is in
           let there = subst (λ db. HoldsRows db reference_table others)
           (sym (shows_same g.S.Store c.args.conn.now mid (so_far.reads.same before))) has in
           rw c.push.ensures.items
@@ -68,11 +68,11 @@ loop-row-preserved g c =
           ∙ ap (λ n. g.R.Referred.joined (mine r) (option_map (text_entry n) c.in-Ok.reference))
           (sym c.ordinal-ordinal.ensures.value)
           ∙ ap (g.R.Referred.joined (mine r))
-          (c.in-Ok.ensures.told clean others there ∙ ap (row_under others) (sym keyed))));
+          (c.in-Ok.ensures.answers clean others there ∙ ap (row_under others) (sym keyed))));
     }
 
-pub returns-in-Err-Sqlite-clause-told : goal.returns-in-Err-Sqlite-clause-told
-returns-in-Err-Sqlite-clause-told g c clean view back base others rise has own_is =
+pub returns-in-Err-Sqlite-clause-answers : goal.returns-in-Err-Sqlite-clause-answers
+returns-in-Err-Sqlite-clause-answers g c clean view back base others rise has own_is =
     let old = c.args.conn.now in
     let mid = c.loop-row.conn in
     let new = c.reference_under.new.conn in
@@ -82,7 +82,7 @@ returns-in-Err-Sqlite-clause-told g c clean view back base others rise has own_i
     let there = subst (λ db. HoldsRows db reference_table others)
     (sym (shows_same g.S.Store old mid same)) has in
     rw c.in-Err-Sqlite.e-is (store_on g.S.Store old mid new same so_far.survives c.in-Err-Sqlite.e
-    (rw c.in-Err-Sqlite.field-0-is at (last.told clean others there)))
+    (rw c.in-Err-Sqlite.field-0-is at (last.answers clean others there)))
 
 pub returns-in-Err-Sqlite-clause-reads : goal.returns-in-Err-Sqlite-clause-reads
 returns-in-Err-Sqlite-clause-reads g c =
@@ -94,8 +94,8 @@ returns-in-Err-Sqlite-clause-cause g c clean =
     c.loop-row.invariant.reads.survives (Sqlite c.in-Err-Sqlite.e)
     (rw c.in-Err-Sqlite.field-0-is at (c.in-Err-Sqlite.ensures.cause clean)))
 
-pub returns-then-is_empty-clause-told : goal.returns-then-is_empty-clause-told
-returns-then-is_empty-clause-told g c clean view back base others rise has own_is =
+pub returns-then-is_empty-clause-answers : goal.returns-then-is_empty-clause-answers
+returns-then-is_empty-clause-answers g c clean view back base others rise has own_is =
     let same = to_z-of_z w64 c.args.from c.ranges.from in
     let mid = c.loop-row.conn in
     let new = c.reference_under.new.conn in
@@ -103,7 +103,7 @@ returns-then-is_empty-clause-told g c clean view back base others rise has own_i
     let before = clean_between g.S.Store mid new c.in-Err-Damaged.ensures.reads.survives clean in
     let there = subst (λ db. HoldsRows db reference_table others)
     (sym (shows_same g.S.Store c.args.conn.now mid (so_far.reads.same before))) has in
-    let both = (rw same at (so_far.told view back base others rise before has)) own_is in
+    let both = (rw same at (so_far.answers view back base others rise before has)) own_is in
     let r = c.row-item.result in
     let at = c.loop-row.row-index in
     let mine = g.R.Referred.own in
@@ -121,7 +121,7 @@ returns-then-is_empty-clause-told g c clean view back base others rise has own_i
     (g.met.R.Referred.breaks _ (mine r) (row_under others (entry_key (g.R.Referred.entry (mine r))))
     (ordinal, keyed, c.ordinal-ordinal.ensures.least, c.ordinal-ordinal.ensures.most)
     (rw (keyed, c.in-Err-Damaged.rule-is) (rw c.in-Err-Damaged.field-0-is
-    at (c.in-Err-Damaged.ensures.told clean others there))))
+    at (c.in-Err-Damaged.ensures.answers clean others there))))
 
 pub returns-then-is_empty-clause-reads : goal.returns-then-is_empty-clause-reads
 returns-then-is_empty-clause-reads g c =
@@ -138,11 +138,11 @@ returns-clause-reads g c =
     let so_far = c.loop-row.invariant.reads in
     record { same = so_far.same; err = λ clean. tt; mode = so_far.mode; survives = so_far.survives }
 
-pub returns-clause-told : goal.returns-clause-told
-returns-clause-told g c clean view back base others rise has own_is =
+pub returns-clause-answers : goal.returns-clause-answers
+returns-clause-answers g c clean view back base others rise has own_is =
     let same = to_z-of_z w64 c.args.from c.ranges.from in
     let left = none_left c.loop-row.row-index c.args.own.now c.loop-row-test.false in
-    let both = (rw same at (c.loop-row.invariant.told view back base others rise clean has)) own_is in
+    let both = (rw same at (c.loop-row.invariant.answers view back base others rise clean has)) own_is in
     let rest = rows_after c.args.rest base in
     both.1 ∙ ap (λ l. map g.R.Referred.item c.loop-row.rows.items ++ l)
     (referred_after g.R.Referred.entry g.R.Referred.joined g.R.Referred.item view back others

@@ -19,7 +19,7 @@ invariant-loop-row g l =
           (map (λ o. entry_key (g.R.Referred.entry (g.R.Referred.own o))) (drop l.row-index l.fn.own)) l.fn.rest;
       rises : RisesFrom l.fn.from (map g.R.Referred.key l.rows.items) (Some l.next);
       reads : ReadsIfAny {E = TableFault} g.S.Store l.fn.conn l.conn (Ok l.next);
-      told : (view : Entry → g.R.Referred.Own) → ((e : Entry) → g.R.Referred.entry (view e) ≡ e)
+      answers : (view : Entry → g.R.Referred.Own) → ((e : Entry) → g.R.Referred.entry (view e) ≡ e)
           → (base others : List Entry) → Rise base → HasCleanDisk now
           → HoldsRows old.now reference_table others
           → map view (rows_from l.fn.from base)

@@ -16,7 +16,7 @@ returns-in_default-clause-undone g c clean still =
 pub returns-in-Ok-clause-undone : goal.returns-in-Ok-clause-undone
 returns-in-Ok-clause-undone g c clean still =
     probe_unchanged (state g.S.Store c.args.self.now.conn) (state g.S.Store c.probe_table.new.conn) _ _
-    (c.in-Ok.ensures.told clean)
+    (c.in-Ok.ensures.answers clean)
 
 -- it failed, and undid all
 pub returns-in-Err-clause-undone : goal.returns-in-Err-clause-undone
@@ -24,4 +24,4 @@ returns-in-Err-clause-undone g c clean =
     let old = state g.S.Store c.args.self.now.conn in
     back old old (state g.S.Store c.probe_table.new.conn) c.in-Err.e c.note_settled.ensures
     (λ still. record { was_open = still; is_open = still; now_is = refl; committed_is = refl; mode = refl })
-    (search rules) (c.in-Err.ensures.told clean)
+    (search rules) (c.in-Err.ensures.answers clean)

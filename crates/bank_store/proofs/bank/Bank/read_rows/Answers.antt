@@ -8,7 +8,7 @@ returns g c =
     let says = c.read_outside.ensures in
     let same : to_z w64 (of_z w64 c.args.from) ≡ c.args.from = search (rules, to_z-of_z) in
     record {
-      told = rw same at says.told;
+      answers = rw same at says.answers;
       ended = says.ended;
       rises = rw same at says.rises;
       same = says.same;

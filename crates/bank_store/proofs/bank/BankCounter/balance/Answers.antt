@@ -22,7 +22,7 @@ refused g c =
 
 pub returns-in-Ok-clause-answer : goal.returns-in-Ok-clause-answer
 returns-in-Ok-clause-answer g c clean log s =
-    (c.in-Ok.ensures.says.told clean s.tables s.are (sound_tables s.tables log s.commands s.shows)).0
+    (c.in-Ok.ensures.says.answers clean s.tables s.are (sound_tables s.tables log s.commands s.shows)).0
     ∙ balance_shown s.tables log c.args.account s.shows
 
 pub returns-in-Ok-clause-call : goal.returns-in-Ok-clause-call

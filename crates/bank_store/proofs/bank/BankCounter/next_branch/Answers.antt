@@ -30,7 +30,7 @@ returns-in-Ok g c =
       answer =
           λ clean log s.
           let found : c.in-Ok.next ≡ line_above s.tables after =
-          (says.told clean s.tables s.are (sound_tables s.tables log s.commands s.shows)).0 in
+          (says.answers clean s.tables s.are (sound_tables s.tables log s.commands s.shows)).0 in
           rw found (next_shown s.tables log s.shows after (branch_above s.tables after)
           (next_is _ s.tables after s.are));
       within = c.in-Ok.ensures.within;

@@ -43,7 +43,7 @@ returns-in-Ok g c =
     let says = c.in-Ok.ensures.transacts in
     record {
       answer =
-          λ clean log s. (says.told clean s.tables s.are
+          λ clean log s. (says.answers clean s.tables s.are
           (ready_to_open b terms above c.requires.few s.tables log s.commands s.shows)).0
           ∙ answers s.tables log b terms s.shows;
       call =

@@ -61,7 +61,7 @@ returns-in-Ok-post_looked_up g c =
     record {
       answer =
           λ clean log s. first (sym (only c.deref.result.now _ many) ∙ c.deref.ensures
-          ∙ (says.told clean s.tables s.are (of_logs 1 s.tables log s.commands s.shows)).0
+          ∙ (says.answers clean s.tables s.are (of_logs 1 s.tables log s.commands s.shows)).0
           ∙ all_replies s.tables log m rs s.shows);
       call =
           answered_call g.S.Store c.args.self.now _ (posts m rs) _ c.in_ok-up.ensures.up c.in_ok-up.ensures.up
@@ -71,16 +71,16 @@ returns-in-Ok-post_looked_up g c =
       stored = λ clean r is.
           let same = sym c.deref.ensures ∙ only c.deref.result.now _ many in
           record {
-            told = one_stored is (subst (RepliesLookedUp _ _ m rs) same (it.stored clean rs made));
+            answers = one_stored is (subst (RepliesLookedUp _ _ m rs) same (it.stored clean rs made));
             alone = subst (AnswersAll _ _ m rs) same (it.wrote clean rs made);
           };
       leaves =
           λ clean r is t shows so.
-          let told = says.told clean t shows so in
+          let answers = says.answers clean t shows so in
           record {
-            tables = told.1;
-            survives = λ trees may. (tables_past_all t m rs, told.2 trees may, refl);
-            answers = sym (only c.deref.result.now _ many) ∙ c.deref.ensures ∙ told.0;
+            tables = answers.1;
+            survives = λ trees may. (tables_past_all t m rs, answers.2 trees may, refl);
+            answers = sym (only c.deref.result.now _ many) ∙ c.deref.ensures ∙ answers.0;
           };
       malformed = λ up bad is. absurd (no_request (sym read ∙ is));
       own = tt;

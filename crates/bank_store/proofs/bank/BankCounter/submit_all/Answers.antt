@@ -54,7 +54,7 @@ returns-in-Ok g c =
       count = ap length same ∙ c.in-Ok.ensures.count ∙ ap length made.reads ∙ length-map rs request_of;
       answer =
           λ clean log s. same
-          ∙ (says.told clean s.tables s.are (of_logs (length rs) s.tables log s.commands s.shows)).0
+          ∙ (says.answers clean s.tables s.are (of_logs (length rs) s.tables log s.commands s.shows)).0
           ∙ all_replies s.tables log m rs s.shows;
       call =
           answered_call g.S.Store c.args.self.now _ (posts m rs) _ c.in_ok-up.ensures.up c.in_ok-up.ensures.up
@@ -63,12 +63,12 @@ returns-in-Ok g c =
       none_or_all = none_or_all (of_logs (length rs)) (posts m rs) (posts_all m rs) says _ Down Down says.survives;
       leaves =
           λ clean t shows so.
-          let told = says.told clean t shows so in
+          let answers = says.answers clean t shows so in
           record {
             leaves = record {
-              tables = told.1;
-              survives = λ trees may. (tables_past_all t m rs, told.2 trees may, refl);
-              answers = same ∙ told.0;
+              tables = answers.1;
+              survives = λ trees may. (tables_past_all t m rs, answers.2 trees may, refl);
+              answers = same ∙ answers.0;
             };
             idle = λ none. let it = c.in-Ok.ensures.idle clean rs made t shows so none in (it.leads, it.same);
           };

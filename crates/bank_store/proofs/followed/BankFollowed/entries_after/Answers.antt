@@ -86,9 +86,9 @@ returns-then-enough g c =
     let old = database_of g.S.Store c.args.self.now in
     record {
       answer = λ clean log s.
-          let enough = (it.says.told clean s.tables s.are (sound_tables s.tables log s.commands s.shows)).0 in
+          let enough = (it.says.answers clean s.tables s.are (sound_tables s.tables log s.commands s.shows)).0 in
           let all = kept_of old s.tables log s.are s.shows in
-          let given = it.told clean all (holds_kept (has_kept old s.tables log s.are s.shows)) in
+          let given = it.answers clean all (holds_kept (has_kept old s.tables log s.are s.shows)) in
           enough_given old s.tables log s.are s.shows c.args.after c.read_log.new.entries.items
           (sym c.if-enough.true ∙ enough)
           (rw c.in_ok-entries.ensures.items at given.0);
@@ -96,7 +96,7 @@ returns-then-enough g c =
           (takes sound_tables [] stays tt Down Down up it.says) (still_clean it.says.survives);
       tables = λ clean t shown. subst (λ (db : Database). Shows db t) (sym (it.still clean)) shown;
       spares = spares_done g.S.Store c.args.self.now _ _ up it.says.spares;
-      stored = λ clean all has. rw c.in_ok-entries.ensures.items at (it.told clean all has);
+      stored = λ clean all has. rw c.in_ok-entries.ensures.items at (it.answers clean all has);
       reads = reads_done g.S.Store c.args.self.now _ _ it.still it.left;
       broken = tt;
     }
@@ -109,7 +109,7 @@ returns-in-Ok g c =
     record {
       answer = λ clean log s.
           fewer_given s.tables log s.shows c.args.after (sym (c.if-enough.false)
-          ∙ (it.says.told clean s.tables s.are (sound_tables s.tables log s.commands s.shows)).0);
+          ∙ (it.says.answers clean s.tables s.are (sound_tables s.tables log s.commands s.shows)).0);
       call = answered_call g.S.Store c.args.self.now _ [] _ up up
           (takes sound_tables [] stays tt Down Down up it.says) (still_clean it.says.survives);
       tables = λ clean t shown. subst (λ (db : Database). Shows db t) (sym (it.still clean)) shown;

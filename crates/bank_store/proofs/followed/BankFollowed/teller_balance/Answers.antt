@@ -26,7 +26,7 @@ pub returns-in-Ok-clause-answer : goal.returns-in-Ok-clause-answer
 returns-in-Ok-clause-answer g c clean log s =
     c.own_balance.ensures
     ∙ ap (option_map own_balance)
-    (c.in-Ok.ensures.says.told clean s.tables s.are (sound_tables s.tables log s.commands s.shows)).0
+    (c.in-Ok.ensures.says.answers clean s.tables s.are (sound_tables s.tables log s.commands s.shows)).0
     ∙ till_shown s.tables log c.args.teller s.shows
 
 pub returns-in-Ok-clause-call : goal.returns-in-Ok-clause-call

@@ -15,7 +15,7 @@ returns-in-Failed g c = record {
     up = refl;
     survives = search rules;
   };
-  told = λ clean rows has. refl;
+  answers = λ clean rows has. refl;
   store = λ clean rows has no. absurd (let it = no in cc);
   rises = λ k before. tt;
   stage = record {
@@ -37,7 +37,7 @@ returns-in-Ended g c = record {
     up = refl;
     survives = search rules;
   };
-  told =
+  answers =
       λ clean rows has.
       let none = none_after_end c.args.self.now.stage c.in-Ended.is _ in
       (none, none);
@@ -69,13 +69,13 @@ returns-in_err-refill g c =
         up = c.refill.ensures.bank.up;
         survives = c.refill.ensures.bank.survives;
       };
-      told =
+      answers =
           λ clean rows has.
           rw same
-          (faulty_step g.R.WalkedRow.item _ g.R.WalkedRow.Breaks _ _ fault (says.told clean rows has));
+          (faulty_step g.R.WalkedRow.item _ g.R.WalkedRow.Breaks _ _ fault (says.answers clean rows has));
       store =
           λ clean rows has is.
-          store_told _ g.R.WalkedRow.Breaks _ fault (says.told clean rows has)
+          store_told _ g.R.WalkedRow.Breaks _ fault (says.answers clean rows has)
           (same_fault _ fault _ same is);
       rises = λ k before. rw same tt;
       stage = record {
@@ -105,9 +105,9 @@ returns-in-Some g c =
         up = c.refill.ensures.bank.up;
         survives = c.refill.ensures.bank.survives;
       };
-      told =
+      answers =
           λ clean rows has.
-          sym (says.told clean rows has)
+          sym (says.answers clean rows has)
           ∙ gives_next g.R.WalkedRow.key g.R.WalkedRow.item w.stage says.going w.rows.items w.given
           (items_after g.R.WalkedRow.key w.rest (given rows)) c.in-Some.row row;
       store = λ clean rows has no. absurd (ok_no_err _ _ no);
@@ -141,9 +141,9 @@ returns-in-None g c =
         up = c.refill.ensures.bank.up;
         survives = c.refill.ensures.bank.survives;
       };
-      told =
+      answers =
           λ clean rows has. (
-            sym (says.told clean rows has)
+            sym (says.answers clean rows has)
                 ∙ none_to_come g.R.WalkedRow.key g.R.WalkedRow.item w.stage says.going w.rows.items w.given
                 w.rest (given rows) (sym c.ahead-next.ensures.value ∙ c.in-None.is) says.rest,
             refl,

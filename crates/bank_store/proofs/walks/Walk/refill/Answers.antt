@@ -16,7 +16,7 @@ returns-then-self-len g c = record {
     up = refl;
     survives = search rules;
   };
-  told = λ clean rows has. refl;
+  answers = λ clean rows has. refl;
   rises = λ k before. before;
   rest = λ low. absurd (let it = low in omega (arith, c.len.ensures.value, c.if-self-len.true));
   going = c.requires;
@@ -32,7 +32,7 @@ returns-in_default g c = record {
     up = refl;
     survives = search rules;
   };
-  told = λ clean rows has. refl;
+  answers = λ clean rows has. refl;
   rises = λ k before. before;
   rest = search rules;
   going = c.requires;
@@ -53,11 +53,11 @@ returns-in-Ok g c =
         up = c.read_rows-answer.ensures.up;
         survives = c.read_rows-answer.ensures.survives;
       };
-      told =
+      answers =
           λ clean rows has.
           refilled g.R.WalkedRow.key g.R.WalkedRow.item w.stage c.requires w.rows.items w.given w.rest from
           (filter (g.R.WalkedRow.is_given w.of) rows) low c.in-Some.is
-          _ _ (rw same at (c.in-Ok.ensures.told clean rows has));
+          _ _ (rw same at (c.in-Ok.ensures.answers clean rows has));
       rises =
           λ k before.
           rises_on (λ r. g.R.WalkedRow.key (g.R.WalkedRow.item r)) k from w.rows.items w.given w.rest low
@@ -82,15 +82,15 @@ returns-in-Err g c =
         up = c.read_rows-answer.ensures.up;
         survives = c.read_rows-answer.ensures.survives;
       };
-      told =
+      answers =
           λ clean rows has.
           let given = filter (g.R.WalkedRow.is_given w.of) rows in
-          told_of _ g.R.WalkedRow.Breaks _ c.in-Err.fault c.told.result c.told.ensures
+          told_of _ g.R.WalkedRow.Breaks _ c.in-Err.fault c.fault_of.result c.fault_of.ensures
           (subst (λ l. BreaksFirst (IsStoreError (state g.S.Store w.bank.now.conn)
           (state g.S.Store c.read_rows-answer.new.self.conn)) g.R.WalkedRow.Breaks l c.in-Err.fault)
           (from_rest g.R.WalkedRow.key g.R.WalkedRow.item w.stage c.requires w.rows.items w.given w.rest from
           given low c.in-Some.is)
-          (rw same at (c.in-Err.ensures.told clean rows has)));
+          (rw same at (c.in-Err.ensures.answers clean rows has)));
       rises = λ k before. tt;
       rest = tt;
       going = tt;

@@ -16,13 +16,13 @@ none_there row is = cc
 pub returns-in-Some-Some-clause-fits : goal.returns-in-Some-Some-clause-fits
 returns-in-Some-Some-clause-fits c was now left sets fits =
     let got : c.get.result ≡ Some (Some c.in-Some-Some.row) = search rules in
-    let told : known_under c.args.self.now.branches c.args.branch ≡ Some (Some c.in-Some-Some.row) =
+    let answers : known_under c.args.self.now.branches c.args.branch ≡ Some (Some c.in-Some-Some.row) =
     sym (rw c.get-key.ensures.value at c.get.ensures) ∙ got in
     branches_noted c.args.self.now _ was now fits c.args.branch refl refl refl refl left (λ still.
     known_put (λ k row. BranchLies k was row) (λ k row. BranchLies k now row) c.args.branch still
     c.args.self.now.branches c.put.new.self (Some (record c.in-Some-Some.row { balance = c.args.balance }))
     (rw c.get-key.ensures.value at c.put.ensures.true_after)
-    (sets c.in-Some-Some.row (fits.branches c.args.branch (Some c.in-Some-Some.row) told)) fits.branches)
+    (sets c.in-Some-Some.row (fits.branches c.args.branch (Some c.in-Some-Some.row) answers)) fits.branches)
 
 pub returns-in-Some-None-clause-fits : goal.returns-in-Some-None-clause-fits
 returns-in-Some-None-clause-fits c was now left sets fits =
@@ -31,20 +31,20 @@ returns-in-Some-None-clause-fits c was now left sets fits =
 
 pub returns-in-None-clause-fits : goal.returns-in-None-clause-fits
 returns-in-None-clause-fits c was now left sets fits =
-    let told : known_under c.args.self.now.branches c.args.branch ≡ None =
+    let answers : known_under c.args.self.now.branches c.args.branch ≡ None =
     sym (rw c.get-key.ensures.value at c.get.ensures) ∙ c.in-None.is in
     branches_noted c.args.self.now c.args.self.now was now fits c.args.branch refl refl refl refl left (λ still.
     known_apart (λ k row. BranchLies k was row) (λ k row. BranchLies k now row) c.args.branch still
-    c.args.self.now.branches told fits.branches)
+    c.args.self.now.branches answers fits.branches)
 
 -- ---- the balance is known then
 
 pub returns-in-Some-Some-clause-noted : goal.returns-in-Some-Some-clause-noted
 returns-in-Some-Some-clause-noted c r is room =
     let got : c.get.result ≡ Some (Some c.in-Some-Some.row) = search rules in
-    let told : known_under c.args.self.now.branches c.args.branch ≡ Some (Some c.in-Some-Some.row) =
+    let answers : known_under c.args.self.now.branches c.args.branch ≡ Some (Some c.in-Some-Some.row) =
     sym (rw c.get-key.ensures.value at c.get.ensures) ∙ got in
-    let both : ◌≡◌ {A = Option (Option BranchRow)} (Some (Some c.in-Some-Some.row)) (Some (Some r)) = sym told ∙ is in
+    let both : ◌≡◌ {A = Option (Option BranchRow)} (Some (Some c.in-Some-Some.row)) (Some (Some r)) = sym answers ∙ is in
     let same : c.in-Some-Some.row ≡ r = cc in
     let put : Knows c.put.new.self c.args.branch (Some (record c.in-Some-Some.row { balance = c.args.balance })) =
     rw c.get-key.ensures.value at (c.put.ensures.known room) in
@@ -53,12 +53,12 @@ returns-in-Some-Some-clause-noted c r is room =
 pub returns-in-Some-None-clause-noted : goal.returns-in-Some-None-clause-noted
 returns-in-Some-None-clause-noted c r is room =
     let got : c.get.result ≡ Some None = search rules in
-    let told : known_under c.args.self.now.branches c.args.branch ≡ Some None =
+    let answers : known_under c.args.self.now.branches c.args.branch ≡ Some None =
     sym (rw c.get-key.ensures.value at c.get.ensures) ∙ got in
-    absurd (other_row r (sym told ∙ is))
+    absurd (other_row r (sym answers ∙ is))
 
 pub returns-in-None-clause-noted : goal.returns-in-None-clause-noted
 returns-in-None-clause-noted c r is room =
-    let told : known_under c.args.self.now.branches c.args.branch ≡ None =
+    let answers : known_under c.args.self.now.branches c.args.branch ≡ None =
     sym (rw c.get-key.ensures.value at c.get.ensures) ∙ c.in-None.is in
-    absurd (none_there r (sym told ∙ is))
+    absurd (none_there r (sym answers ∙ is))

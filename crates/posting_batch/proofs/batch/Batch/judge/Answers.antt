@@ -25,7 +25,7 @@ returns-clause-judged c t records is free =
     subst (λ (u : Tables). HasFreeOrdinals u (length records)) (sym it.same) free in
     let each = subst (λ (n : ℕ). HasFreeOrdinals (tables_over old t) n) (sym (length-map records request_of)) over in
     let after = judged m c.judge_records.ensures.overlay (c.as_slice.ensures ∙ is.reads) is.overlay in
-    let told : c.judge_records.new.replies.items ≡ replies_past_all t m records =
+    let are : c.judge_records.new.replies.items ≡ replies_past_all t m records =
     c.judge_records.ensures.replies
     ∙ ap (λ (items : List (List ℕ)). items
     ++ map reply_spelling (replies_over (view c.args.self.overlay) m c.as_slice.result.now)) c.args.self.fresh
@@ -38,7 +38,7 @@ returns-clause-judged c t records is free =
       tables =
           ap (λ (o : Overlay). tables_over o t) after ∙ all_tables old t m records over it.fits it.covers
           ∙ ap (λ (u : Tables). tables_past_all u m records) it.same;
-      answers = told;
+      answers = are;
       changes = subst (λ (o : Overlay). ChangesRows o t) (sym after)
           (all_changes old t m reads each it.fits it.unchanged it.covers);
       adds = subst (λ (o : Overlay). AddsFreeRows o t) (sym after)

@@ -9,7 +9,7 @@ abbrev pub invariant-loop-read : goal.invariant-loop-read
 invariant-loop-read l = record {
   overlay : overlay_with_all (view l.self) l.moment (drop l.read-index l.reads) ≡ overlay_with_all
       (view l.fn.self) l.moment l.reads;
-  told : l.replies.items ++ map reply_spelling
+  answers : l.replies.items ++ map reply_spelling
       (replies_over (view l.self) l.moment (drop l.read-index l.reads))
       ≡ l.fn.replies.items ++ map reply_spelling (replies_over (view l.fn.self) l.moment l.reads);
   replies_room : HasRoomFor l.replies (length l.reads - l.read-index);

@@ -9,7 +9,7 @@ abbrev pub invariant-loop-bytes : goal.invariant-loop-bytes
 invariant-loop-bytes l = record {
   tables : tables_past_all (plain_tables l.self) l.moment (drop l.bytes-index l.records)
       ≡ tables_past_all (plain_tables l.fn.self) l.moment l.records;
-  told : l.replies.items ++ replies_past_all (plain_tables l.self) l.moment (drop l.bytes-index l.records)
+  answers : l.replies.items ++ replies_past_all (plain_tables l.self) l.moment (drop l.bytes-index l.records)
       ≡ l.fn.replies.items ++ replies_past_all (plain_tables l.fn.self) l.moment l.records;
   replies_room : vec_len l.replies + (length l.records - l.bytes-index) ≤ vec_capacity l.replies;
   requests_room : vec_len l.self.requests + (length l.records - l.bytes-index) ≤ vec_capacity l.self.requests;

@@ -19,11 +19,11 @@ returns g c =
     let same = to_z-of_z w64 c.args.from c.ranges.from in
     let filled = c.fill_joined.ensures in
     record {
-      told = λ clean all has.
+      answers = λ clean all has.
           let whole : filter (λ (p : Pair). g.R.StoredRow.kind.is_given None p.entry) all
           ≡ filter (λ (p : Pair). true) all =
           all_pass _ (λ p. g.R.StoredRow.kind.all_given p.entry) all ∙ sym (all_given all) in
-          rw (same, whole) at (filled.told clean all (holds_pairs has));
+          rw (same, whole) at (filled.answers clean all (holds_pairs has));
       ended = filled.ended;
       rises = rw same at filled.rises;
       reads = filled.reads;

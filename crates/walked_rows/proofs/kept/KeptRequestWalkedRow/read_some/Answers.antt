@@ -10,7 +10,7 @@ returns g c =
     let same = to_z-of_z w64 c.args.from c.ranges.from in
     let read = c.read_kept.ensures in
     record {
-      told = λ clean all has. rw (all_given all) (rw same at (read.told clean all (holds_kept has)));
+      answers = λ clean all has. rw (all_given all) (rw same at (read.answers clean all (holds_kept has)));
       ended = read.ended;
       rises = rw same at read.rises;
       reads = read.reads;

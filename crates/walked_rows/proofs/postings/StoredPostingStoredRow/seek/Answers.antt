@@ -16,16 +16,16 @@ rows_shown-requires g c = walks_postings.only
 pub rows_shown-requires-in-Some : goal.rows_shown-requires-in-Some
 rows_shown-requires-in-Some g c = only_reads is_postings_of
 
-pub returns-in-None-clause-told : goal.returns-in-None-clause-told
-returns-in-None-clause-told g c clean rows has =
+pub returns-in-None-clause-answers : goal.returns-in-None-clause-answers
+returns-in-None-clause-answers g c clean rows has =
     let from = c.args.from in
     rw c.in-None.is
     (tells_walk (state g.S.Store c.args.conn.now) (state g.S.Store c.rows_shown.new.conn) walks_postings rows
     has (λ v. v.items) from c.rows_shown.result
     (rw (c.params-to_sql.ensures, to_z-of_z w64 from c.ranges.from) at (c.rows_shown.ensures.shown clean)))
 
-pub returns-in-Some-clause-told : goal.returns-in-Some-clause-told
-returns-in-Some-clause-told g c clean rows has =
+pub returns-in-Some-clause-answers : goal.returns-in-Some-clause-answers
+returns-in-Some-clause-answers g c clean rows has =
     let one = pos c.in-Some.account in
     let from = c.args.from in
     let account = as_integer c.get-account.result c.in-Some.account c.get-account.ensures.value

@@ -7,8 +7,8 @@ use Rattle.walked_rows.proofs.requests.StoredRequestStoredRow.seek.Goals as goal
 pub rows_shown-requires : goal.rows_shown-requires
 rows_shown-requires g c = walks_requests.only
 
-pub returns-clause-told : goal.returns-clause-told
-returns-clause-told g c clean rows has =
+pub returns-clause-answers : goal.returns-clause-answers
+returns-clause-answers g c clean rows has =
     let shown = c.rows_shown.ensures.shown clean in
     tells_walk (state g.S.Store c.args.conn.now) (state g.S.Store c.rows_shown.new.conn)
     walks_requests rows has (λ v. v.items) c.args.from c.rows_shown.result

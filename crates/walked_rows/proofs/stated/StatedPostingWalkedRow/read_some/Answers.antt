@@ -28,16 +28,16 @@ returns-in-Ok g c =
     let stated = c.refer_each.ensures in
     let between = clean_between g.S.Store mid new stated.reads.survives in
     record {
-      told = λ clean all has.
+      answers = λ clean all has.
           let unchanged = read.reads.same (between clean) in
           let given = is_of c.args.of in
-          let told = rw whole at (read.told (between clean) has.rows (holds_rows has.has)) in
+          let answers = rw whole at (read.answers (between clean) has.rows (holds_rows has.has)) in
           let others = subst (λ db. HoldsRows db reference_table has.others)
           (sym unchanged.0.now_is) (holds_rows has.has_others) in
           MatchResult-weaker c.refer_each.result
-          ((rw (c.as_slice.ensures.value, whole) at (stated.told clean (λ e. e) (λ e. refl)
+          ((rw (c.as_slice.ensures.value, whole) at (stated.answers clean (λ e. e) (λ e. refl)
           (filter given has.rows) has.others (rise_filter given has.rows has.has.holds.rows.rise) others))
-          (map-id _ ∙ told ∙ ap (λ l. map posting_entry c.read_ahead.new.rows.items ++ l) (sym (map-id _))))
+          (map-id _ ∙ answers ∙ ap (λ l. map posting_entry c.read_ahead.new.rows.items ++ l) (sym (map-id _))))
           (filled stated_pair has.others has.rows given all has.are from c.refer_each.new.rows.items)
           (breaks_given has.others has.rows given all has.are from _
           (BreaksBy posting_of) BreaksReference _
@@ -52,11 +52,11 @@ returns-in-Err g c =
     let whole = to_z-of_z w64 c.args.from c.ranges.from in
     let read = c.in-Err.ensures in
     record {
-      told = λ clean all has.
+      answers = λ clean all has.
           breaks_own has.others has.rows (is_of c.args.of) all has.are c.args.from
           (IsStoreError (state g.S.Store c.args.conn.now) (state g.S.Store c.read_ahead.new.conn))
           (BreaksBy posting_of) BreaksReference
-          c.in-Err.fault (rw whole at (read.told clean has.rows (holds_rows has.has)));
+          c.in-Err.fault (rw whole at (read.answers clean has.rows (holds_rows has.has)));
       ended = tt;
       rises = tt;
       reads = read.reads;

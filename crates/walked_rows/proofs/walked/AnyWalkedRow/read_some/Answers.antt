@@ -8,7 +8,7 @@ returns g c =
     let same = to_z-of_z w64 c.args.from c.ranges.from in
     let read = c.read_ahead.ensures in
     record {
-      told = λ clean all has. (rw same at (read.told clean all (holds_rows has)));
+      answers = λ clean all has. (rw same at (read.answers clean all (holds_rows has)));
       ended = read.ended;
       rises = rw same at read.rises;
       reads = read.reads;
