@@ -19,7 +19,7 @@ struct Scenario<S: Alter> {
     looked: Option<Look>,
 }
 
-// Written out, so that it is a call where an owner ends.
+// It is written out, so that a caller does not prove again how each part is dropped.
 impl<S: Alter + Drop> Drop for Scenario<S> {
     fn drop(self) {
         let Scenario {

@@ -58,6 +58,7 @@ fn put_replies(room: &mut Vec<[u8; REPLY_BYTES]>, replies: &Replies)
 /// - [`Fault::Down`]: a fault brought the bank down before. Nothing was tried: it is the bank that it was.
 ///
 /// This holds of a disk that returns what was written, as long as nobody else writes the file.
+#[derive(Drop)]
 pub struct Bank<S: Alter> {
     pub(crate) alloc: Global,
     pub(crate) conn: Connection<S>,
@@ -67,18 +68,6 @@ pub struct Bank<S: Alter> {
     fault: Option<TableFault>,
     ghost idle: { conn.in_transaction ≡ false },
     ghost remembers: { ∥ Remembers S.Store conn memory ∥₁ },
-}
-
-// Written out, so that it is a call where an owner ends.
-impl<S: Alter + Drop> Drop for Bank<S> {
-    fn drop(self) {
-        let Bank {
-            alloc: _,
-            conn: _,
-            memory: _,
-            fault: _,
-        } = self;
-    }
 }
 
 impl<S: Alter> Bank<S> {

@@ -54,7 +54,7 @@ pub struct Memory {
     ghost low: { ∥ AreLow floors ∥₁ },
 }
 
-// Written out, so that it is a call where an owner ends.
+// It is written out, so that a caller does not prove again how each part is dropped.
 impl Drop for Memory {
     fn drop(self) {
         let Memory {

@@ -138,7 +138,7 @@ pub struct PlainBank {
     ghost counted: { HasOrdinalsTo (length requests.items) history.items requests.items references.items },
 }
 
-// Written out, so that it is a call where an owner ends.
+// It is written out, so that a caller does not prove again how each part is dropped.
 impl Drop for PlainBank {
     fn drop(self) {
         let PlainBank {
