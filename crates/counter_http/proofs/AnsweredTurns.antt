@@ -10,7 +10,7 @@ use Rattle.posting_rules.specs.believed.Counter.{Seen, IsCounterCall, ShowsLog, 
 use Rattle.posting_rules.proofs.CounterCalls.{call_refused_after, refused_after, takes_none}
 use Rattle.posting_core.specs.{Clock.IsReading, believed.Clock.AreReadings, Stream.IsOfCall, EndCalls.WriteCall}
 use Rattle.counter_http.specs.{declared.fault.ServeFault.ServeFault, declared.routes.Route.Route, Ends.SendsAs}
-use Rattle.counter_http.specs.declared.fault.ServeFault.TheVariants as told
+use Rattle.counter_http.specs.declared.fault.ServeFault.TheVariants as serve
 use Rattle.counter_http.specs.Figures.{asks_figures, asks_on}
 use Rattle.counter_http.specs.believed.Answers.{octets, status_words, bare, is_record, submits}
 use Rattle.counter_http.specs.believed.Answers.{answer_on, Asked, Answer, answer_to, answer_text, shows, unavailable}
@@ -33,11 +33,11 @@ pub told_refused : {C : Type 0} (seen : C → Seen) {reason : Fault → C → C 
     → ((seen old).is_down → new ≡ old)
     → ((n : ℕ) × Appends w w' (take n (unavailable a)) × IsTellingOf fault result n (unavailable a))
     → SendsAs (Err result) v v' → IsDealtWith seen reason w w' v v' old new a cs (Err result)
-told_refused seen old new a cs fault told.Write refused why idle t ends = record {
+told_refused seen old new a cs fault serve.Write refused why idle t ends = record {
   answers = inr (record {
     written = take t.0 (unavailable a);
     wrote = t.1;
-    told = front_of t.0 (unavailable a);
+    part = front_of t.0 (unavailable a);
     fault = fault;
     refused = refused;
   });
@@ -46,9 +46,9 @@ told_refused seen old new a cs fault told.Write refused why idle t ends = record
   honest = λ h. refused.honest_first (refused.honest h);
   ends = ends;
 }
-told_refused seen {reason = reason} {w = w} {w' = w'} {v = v} {v' = v'} old new a cs fault (told.Bank f)
+told_refused seen {reason = reason} {w = w} {w' = w'} {v = v} {v' = v'} old new a cs fault (serve.Bank f)
     refused why idle t ends =
-    subst (λ (x : Fault). IsDealtWith seen reason w w' v v' old new a cs (Err (told.Bank x))) (sym t.2.0)
+    subst (λ (x : Fault). IsDealtWith seen reason w w' v v' old new a cs (Err (serve.Bank x))) (sym t.2.0)
     (record {
       answers = record {
         wrote = subst (λ (x : List ℕ). Appends w w' x)
@@ -60,8 +60,8 @@ told_refused seen {reason = reason} {w = w} {w' = w'} {v = v} {v' = v'} old new 
       honest = λ h. refused.honest_first (refused.honest h);
       ends = ends;
     })
-told_refused seen old new a cs fault told.Read refused why idle t ends = absurd t.2
-told_refused seen old new a cs fault told.Memory refused why idle t ends = absurd t.2
+told_refused seen old new a cs fault serve.Read refused why idle t ends = absurd t.2
+told_refused seen old new a cs fault serve.Memory refused why idle t ends = absurd t.2
 
 -- a call of the bank was refused
 pub why_first : {C K X : Type 0} (seen : C → Seen) (contents : C → K) (reason : Fault → C → C → Type 0)
@@ -76,12 +76,12 @@ pub why_after : {C : Type 0} (seen : C → Seen) (reason : Fault → C → C →
     (cs : List Command) → Takes (seen old) (seen now) cs → ((seen now).honest → (seen old).honest)
     → ((seen old).is_down → now ≡ old) → (fault : ServeFault) → IfRefused fault (IsOfCall seen reason now new)
     → IfRefused fault (IsOfCall seen reason old new)
-why_after seen reason old now new cs takes honest idle told.Write why = tt
-why_after seen reason old now new cs takes honest idle (told.Bank fault) (inl call) =
+why_after seen reason old now new cs takes honest idle serve.Write why = tt
+why_after seen reason old now new cs takes honest idle (serve.Bank fault) (inl call) =
     inl (refused_after seen reason old now new cs takes honest idle fault call)
-why_after seen reason old now new cs takes honest idle (told.Bank fault) (inr own) = inr own
-why_after seen reason old now new cs takes honest idle told.Read why = tt
-why_after seen reason old now new cs takes honest idle told.Memory why = tt
+why_after seen reason old now new cs takes honest idle (serve.Bank fault) (inr own) = inr own
+why_after seen reason old now new cs takes honest idle serve.Read why = tt
+why_after seen reason old now new cs takes honest idle serve.Memory why = tt
 
 -- at the first call
 pub refused_first : {C : Type 0} (seen : C → Seen) (old new : C) (fault : Fault) (cs : List Command)
@@ -123,7 +123,7 @@ told_answer seen {w = w} {w' = w'} old new a cs x (Ok u) takes up is honest idle
 }
 told_answer seen {reason = reason} {w = w} {w' = w'} {v = v} {v' = v'} old new a cs x (Err e) takes up is
     honest idle sent =
-    let write : e ≡ told.Write = cc sent.fault in
+    let write : e ≡ serve.Write = cc sent.fault in
     let n = sent.written.0 in
     subst (λ (f : ServeFault). IsDealtWith seen reason w w' v v' old new a cs (Err f)) (sym write) (record {
       answers = inl (record {

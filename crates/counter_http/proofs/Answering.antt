@@ -33,26 +33,26 @@ use Rattle.counter_http.proofs.Walking.{walks_after, walks_closed, walks_end}
 -- ---- a message of its own
 
 abbrev pub step_told : Option Figures → ℕ → ℕ → Message → Step
-step_told told i moment m = record { client = i; turn = record { message = m; moment = moment }; told = told }
+step_told figures i moment m = record { client = i; turn = record { message = m; moment = moment }; figures = figures }
 
 -- no figures are told
 abbrev pub step_of : ℕ → ℕ → Message → Step
 step_of i moment m = step_told None i moment m
 
-own_more : (told : Option Figures) (i : ℕ) (steps : List Step) (moment : ℕ) (m : Message)
+own_more : (figures : Option Figures) (i : ℕ) (steps : List Step) (moment : ℕ) (m : Message)
     → of_client i steps ++ record { message = m; moment = moment } ∷ []
-    ≡ of_client i (steps ++ step_told told i moment m ∷ [])
-own_more told i steps moment m =
-    sym (of_client-append i steps (step_told told i moment m ∷ [])
-    ∙ ap (λ (x : List Turn). of_client i steps ++ x) (all_of i (step_told told i moment m ∷ []) (refl, tt)))
+    ≡ of_client i (steps ++ step_told figures i moment m ∷ [])
+own_more figures i steps moment m =
+    sym (of_client-append i steps (step_told figures i moment m ∷ [])
+    ∙ ap (λ (x : List Turn). of_client i steps ++ x) (all_of i (step_told figures i moment m ∷ []) (refl, tt)))
 
-answers_more : (told : Option Figures) (i : ℕ) (log : List Command) (steps : List Step) (moment : ℕ) (m : Message)
-    → answers_at i log steps ++ answer_told told (followed_by log (submitted_by steps)) (asked_by m) ∷ []
-    ≡ answers_at i log (steps ++ step_told told i moment m ∷ [])
-answers_more told i log steps moment m =
-    sym (answers_at-append i log steps (step_told told i moment m ∷ [])
+answers_more : (figures : Option Figures) (i : ℕ) (log : List Command) (steps : List Step) (moment : ℕ) (m : Message)
+    → answers_at i log steps ++ answer_told figures (followed_by log (submitted_by steps)) (asked_by m) ∷ []
+    ≡ answers_at i log (steps ++ step_told figures i moment m ∷ [])
+answers_more figures i log steps moment m =
+    sym (answers_at-append i log steps (step_told figures i moment m ∷ [])
     ∙ ap (λ (x : List (List ℕ)). answers_at i log steps ++ x)
-    (one_answer i (followed_by log (submitted_by steps)) (step_told told i moment m) refl))
+    (one_answer i (followed_by log (submitted_by steps)) (step_told figures i moment m) refl))
 
 -- one text more
 text_more : (written pending text : List ℕ) (texts : List (List ℕ)) (answer : List ℕ)
@@ -75,7 +75,7 @@ input_more ts t buf rest front = ap (λ (x : List ℕ). texts_of ts ++ x) front 
 -- where nothing is left, no message is
 unfinished_nothing : (shown : Bool) → IsUnfinished [] shown
 unfinished_nothing true =
-    record { ending = No_head; ends = λ some. absurd (some refl); told = refl; room = omega arith }
+    record { ending = No_head; ends = λ some. absurd (some refl); answer = refl; room = omega arith }
 unfinished_nothing false = record {
   ending = No_body (record {
     blank = [];
@@ -87,23 +87,24 @@ unfinished_nothing false = record {
     last = lf;
   });
   ends = λ some. absurd (some refl);
-  told = refl;
+  answer = refl;
   room = omega arith;
 }
 
 -- and the connection goes on
 pub answered_on : {i : ℕ} {k l : Known} {c c' c'' : Seen} {steps : List Step} {has_more shown : Bool}
-    {buf pending : List ℕ} (told : Option Figures) (moment : ℕ) (m : Message) (rest text : List ℕ)
+    {buf pending : List ℕ} (figures : Option Figures) (moment : ℕ) (m : Message) (rest text : List ℕ)
     → IsMessage m → closes m.head ≡ false → buf ≡ message_text m ++ rest → (c''.honest → c'.honest)
     → (c''.honest → (log : List Command) → ShowsLog c log
-    → text ≡ answer_told told (followed_by log (submitted_by steps)) (asked_by m))
+    → text ≡ answer_told figures (followed_by log (submitted_by steps)) (asked_by m))
     → (more : Bool) → (more ≡ false → rest ≡ [])
     → IsGoing i k l c c' steps has_more shown buf pending
-    → IsGoing i k l c c'' (steps ++ step_told told i moment m ∷ []) more shown rest (pending ++ text)
-answered_on {i} {k} {l} {c} {c'} {c''} {steps} {shown = shown} {buf = buf} {pending = pending} told moment m rest text whole
+    → IsGoing i k l c c'' (steps ++ step_told figures i moment m ∷ []) more shown rest (pending ++ text)
+answered_on {i} {k} {l} {c} {c'} {c''} {steps} {shown = shown} {buf = buf}
+    {pending = pending} figures moment m rest text whole
     stays front honest is more none g =
     let t : Turn = record { message = m; moment = moment } in
-    let own = own_more told i steps moment m in
+    let own = own_more figures i steps moment m in
     record {
       read = subst (λ (ts : List Turn). Consumes k.reader l.reader (texts_of ts ++ rest)) own
           (read_one_more k.reader l.reader (of_client i steps) t buf rest g.read front);
@@ -113,10 +114,10 @@ answered_on {i} {k} {l} {c} {c'} {c''} {steps} {shown = shown} {buf = buf} {pend
       written = g.written;
       wrote = g.wrote;
       answers = λ h log s. text_more g.written pending text (answers_at i log steps) _
-          (g.answers (honest h) log s) (is h log s) ∙ ap joined (answers_more told i log steps moment m);
+          (g.answers (honest h) log s) (is h log s) ∙ ap joined (answers_more figures i log steps moment m);
       more = g.more;
       through = λ e. g.through (none_left pending text e);
-      prompt = reads_further (step_told told i moment m ∷ []) honest
+      prompt = reads_further (step_told figures i moment m ∷ []) honest
           (input_more (of_client i steps) t buf rest front ∙ ap (λ (ts : List Turn). texts_of ts ++ rest) own)
           g.prompt;
     }
@@ -142,17 +143,18 @@ walked_closed ts t rest stays whole closed =
 
 -- and the connection ends
 pub answered_last : {i : ℕ} {k l : Known} {c c' c'' : Seen} {steps : List Step} {has_more shown : Bool}
-    {buf pending : List ℕ} (told : Option Figures) (moment : ℕ) (m : Message) (rest text : List ℕ)
+    {buf pending : List ℕ} (figures : Option Figures) (moment : ℕ) (m : Message) (rest text : List ℕ)
     → IsMessage m → closes m.head ≡ true → buf ≡ message_text m ++ rest → (c''.honest → c'.honest)
     → (c''.honest → (log : List Command) → ShowsLog c log
-    → text ≡ answer_told told (followed_by log (submitted_by steps)) (asked_by m))
+    → text ≡ answer_told figures (followed_by log (submitted_by steps)) (asked_by m))
     → IsGoing i k l c c' steps has_more shown buf pending
-    → IsParted i k l c c'' (steps ++ step_told told i moment m ∷ []) (pending ++ text) parting.Served
-answered_last {i} {k} {l} {c} {c'} {c''} {steps} {buf = buf} {pending = pending} told moment m rest text whole last front
+    → IsParted i k l c c'' (steps ++ step_told figures i moment m ∷ []) (pending ++ text) parting.Served
+answered_last {i} {k} {l} {c} {c'} {c''} {steps} {buf = buf}
+    {pending = pending} figures moment m rest text whole last front
     honest is g =
     let t : Turn = record { message = m; moment = moment } in
-    let own = own_more told i steps moment m in
-    let none = append-nil (of_client i (steps ++ step_told told i moment m ∷ [])) in
+    let own = own_more figures i steps moment m in
+    let none = append-nil (of_client i (steps ++ step_told figures i moment m ∷ [])) in
     record {
       lost = [];
       rest = rest;
@@ -165,11 +167,11 @@ answered_last {i} {k} {l} {c} {c'} {c''} {steps} {buf = buf} {pending = pending}
           (walked_closed (of_client i steps) t rest g.stays whole last);
       answers = λ h log s. text_more g.written pending text (answers_at i log steps) _
           (g.answers (honest h) log s) (is h log s)
-          ∙ ap joined (answers_more told i log steps moment m ∙ sym (append-nil _));
+          ∙ ap joined (answers_more figures i log steps moment m ∙ sym (append-nil _));
       more = g.more;
       left = tt;
       ends = λ e. g.through (none_left pending text e);
-      prompt = reads_further (step_told told i moment m ∷ []) honest
+      prompt = reads_further (step_told figures i moment m ∷ []) honest
           (input_more (of_client i steps) t buf rest front
           ∙ ap (λ (ts : List Turn). texts_of ts ++ rest) (own ∙ sym none)) g.prompt;
     }
@@ -187,7 +189,7 @@ answered_unavailable {i} {k} {l} {c} {c'} {c''} {steps} {buf = buf} {pending = p
     honest g =
     let t : Turn = record { message = m; moment = moment } in
     let same = append-nil steps in
-    let told : IsBrokenOff (of_client i steps) (t ∷ []) (unavailable (asked_by m) ∷ []) =
+    let broken_off : IsBrokenOff (of_client i steps) (t ∷ []) (unavailable (asked_by m) ∷ []) =
     record { stays = g.stays; turn = t; whole = whole; refused_is = refl; last_is = refl } in
     record {
       parted = record {
@@ -197,7 +199,7 @@ answered_unavailable {i} {k} {l} {c} {c'} {c''} {steps} {buf = buf} {pending = p
         read = read_one_more k.reader l.reader (of_client i steps) t buf rest g.read front;
         written = g.written;
         wrote = g.wrote;
-        parts = told;
+        parts = broken_off;
         answers = λ h log s. text_more g.written pending (unavailable (asked_by m)) (answers_at i log steps) _
             (g.answers (honest h) log s) refl;
         more = g.more;
@@ -208,7 +210,7 @@ answered_unavailable {i} {k} {l} {c} {c'} {c''} {steps} {buf = buf} {pending = p
             (reads_further [] honest (input_more (of_client i steps) t buf rest front) g.prompt);
       };
       lost = refl;
-      told = told;
+      broken_off = broken_off;
     }
 
 -- as no message
@@ -238,12 +240,12 @@ answered_refusal {i} {k} {l} {c} {c'} {steps} {buf = buf} {pending = pending} sh
 -- ---- something is read
 
 pub read_going : {i : ℕ} {k l : Known} {c c' : Seen} {steps : List Step} {shown : Bool} {rest : List ℕ}
-    (all : List ℕ) (told : Result ℕ Error) (r'' : Option (List ℕ)) (q'' : Option (List ReadCall))
+    (all : List ℕ) (answer : Result ℕ Error) (r'' : Option (List ℕ)) (q'' : Option (List ReadCall))
     (b'' : Option (List Beside)) → IsGoing i k l c c' steps false shown rest []
-    → HasRead l.reader r'' told rest all → GrowsBy l.reads q'' (read_call told ∷ [])
-    → GrowsBy l.beside b'' (record { contents = l.writer; told = l.writes } ∷ [])
+    → HasRead l.reader r'' answer rest all → GrowsBy l.reads q'' (read_call answer ∷ [])
+    → GrowsBy l.beside b'' (record { contents = l.writer; calls = l.writes } ∷ [])
     → IsGoing i k (record l { reader = r''; reads = q''; beside = b'' }) c c' steps true shown all []
-read_going {i} {k} {l} {c} {c'} {steps} {rest = rest} all told r'' q'' b'' g read tells beside =
+read_going {i} {k} {l} {c} {c'} {steps} {rest = rest} all answer r'' q'' b'' g read tells beside =
     let before = texts_of (of_client i steps) in
     let same = append_assoc before rest read.bytes ∙ ap (λ (x : List ℕ). before ++ x) (sym read.all_is) in
     record {
@@ -257,7 +259,7 @@ read_going {i} {k} {l} {c} {c'} {steps} {rest = rest} all told r'' q'' b'' g rea
       more = g.more;
       through = g.through;
       prompt = subst (λ (x : List ℕ). AnswersBeforeItsReads i k.reads q'' k.beside b'' k.writer k.writes c c' steps x)
-          same (one_read_more (before ++ rest) read.bytes (read_call told) _ g.prompt (record {
+          same (one_read_more (before ++ rest) read.bytes (read_call answer) _ g.prompt (record {
             before = steps;
             after = [];
             order = sym (append-nil steps);

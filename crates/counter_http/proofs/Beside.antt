@@ -109,10 +109,10 @@ pub one_read_more : {i : ℕ} {q q' q'' : Option (List ReadCall)} {b b' b'' : Op
     → AnswersBeforeItsReads i q q' b b' w t c c' steps input → HoldsOwnAnswers i w t c c' steps input sink
     → GrowsBy q' q'' (x ∷ []) → GrowsBy b' b'' (sink ∷ []) → given (x ∷ []) ≡ length bytes
     → AnswersBeforeItsReads i q q'' b b'' w t c c' steps (input ++ bytes)
-one_read_more {q = q} {q' = q'} {q'' = q''} {b = b} {b' = b'} {b'' = b''} input bytes x sink p holds told beside long =
+one_read_more {q = q} {q' = q'} {q'' = q''} {b = b} {b' = b'} {b'' = b''} input bytes x sink p holds made beside long =
     record {
       reads = p.reads ++ x ∷ [];
-      made = adds-more q q' q'' p.reads (x ∷ []) p.made told;
+      made = adds-more q q' q'' p.reads (x ∷ []) p.made made;
       long = omega (arith, given-append p.reads (x ∷ []), p.long, long, length-append input bytes);
       sinks = p.sinks ++ sink ∷ [];
       beside = adds-more b b' b'' p.sinks (sink ∷ []) p.beside beside;

@@ -160,7 +160,7 @@ broken_at seen Write old now new t all rest g is front reading honest (inr a) id
     (subst (λ (cs : List Command). Refuses a.fault (seen a.refused.stood) (seen new) cs) (one_commands t)
     a.refused.refuses))
     (λ text. written_part text a.written text (unavailable (asked_by t.message) ++ []) refl
-    (a.told ∙ ap (take (length a.written)) (sym (append-nil (unavailable (asked_by t.message)))))) idle
+    (a.part ∙ ap (take (length a.written)) (sym (append-nil (unavailable (asked_by t.message)))))) idle
 broken_at seen (Bank fault) old now new t all rest g is front reading honest a idle =
     bank_failed seen old now new (Err (Bank fault)) t all rest (unavailable (asked_by t.message)) fault g
     front reading a.wrote a.refused (

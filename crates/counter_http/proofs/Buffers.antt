@@ -17,10 +17,10 @@ pub told_onto : {E : Type 0} (r : Result (Unit {0}) E) (old new text : List ℕ)
     → false ≡ is_err r
     → ((n : ℕ) × Appends (Some old) (Some new) (take n text) × OnOk r (n ≡ length text))
     → drop written new ≡ drop written old ++ text
-told_onto (Ok done) old new text written within ok told =
-    ap (drop written) (told.1 ∙ ap (λ (x : List ℕ). old ++ x) (take_all told.0 text (omega (arith, told.2))))
+told_onto (Ok done) old new text written within ok wrote =
+    ap (drop written) (wrote.1 ∙ ap (λ (x : List ℕ). old ++ x) (take_all wrote.0 text (omega (arith, wrote.2))))
     ∙ drop-append-le written old text within
-told_onto (Err e) old new text written within ok told = absurd (true≢false (sym ok))
+told_onto (Err e) old new text written within ok wrote = absurd (true≢false (sym ok))
 
 -- the message at the front is passed
 pub moved_front : (old new : List ℕ) (filled long : ℕ) → long ≤ filled

@@ -141,7 +141,7 @@ short_walk rest g is ended some =
     record {
       ending = is.ending;
       walks = walks_end g.turns rest is.ending g.stays (is.ends some);
-      last_is = sym is.told;
+      last_is = sym is.answer;
       ended = inl ended;
       none_refused = refl;
     }
@@ -155,7 +155,7 @@ hopeless_walk rest g is =
       ending = is.ending;
       walks = walks_end g.turns rest is.ending g.stays
           (subst (λ (x : List ℕ). EndsWalk is.ending x) (append-nil rest) (is.ends []));
-      last_is = sym is.told;
+      last_is = sym is.answer;
       ended = inr (walks_always g.turns rest is.ending g.stays is.ends);
       none_refused = refl;
     }
@@ -181,18 +181,18 @@ short_front {shown = shown} old new filled n going got none many fits fits' wait
 
 -- the input ended after what stands at the front of the buffer
 pub short_read : {r r' r'' w w' k k' : Option (List ℕ)} {q q' q'' : Option (List ReadCall)} {c c' : Seen}
-    {count calls : ℕ} {shown : Bool} (old new : List ℕ) (filled n : ℕ) (told : Result ℕ Error)
-    → Going r r' w w' k k' c c' (take filled old) count → told ≡ Ok n → n ≡ 0
-    → IfOk told (λ m. (bytes : List ℕ) × (take (filled + m) new ≡ take filled old ++ bytes)
+    {count calls : ℕ} {shown : Bool} (old new : List ℕ) (filled n : ℕ) (answer : Result ℕ Error)
+    → Going r r' w w' k k' c c' (take filled old) count → answer ≡ Ok n → n ≡ 0
+    → IfOk answer (λ m. (bytes : List ℕ) × (take (filled + m) new ≡ take filled old ++ bytes)
     × Consumes r' r'' bytes)
-    → IfOk told (λ m. m ≡ 0 → IsAtEnd r'')
-    → HasMade q q' calls → GrowsBy q' q'' (read_call told ∷ [])
+    → IfOk answer (λ m. m ≡ 0 → IsAtEnd r'')
+    → HasMade q q' calls → GrowsBy q' q'' (read_call answer ∷ [])
     → 0 < filled → filled ≤ length old → length old ≡ length new → IsUnfinished (take filled old) shown
     → (g : Going r r'' w w' k k' c c' (take filled new) count)
     × IsWalked (HasEnded r'' q q'') g.turns [] (take filled new) (refusal shown ∷ [])
-short_read old new filled n told going is none ok end made tells some fits long waits =
-    short_front old new filled n going (at_ok _ told n is ok) none some fits (omega (arith, fits, long)) waits
-    (ended_at told n made tells is none end)
+short_read old new filled n answer going is none ok end made tells some fits long waits =
+    short_front old new filled n going (at_ok _ answer n is ok) none some fits (omega (arith, fits, long)) waits
+    (ended_at answer n made tells is none end)
 
 -- it was written
 pub end_told : {C : Type 0} (seen : C → Seen) {r r' w w' w'' k k' : Option (List ℕ)}
@@ -202,10 +202,10 @@ pub end_told : {C : Type 0} (seen : C → Seen) {r r' w w' w'' k k' : Option (Li
     → IsWalked (HasEnded r' q q') g.turns [] rest (refusal shown ∷ [])
     → ((n : ℕ) × Appends w' w'' (take n (refusal shown)) × (n ≡ length (refusal shown))) → count' ≡ count + 1
     → ((seen old).is_down → new ≡ old) → ServesConnection seen r r' q q' w w'' k k' old new (Ok count')
-end_told seen {w' = w'} {w'' = w''} old new shown count' rest g walked told one idle =
+end_told seen {w' = w'} {w'' = w''} old new shown count' rest g walked wrote one idle =
     end_with seen old new (Ok count') g.turns rest (refusal shown ∷ []) (refusal shown) g.read g.answered
-    (subst (λ (x : List ℕ). Appends w' w'' x) (take_all told.0 (refusal shown) (omega (arith, told.2)))
-    told.1)
+    (subst (λ (x : List ℕ). Appends w' w'' x) (take_all wrote.0 (refusal shown) (omega (arith, wrote.2)))
+    wrote.1)
     (walked, omega (arith, one, g.count_is), refl)
     (λ text. ap (λ (x : List ℕ). text ++ x) (sym (append-nil (refusal shown)))) idle
 

@@ -58,11 +58,11 @@ here_as : {R W : Type 0} {known : R × W → Known} {c c' c'' : Seen} {steps ste
     → ((k : Known) → StandsHere known k c c' steps old → AreRefused known k c c' steps fault refused old
     → AreRefused known k c c'' steps' fault' refused' new)
     → IsHere known c c' steps fault refused calls old → IsHere known c c'' steps' fault' refused' calls new
-here_as {calls = calls} old new number stands told is = record {
+here_as {calls = calls} old new number stands still is = record {
   given = is.given;
   came = subst (λ (n : ℕ). Contains calls (Gave n is.given)) (sym number) is.came;
   stands = stands _ is.stands;
-  told = told _ is.stands is.told;
+  are_refused = still _ is.stands is.are_refused;
 }
 
 goes_here : {R W : Type 0} {known : R × W → Known} {c c' : Seen} {steps : List Step} {calls : List (ClientsCall (R × W))}
@@ -73,7 +73,7 @@ goes_here {known = known} {c} {c'} {steps} {calls} old new (inl same) is =
 goes_here old new (inr served) is =
     here_as old new (number_read served.between new served.reads ∙ number_written old served.between served.writes)
     (λ k stands. read_here served.between new served.reads (written_here old served.between served.writes stands))
-    (λ k stands told. tt) is
+    (λ k stands all. tt) is
 
 goes_number : {R W : Type 0} {known : R × W → Known} (old new : Client R W) → GoesOn known old new
     → new.number ≡ old.number
@@ -84,11 +84,11 @@ goes_number old new (inr served) =
 told_written : {R W : Type 0} (known : R × W → Known) (k : Known) (c c' : Seen) (steps : List Step) (fault : Option Fault)
     (refused : List Step) (old new : Client R W) → Writes known old new
     → AreRefused known k c c' steps fault refused old → AreRefused known k c c' steps fault refused new
-told_written known k c c' steps None refused old new w told = tt
-told_written known k c c' steps (Some why) [] old new w told = tt
-told_written known k c c' steps (Some why) (s ∷ ss) old new w told = (
-  (λ own. refused_written old new w (told.0 (own ∙ number_written old new w))),
-  told_written known k c c' steps (Some why) ss old new w told.1,
+told_written known k c c' steps None refused old new w all = tt
+told_written known k c c' steps (Some why) [] old new w all = tt
+told_written known k c c' steps (Some why) (s ∷ ss) old new w all = (
+  (λ own. refused_written old new w (all.0 (own ∙ number_written old new w))),
+  told_written known k c c' steps (Some why) ss old new w all.1,
 )
 
 writes_here : {R W : Type 0} {known : R × W → Known} {c c' : Seen} {steps : List Step} {fault : Option Fault}
@@ -96,7 +96,7 @@ writes_here : {R W : Type 0} {known : R × W → Known} {c c' : Seen} {steps : L
     → IsHere known c c' steps fault refused calls old → IsHere known c c' steps fault refused calls new
 writes_here {known = known} {c} {c'} {steps} {fault} {refused} old new w is =
     here_as old new (number_written old new w) (λ k stands. written_here old new w stands)
-    (λ k stands told. told_written known k c c' steps fault refused old new w told) is
+    (λ k stands all. told_written known k c c' steps fault refused old new w all) is
 
 same_numbers : {R W : Type 0} (M : Client R W → Client R W → Type 0)
     → ((x y : Client R W) → M x y → y.number ≡ x.number) → (xs ys : List (Client R W)) → AllZip M xs ys
@@ -118,14 +118,15 @@ all_by M P Q f (x ∷ xs) (y ∷ ys) all h = (f x y all.0 h.0, all_by M P Q f xs
 -- the same clients are here, and stand there
 pub crowd_as : {R W : Type 0} {stops : Type 0} {given : List ℕ} {known : R × W → Known} {g t : Option (List (ClientsCall (R × W)))} {c c' : Seen}
     {steps : List Step} {fault : Option Fault} {refused : List Step} {came : ℕ} {here : List (Client R W)} (here' : List (Client R W))
-    (crowd : IsCrowd stops given known g c c' steps fault refused (record { told = t; came = came; here = here })) → numbers here' ≡ numbers here
+    (crowd : IsCrowd stops given known g c c' steps fault refused (record { calls = t; came = came; here = here }))
+    → numbers here' ≡ numbers here
     → AllByRecursion (IsHere known c c' steps fault refused crowd.calls) here'
-    → IsCrowd stops given known g c c' steps fault refused (record { told = t; came = came; here = here' })
+    → IsCrowd stops given known g c c' steps fault refused (record { calls = t; came = came; here = here' })
 crowd_as {steps = steps} {fault} {refused} {came} {here} here' crowd same stand =
     let all = ap (λ (ns : List ℕ). map number_of crowd.visits ++ ns) (sym same) in
     record {
       calls = crowd.calls;
-      told = crowd.told;
+      made = crowd.made;
       visits = crowd.visits;
       closed = crowd.closed;
       visited = crowd.visited;
@@ -140,8 +141,8 @@ crowd_as {steps = steps} {fault} {refused} {came} {here} here' crowd same stand 
 
 pub crowd_goes : {R W : Type 0} {stops : Type 0} {given : List ℕ} {known : R × W → Known} {g t : Option (List (ClientsCall (R × W)))} {c c' : Seen}
     {steps : List Step} {came : ℕ} (here here' : List (Client R W)) → AllZip (GoesOn known) here here'
-    → IsCrowd stops given known g c c' steps None [] (record { told = t; came = came; here = here })
-    → IsCrowd stops given known g c c' steps None [] (record { told = t; came = came; here = here' })
+    → IsCrowd stops given known g c c' steps None [] (record { calls = t; came = came; here = here })
+    → IsCrowd stops given known g c c' steps None [] (record { calls = t; came = came; here = here' })
 crowd_goes {known = known} {c = c} {c'} {steps} here here' goes crowd =
     crowd_as here' crowd (same_numbers (GoesOn known) goes_number here here' goes)
     (all_by (GoesOn known) (IsHere known c c' steps None [] crowd.calls) (IsHere known c c' steps None [] crowd.calls) goes_here here here'
@@ -149,8 +150,8 @@ crowd_goes {known = known} {c = c} {c'} {steps} here here' goes crowd =
 
 pub crowd_writes : {R W : Type 0} {stops : Type 0} {given : List ℕ} {known : R × W → Known} {g t : Option (List (ClientsCall (R × W)))} {c c' : Seen}
     {steps : List Step} {fault : Option Fault} {refused : List Step} {came : ℕ} (here here' : List (Client R W)) → AllZip (Writes known) here here'
-    → IsCrowd stops given known g c c' steps fault refused (record { told = t; came = came; here = here })
-    → IsCrowd stops given known g c c' steps fault refused (record { told = t; came = came; here = here' })
+    → IsCrowd stops given known g c c' steps fault refused (record { calls = t; came = came; here = here })
+    → IsCrowd stops given known g c c' steps fault refused (record { calls = t; came = came; here = here' })
 crowd_writes {known = known} {c = c} {c'} {steps} {fault} {refused} here here' writes crowd =
     crowd_as here' crowd (same_numbers (Writes known) number_written here here' writes)
     (all_by (Writes known) (IsHere known c c' steps fault refused crowd.calls) (IsHere known c c' steps fault refused crowd.calls) writes_here here
@@ -245,11 +246,11 @@ zip_places M (x ∷ xs) (y ∷ ys) same at = (
 pub crowd_round : {C R W : Type 0} (seen : C → Seen) {reason : Fault → C → C → Type 0} {known : R × W → Known}
     {k k' : Option (List ℕ)} {g t : Option (List (ClientsCall (R × W)))} {X : Type 0} (first old new : C)
     (steps : List Step) {came seconds : ℕ} {u u' : Tally} (here here' : List (Client R W)) (result : Result X Fault)
-    → IsCrowd ⊥ [] known g (seen first) (seen old) steps None [] (record { told = t; came = came; here = here })
+    → IsCrowd ⊥ [] known g (seen first) (seen old) steps None [] (record { calls = t; came = came; here = here })
     → Takes (seen first) (seen old) (submitted_by steps)
     → (r : AnswersRound seen reason known k k' old new here here' u u' seconds result)
     → IsCrowd ⊥ [] known g (seen first) (seen new) (steps ++ steps_in r.round) (fault_in result) r.refused
-    (record { told = t; came = came; here = here' })
+    (record { calls = t; came = came; here = here' })
 crowd_round {C} {R} {W} seen {known = known} first old new steps {came = came} here here' result crowd takes r =
     let more = steps_in r.round in
     let fault = fault_in result in
@@ -261,10 +262,10 @@ crowd_round {C} {R} {W} seen {known = known} first old new steps {came = came} h
     → StandsHere known l (seen first) (seen new) (steps ++ more) y
     × AreRefused known l (seen first) (seen new) (steps ++ more) fault r.refused y in
     let zip = zip_places Moved here here' r.same (λ p x y is is' l stands.
-    (r.stand p x y is is' l first steps takes stands, r.told p x y is is' l first steps takes stands)) in
+    (r.stand p x y is is' l first steps takes stands, r.are_told p x y is is' l first steps takes stands)) in
     record {
       calls = crowd.calls;
-      told = crowd.told;
+      made = crowd.made;
       visits = crowd.visits;
       closed = crowd.closed;
       visited = visited_further ⊥ known (seen first) (seen old) (seen new) steps crowd.calls (numbers here) more fault r.refused crowd.visits honest r.whose r.whose_refused crowd.differ crowd.visited;
@@ -272,7 +273,8 @@ crowd_round {C} {R} {W} seen {known = known} first old new steps {came = came} h
       are_here = all_by (λ (x y : Client R W). (y.number ≡ x.number) × Moved x y)
           (IsHere known (seen first) (seen old) steps None [] crowd.calls)
           (IsHere known (seen first) (seen new) (steps ++ more) fault r.refused crowd.calls)
-          (λ x y m is. here_as x y m.0 (λ l stands. (m.1 l stands).0) (λ l stands told. (m.1 l stands).1) is) here here' zip crowd.are_here;
+          (λ x y m is. here_as x y m.0 (λ l stands. (m.1 l stands).0)
+          (λ l stands were. (m.1 l stands).1) is) here here' zip crowd.are_here;
       differ = subst Differ all crowd.differ;
       below = subst (λ (ns : List ℕ). AllByRecursion (λ (n : ℕ). n < came) ns) all crowd.below;
       whose = subst (λ (ns : List ℕ). AllByRecursion (IsOfOneOf ns) ((steps ++ more) ++ r.refused)) all
@@ -301,7 +303,8 @@ pub record Rounding {C R W : Type 0} (seen : C → Seen) (known : R × W → Kno
   pub takes : Takes (seen old) (seen now) (submitted_by (steps_of rounds))
   pub idle : (seen old).is_down → now ≡ old
   pub few : came ≤ n
-  pub crowd : IsCrowd ⊥ [] known g (seen old) (seen now) (steps_of rounds) None [] (record { told = t; came = came; here = here })
+  pub crowd : IsCrowd ⊥ [] known g (seen old) (seen now) (steps_of rounds) None []
+      (record { calls = t; came = came; here = here })
 
 pub rounding_none : {C R W : Type 0} (seen : C → Seen) {known : R × W → Known} (g : Option (List (ClientsCall (R × W))))
     (k : Option (List ℕ)) (old : C) (n : ℕ) (here : List (Client R W)) (tally : Tally) → here ≡ [] → tally ≡ nothing
@@ -320,7 +323,7 @@ rounding_none {C} {R} {W} seen {known} g k old n here tally none zero = record {
   few = omega arith;
   crowd = rw none (record {
     calls = [];
-    told = adds-none g;
+    made = adds-none g;
     visits = [];
     closed = refl;
     visited = tt;
@@ -338,7 +341,8 @@ rounding_none {C} {R} {W} seen {known} g k old n here tally none zero = record {
 pub rounding_on : {C R W : Type 0} {seen : C → Seen} {known : R × W → Known} {g t t' : Option (List (ClientsCall (R × W)))}
     {k k' : Option (List ℕ)} {old now : C} {n came came' turns : ℕ} {here here' : List (Client R W)} {tally : Tally}
     (s : Rounding seen known g t k k' old now n came here tally turns)
-    → IsCrowd ⊥ [] known g (seen old) (seen now) (steps_of s.rounds) None [] (record { told = t'; came = came'; here = here' })
+    → IsCrowd ⊥ [] known g (seen old) (seen now) (steps_of s.rounds) None []
+    (record { calls = t'; came = came'; here = here' })
     → came' ≤ n → Rounding seen known g t' k k' old now n came' here' tally turns
 rounding_on s crowd few = record {
   rounds = s.rounds;
@@ -392,7 +396,7 @@ pub rounding_next : {C R W X : Type 0} (seen : C → Seen) {reason : Fault → C
     (s : Rounding seen known g t k k' old now n came here u turns)
     (r : AnswersRound seen reason known k' k'' now new here here' u u' seconds (Ok x))
     → IsCrowd ⊥ [] known g (seen old) (seen new) (steps_of s.rounds ++ steps_in r.round) None r.refused
-    (record { told = t'; came = came'; here = here'' })
+    (record { calls = t'; came = came'; here = here'' })
     → came' ≤ n → Rounding seen known g t' k k'' old new n came' here'' u' (turns + 1)
 rounding_next seen {known = known} {g = g} {t' = t'} {k} {k'} {k''} old now new {came' = came'} {here'' = here''} s r crowd
     few =
@@ -414,9 +418,9 @@ rounding_next seen {known = known} {g = g} {t' = t'} {k} {k'} {k''} old now new 
       idle = idle_after seen old now s.idle new r.idle;
       few = few;
       crowd = subst (λ (x : List Step). IsCrowd ⊥ [] known g (seen old) (seen new) x None []
-          (record { told = t'; came = came'; here = here'' })) (steps_one_more s.rounds r.round)
+          (record { calls = t'; came = came'; here = here'' })) (steps_one_more s.rounds r.round)
           (subst (λ (x : List Step). IsCrowd ⊥ [] known g (seen old) (seen new) (steps_of s.rounds ++ steps_in r.round) None x
-          (record { told = t'; came = came'; here = here'' })) r.ends.0 crowd);
+          (record { calls = t'; came = came'; here = here'' })) r.ends.0 crowd);
     }
 
 -- ---- what is done before a round, and after it
@@ -424,11 +428,11 @@ rounding_next seen {known = known} {g = g} {t' = t'} {k} {k'} {k''} old now new 
 -- nobody came or left
 pub waited_still : {R W : Type 0} {known : R × W → Known} {g t t' : Option (List (ClientsCall (R × W)))} {c c' : Seen}
     {steps : List Step} {fault : Option Fault} {refused : List Step} {came : ℕ} {here : List (Client R W)} → GrowsBy t t' []
-    → IsCrowd ⊥ [] known g c c' steps fault refused (record { told = t; came = came; here = here })
-    → IsCrowd ⊥ [] known g c c' steps fault refused (record { told = t'; came = came; here = here })
+    → IsCrowd ⊥ [] known g c c' steps fault refused (record { calls = t; came = came; here = here })
+    → IsCrowd ⊥ [] known g c c' steps fault refused (record { calls = t'; came = came; here = here })
 waited_still waited crowd = crowd_moved (λ stop. stop) (all_stay (record {
   calls = [];
-  told = waited;
+  made = waited;
   none_came = refl;
   none_left = refl;
   here = refl;
@@ -438,24 +442,26 @@ waited_still waited crowd = crowd_moved (λ stop. stop) (all_stay (record {
 -- those who were here were waited for and gone on with, some were given up, and others were taken in
 pub before_round : {C R W : Type 0} {seen : C → Seen} {known : R × W → Known}
     {g t t' u t'' : Option (List (ClientsCall (R × W)))} {k k' : Option (List ℕ)} {old now : C} {n came came' turns : ℕ}
-    {tally : Tally} (asked here viewed gone here' left here'' : List (Client R W)) (said told : List Readiness)
-    → asked ≡ here → viewed ≡ here → here' ≡ gone → told ≡ said
+    {tally : Tally} (asked here viewed gone here' left here'' : List (Client R W)) (said found : List Readiness)
+    → asked ≡ here → viewed ≡ here → here' ≡ gone → found ≡ said
     → Rounding seen known g t k k' old now n came here tally turns
     → GrowsBy t t' (given_up_told (given_up (numbers asked) said)) → AllZip (GoesOn known) viewed gone
-    → ((m : ℕ) → HaveMoved ⊥ (given_up (numbers here') told) (record { told = t'; came = m; here = here' })
-    (record { told = u; came = m; here = left }))
-    → HaveMoved ⊥ [] (record { told = u; came = came; here = left }) (record { told = t''; came = came'; here = here'' })
+    → ((m : ℕ) → HaveMoved ⊥ (given_up (numbers here') found) (record { calls = t'; came = m; here = here' })
+    (record { calls = u; came = m; here = left }))
+    → HaveMoved ⊥ [] (record { calls = u; came = came; here = left })
+    (record { calls = t''; came = came'; here = here'' })
     → came' ≤ n → Rounding seen known g t'' k k' old now n came' here'' tally turns
-before_round {R = R} {W} {known = known} {g} {t} {t'} {came = came} asked here viewed gone here' left here'' said told same old new as_said s
+before_round {R = R} {W} {known = known} {g} {t} {t'}
+    {came = came} asked here viewed gone here' left here'' said found same old new as_said s
     waited goes leave moved few =
     let all : AllZip (GoesOn known) here here' =
     subst (λ (xs : List (Client _ _)). AllZip (GoesOn known) xs here') old
     (subst (λ (ys : List (Client _ _)). AllZip (GoesOn known) viewed ys) (sym new) goes) in
-    let those : given_up (numbers here') told ≡ given_up (numbers asked) said =
-    ap (λ (ns : List ℕ). given_up ns told) (same_numbers (GoesOn known) goes_number here here' all)
-    ∙ ap (λ (xs : List (Client R W)). given_up (numbers xs) told) (sym same)
+    let those : given_up (numbers here') found ≡ given_up (numbers asked) said =
+    ap (λ (ns : List ℕ). given_up ns found) (same_numbers (GoesOn known) goes_number here here' all)
+    ∙ ap (λ (xs : List (Client R W)). given_up (numbers xs) found) (sym same)
     ∙ ap (λ (rs : List Readiness). given_up (numbers asked) rs) as_said in
-    let given = given_up (numbers here') told in
+    let given = given_up (numbers here') found in
     rounding_on s (crowd_moved (λ stop. stop) moved (crowd_on (crowd_moved (λ stop. stop) (leave came)
     (crowd_goes here here' all (crowd_waits given
     (subst (λ (ns : List ℕ). GrowsBy t t' (given_up_told ns)) (sym those) waited) s.crowd))))) few
@@ -466,10 +472,10 @@ pub after_round : {C R W X : Type 0} (seen : C → Seen) {reason : Fault → C �
     (result : Result X Fault) → viewed ≡ here' → here'' ≡ gone
     → (s : Rounding seen known g t k k' old now n came here u turns)
     (r : AnswersRound seen reason known k' k'' now new here here' u u' seconds result) → AllZip (Writes known) viewed gone
-    → ((came : ℕ) → HaveMoved ⊥ [] (record { told = t; came = came; here = here'' })
-    (record { told = t'; came = came; here = left }))
+    → ((came : ℕ) → HaveMoved ⊥ [] (record { calls = t; came = came; here = here'' })
+    (record { calls = t'; came = came; here = left }))
     → IsCrowd ⊥ [] known g (seen old) (seen new) (steps_of s.rounds ++ steps_in r.round) (fault_in result) r.refused
-    (record { told = t'; came = came; here = left })
+    (record { calls = t'; came = came; here = left })
 after_round seen {known = known} old now new {came = came} here here' viewed gone here'' left result same is s r writes
     moved =
     let all : AllZip (Writes known) here' here'' =
@@ -532,7 +538,7 @@ rounds_end seen {known = known} {g} {t} old new {came = came} {here = here} resu
   few = s.few;
   done = done;
   crowd = subst (λ (f : Option Fault). IsCrowd ⊥ [] known g (seen old) (seen new) (steps_of s.rounds) f []
-      (record { told = t; came = came; here = here })) (sym none) s.crowd;
+      (record { calls = t; came = came; here = here })) (sym none) s.crowd;
 }
 
 why_now : {C : Type 0} (seen : C → Seen) (reason : Fault → C → C → Type 0) (old now new : C) (cs : List Command)
@@ -549,7 +555,7 @@ pub rounds_broken : {C R W X : Type 0} (seen : C → Seen) {reason : Fault → C
     (s : Rounding seen known g t k k' old now n came here u turns)
     (r : AnswersRound {X = X} seen reason known k' k'' now new here here' u u' seconds (Err fault))
     → IsCrowd ⊥ [] known g (seen old) (seen new) (steps_of s.rounds ++ steps_in r.round) (Some fault) r.refused
-    (record { told = t'; came = came'; here = here'' })
+    (record { calls = t'; came = came'; here = here'' })
     → came' ≤ n → ServesRounds seen reason known g t' k k'' old new n here'' (Err (Bank fault))
 rounds_broken seen {reason} {known} {g = g} {t' = t'} {k} {k'} {k''} old now new {came' = came'} {here'' = here''} fault s
     r crowd few =
@@ -586,7 +592,7 @@ rounds_broken seen {reason} {known} {g = g} {t' = t'} {k} {k'} {k''} old now new
       few = few;
       done = tt;
       crowd = subst (λ (x : List Step). IsCrowd ⊥ [] known g (seen old) (seen new) x (Some fault) r.refused
-          (record { told = t'; came = came'; here = here'' })) order crowd;
+          (record { calls = t'; came = came'; here = here'' })) order crowd;
     }
 
 -- ---- all of it
@@ -617,17 +623,17 @@ numbers_told : {E : Type 0} (known : E → Known) (c c' : Seen) (steps : List St
     → AllByRecursion (λ (v : Visit E). s.client ≡ v.number
     → ClientIsRefused v.number (known v.given) (known v.left) c c' steps fault s.turn v.parting) vs
     → AllByRecursion (λ (n : ℕ). n ≡ s.client → IsToldTo known c c' steps visits fault s) (map number_of vs)
-numbers_told known c c' steps fault visits [] s these told = tt
-numbers_told known c c' steps fault visits (v ∷ vs) s these told = (
-  (λ own. record { visit = v; one = these.0; whose = own; refused = told.0 (sym own) }),
-  numbers_told known c c' steps fault visits vs s these.1 told.1,
+numbers_told known c c' steps fault visits [] s these were = tt
+numbers_told known c c' steps fault visits (v ∷ vs) s these were = (
+  (λ own. record { visit = v; one = these.0; whose = own; refused = were.0 (sym own) }),
+  numbers_told known c c' steps fault visits vs s these.1 were.1,
 )
 
 all_told : {E : Type 0} (known : E → Known) (c c' : Seen) (steps : List Step) (fault : Fault) (visits : List (Visit E))
     (refused : List Step) → AllByRecursion (WereRefused known c c' steps (Some fault) refused) visits
     → AllByRecursion (IsOfVisit visits) refused → AllByRecursion (IsToldTo known c c' steps visits fault) refused
-all_told known c c' steps fault visits [] told whose = tt
-all_told {E} known c c' steps fault visits (s ∷ ss) told whose =
+all_told known c c' steps fault visits [] were whose = tt
+all_told {E} known c c' steps fault visits (s ∷ ss) were whose =
     let Told : ℕ → Type 0 = λ n. n ≡ s.client → IsToldTo known c c' steps visits fault s in
     let Refused : Visit E → Type 0 =
     λ v. s.client ≡ v.number → ClientIsRefused v.number (known v.given) (known v.left) c c' steps fault s.turn v.parting in
@@ -635,11 +641,11 @@ all_told {E} known c c' steps fault visits (s ∷ ss) told whose =
       All-contains Told (map number_of visits) s.client
           (All-from_recursion Told (map number_of visits)
           (numbers_told known c c' steps fault visits visits s these
-          (each_weaker (WereRefused known c c' steps (Some fault) (s ∷ ss)) Refused (λ v all. all.0) visits told)))
+          (each_weaker (WereRefused known c c' steps (Some fault) (s ∷ ss)) Refused (λ v all. all.0) visits were)))
           whose.0 refl,
       all_told known c c' steps fault visits ss
           (each_weaker (WereRefused known c c' steps (Some fault) (s ∷ ss)) (WereRefused known c c' steps (Some fault) ss)
-          (λ v all. all.1) visits told) whose.1,
+          (λ v all. all.1) visits were) whose.1,
     )
 
 told_of : {E : Type 0} (stops : Type 0) (known : E → Known) (c c' : Seen) (steps : List Step) (calls : List (ClientsCall E))
@@ -674,15 +680,17 @@ pub serves_together : {C R W : Type 0} (seen : C → Seen) {reason : Fault → C
     {g t t' : Option (List (ClientsCall (R × W)))} {k k' : Option (List ℕ)} (old new : C) {n : ℕ}
     (here here' : List (Client R W)) (result : Result (Unit {0}) ListenFault)
     → ServesRounds seen reason known g t k k' old new n here result
-    → ((came : ℕ) → HaveMoved (here ≢ []) [] (record { told = t; came = came; here = here })
-    (record { told = t'; came = came; here = here' }))
+    → ((came : ℕ) → HaveMoved (here ≢ []) [] (record { calls = t; came = came; here = here })
+    (record { calls = t'; came = came; here = here' }))
     → here' ≡ [] → ServesTogether seen reason known g t' k k' old new n result
 serves_together {C} {R} {W} seen {reason} {known} {g} {t} {t'} old new {n} here here' result s moved none =
-    let after : IsCrowd (IsErr result) [] known g (seen old) (seen new) (steps_of s.rounds) (fault_of_bank result) s.refused (record { told = t'; came = s.came; here = here' }) =
+    let after : IsCrowd (IsErr result) [] known g (seen old) (seen new) (steps_of s.rounds)
+    (fault_of_bank result) s.refused (record { calls = t'; came = s.came; here = here' }) =
     crowd_moved (stopped_by s.came n here result s.done) (moved s.came) (crowd_stops (λ no. absurd no) s.crowd) in
-    let crowd : IsCrowd (IsErr result) [] known g (seen old) (seen new) (steps_of s.rounds) (fault_of_bank result) s.refused (record { told = t'; came = s.came; here = [] }) =
+    let crowd : IsCrowd (IsErr result) [] known g (seen old) (seen new) (steps_of s.rounds)
+    (fault_of_bank result) s.refused (record { calls = t'; came = s.came; here = [] }) =
     subst (λ (x : List (Client R W)). IsCrowd (IsErr result) [] known g (seen old) (seen new) (steps_of s.rounds) (fault_of_bank result) s.refused
-    (record { told = t'; came = s.came; here = x })) none after in
+    (record { calls = t'; came = s.came; here = x })) none after in
     let long : length (all_numbers crowd.visits []) ≡ length crowd.visits =
     ap length (append-nil (map number_of crowd.visits)) ∙ length-map crowd.visits number_of in
     let Visited : Visit (R × W) → Type 0 = IsVisited known (seen old) (seen new) (steps_of s.rounds) crowd.calls in
@@ -704,10 +712,10 @@ serves_together {C} {R} {W} seen {reason} {known} {g} {t} {t'} old new {n} here 
       survives = s.survives;
       idle = s.idle;
       why = told_why seen reason old new result s.why;
-      network = cut_off_then result s.rounds (moved_grows (record { told = t; came = s.came; here = here })
-          (record { told = t'; came = s.came; here = here' }) (moved s.came)) s.network;
+      network = cut_off_then result s.rounds (moved_grows (record { calls = t; came = s.came; here = here })
+          (record { calls = t'; came = s.came; here = here' }) (moved s.came)) s.network;
       calls = crowd.calls;
-      told = crowd.told;
+      made = crowd.made;
       visits = crowd.visits;
       closed = crowd.closed;
       once = visits_differ crowd.visits [] crowd.differ;
@@ -734,15 +742,15 @@ pub all_came : {C R W : Type 0} (seen : C → Seen) {reason : Fault → C → C 
     {g t t' : Option (List (ClientsCall (R × W)))} {k k' : Option (List ℕ)} (old new : C) {n : ℕ}
     (here here' : List (Client R W)) (result : Result (Unit {0}) ListenFault)
     → ServesRounds seen reason known g t k k' old new n here result
-    → ((came : ℕ) → HaveMoved (here ≢ []) [] (record { told = t; came = came; here = here })
-    (record { told = t'; came = came; here = here' }))
+    → ((came : ℕ) → HaveMoved (here ≢ []) [] (record { calls = t; came = came; here = here })
+    (record { calls = t'; came = came; here = here' }))
     → OnOk result (HaveCome g t' n)
 all_came seen {known = known} {g} {t} {t'} old new {n} here here' result s moved =
     let after : IsCrowd ⊤ [] known g (seen old) (seen new) (steps_of s.rounds) (fault_of_bank result) s.refused
-    (record { told = t'; came = s.came; here = here' }) = crowd_moved (λ some. tt) (moved s.came)
+    (record { calls = t'; came = s.came; here = here' }) = crowd_moved (λ some. tt) (moved s.came)
     (crowd_stops (λ no. absurd no) s.crowd) in
     come_where (here ≡ []) g t' s.came n result s.done
-    (record { calls = after.calls; told = after.told; many = sym after.all ∙ after.many })
+    (record { calls = after.calls; made = after.made; many = sym after.all ∙ after.many })
 
 -- memory was refused before anybody came
 pub nobody_came : {C R W : Type 0} (seen : C → Seen) {reason : Fault → C → C → Type 0} {known : R × W → Known}
@@ -765,7 +773,7 @@ nobody_came seen g k old n = record {
   why = inr (refl, refl);
   network = λ same. absurd (cc same);
   calls = [];
-  told = adds-none g;
+  made = adds-none g;
   visits = [];
   closed = refl;
   once = visits_differ [] [] tt;
@@ -784,13 +792,13 @@ pub cut_off_by : {C R W : Type 0} {seen : C → Seen} {known : R × W → Known}
     → HasMore t t' → HasRefused t' t''
     → HasRefused g t''
 cut_off_by {g = g} {t} {t'} {t''} s more refused =
-    refused_last g t' t'' (more_more (record { calls = s.crowd.calls; made = s.crowd.told }) more) refused
+    refused_last g t' t'' (more_more (record { calls = s.crowd.calls; made = s.crowd.made }) more) refused
 
 -- clients were waited for, and some were given up
 pub waited_grows : {R W : Type 0} {t t' t'' : Option (List (ClientsCall (R × W)))} {given : List ℕ}
     (calls : List (ClientsCall (R × W))) {here here' : List (Client R W)} → GrowsBy t t' calls
-    → ((m : ℕ) → HaveMoved ⊥ given (record { told = t'; came = m; here = here })
-    (record { told = t''; came = m; here = here' })) → HasMore t t''
+    → ((m : ℕ) → HaveMoved ⊥ given (record { calls = t'; came = m; here = here })
+    (record { calls = t''; came = m; here = here' })) → HasMore t t''
 waited_grows {t' = t'} {t''} calls {here} {here'} waited leave =
-    more_more (record { calls = calls; made = waited }) (moved_grows (record { told = t'; came = 0; here = here })
-    (record { told = t''; came = 0; here = here' }) (leave 0))
+    more_more (record { calls = calls; made = waited }) (moved_grows (record { calls = t'; came = 0; here = here })
+    (record { calls = t''; came = 0; here = here' }) (leave 0))

@@ -118,7 +118,12 @@ here_told : {R W : Type 0} {known : R × W → Known} {c c' : Seen} {steps : Lis
     {refused : List Step} (calls more : List (ClientsCall (R × W)))
     (client : Client R W) → IsHere known c c' steps fault refused calls client → IsHere known c c' steps fault refused (calls ++ more) client
 here_told calls more client is =
-    record { given = is.given; came = Contains-append_left calls more _ is.came; stands = is.stands; told = is.told }
+    record {
+      given = is.given;
+      came = Contains-append_left calls more _ is.came;
+      stands = is.stands;
+      are_refused = is.are_refused;
+    }
 
 -- and so was it said why
 why_told : {E : Type 0} (stops : Type 0) (calls more : List (ClientsCall E)) (n : ℕ) (p : Parting)
@@ -154,7 +159,7 @@ new_going {i} {k} {c} {c'} steps has_more others =
     record {
       read = rw own (Consumes-nil k.reader);
       stays = rw own tt;
-      waits = λ e. record { ending = No_head; ends = λ some. absurd (some refl); told = refl; room = omega arith };
+      waits = λ e. record { ending = No_head; ends = λ some. absurd (some refl); answer = refl; room = omega arith };
       written = [];
       wrote = Appends-nil k.writer;
       answers = λ h log s. sym (ap joined (no_answers i log steps others));
@@ -229,13 +234,14 @@ crowd_comes {R} {W} {stops} {given} {known} {g} {c} {c'} {steps} {fault} {refuse
       stands = new_here steps a.came m.given m.client m.is
           (not_yet (all_numbers crowd.visits a.here) steps a.came crowd.below
           (all_first (IsOfOneOf (all_numbers crowd.visits a.here)) steps refused crowd.whose));
-      told = none_told known (known m.given) c c' steps fault refused m.client (subst (λ (n : ℕ). AllByRecursion (OfOther n) refused) (sym m.is.number_is)
+      are_refused = none_told known (known m.given) c c' steps fault refused m.client
+          (subst (λ (n : ℕ). AllByRecursion (OfOther n) refused) (sym m.is.number_is)
           (not_yet (all_numbers crowd.visits a.here) refused a.came crowd.below
           (all_last (IsOfOneOf (all_numbers crowd.visits a.here)) steps refused crowd.whose)));
     } in
     record {
       calls = calls;
-      told = adds-more g a.told b.told crowd.calls (new ∷ []) crowd.told m.told;
+      made = adds-more g a.calls b.calls crowd.calls (new ∷ []) crowd.made m.made;
       visits = crowd.visits;
       closed = crowd.closed ∙ sym (closings-append crowd.calls (new ∷ []) ∙ append-nil (closings crowd.calls));
       visited = each_weaker (HasLeft stops known c c' steps fault refused crowd.calls)
@@ -305,11 +311,11 @@ left_told : {R W : Type 0} (known : R × W → Known) (c c' : Seen) (steps : Lis
     → AreRefused known (known given) c c' steps fault refused client
     → WereRefused known c c' steps fault refused
     (record { number = client.number; given = given; left = left; parting = p })
-left_told known c c' steps None refused client given left cause p is ours told = tt
-left_told known c c' steps (Some why) [] client given left cause p is ours told = tt
-left_told known c c' steps (Some why) (s ∷ ss) client given left cause p is ours told = (
-  (λ own. refused_parted client cause (left.0, left.1, p) is ours (told.0 own)),
-  left_told known c c' steps (Some why) ss client given left cause p is ours told.1,
+left_told known c c' steps None refused client given left cause p is ours all = tt
+left_told known c c' steps (Some why) [] client given left cause p is ours all = tt
+left_told known c c' steps (Some why) (s ∷ ss) client given left cause p is ours all = (
+  (λ own. refused_parted client cause (left.0, left.1, p) is ours (all.0 own)),
+  left_told known c c' steps (Some why) ss client given left cause p is ours all.1,
 )
 
 -- for what cause it may be parted from
@@ -392,9 +398,10 @@ left_why {known = known} {k} {c} {c'} {steps} {s} {stops} calls given fault clie
 left_one : {R W : Type 0} {stops : Type 0} {given : List ℕ} {known : R × W → Known} {g t' : Option (List (ClientsCall (R × W)))} {c c' : Seen}
     {steps : List Step} {fault : Option Fault} {refused : List Step} (t : Option (List (ClientsCall (R × W)))) (came : ℕ) (before after : List (Client R W))
     (client : Client R W) {s : Type 0} (cause : Parting) → (s → stops)
-    → IsCrowd stops given known g c c' steps fault refused (record { told = t; came = came; here = before ++ client ∷ after })
+    → IsCrowd stops given known g c c' steps fault refused
+    (record { calls = t; came = came; here = before ++ client ∷ after })
     → ((IsOver client → ⊥) → MayPart s given client.number cause) → Closes t t' client cause
-    → IsCrowd stops given known g c c' steps fault refused (record { told = t'; came = came; here = before ++ after })
+    → IsCrowd stops given known g c c' steps fault refused (record { calls = t'; came = came; here = before ++ after })
 left_one {R} {W} {stops} {given} {known} {g} {t'} {c} {c'} {steps} {fault} {refused} t came before after client {s} cause far crowd may closes =
     let new : ClientsCall (R × W) = Closed client.number closes.left in
     let calls = crowd.calls ++ new ∷ [] in
@@ -413,7 +420,7 @@ left_one {R} {W} {stops} {given} {known} {g} {t'} {c} {c'} {steps} {fault} {refu
     let moved_to = (vs ++ client.number ∷ []) ++ (numbers before ++ numbers after) in
     record {
       calls = calls;
-      told = adds-more g t t' crowd.calls (new ∷ []) crowd.told closes.told;
+      made = adds-more g t t' crowd.calls (new ∷ []) crowd.made closes.made;
       visits = crowd.visits ++ v ∷ [];
       closed = map-append closed_of crowd.visits (v ∷ [])
           ∙ ap (λ (x : List (ℕ × (R × W))). x ++ (client.number, closes.left) ∷ []) crowd.closed
@@ -430,7 +437,7 @@ left_one {R} {W} {stops} {given} {known} {g} {t'} {c} {c'} {steps} {fault} {refu
               ),
               left_told known c c' steps fault refused client one.given closes.left cause closes.parting closes.is
                   (cause_where s crowd.calls given client.number cause fault (IsOver client → ⊥) crowd.to_give_up may)
-                  one.told,
+                  one.are_refused,
               why_told stops crowd.calls (new ∷ []) client.number closes.parting
                   (left_why crowd.calls given fault client cause (closes.left.0, closes.left.1, closes.parting) closes.is far crowd.to_give_up may
                   one.stands),
@@ -467,12 +474,15 @@ pub crowd_leaves : {R W : Type 0} {stops : Type 0} {given : List ℕ} {known : R
     → IsCrowd stops given known g c c' steps fault refused a → Leaves s given a b
     → IsCrowd stops given known g c c' steps fault refused b
 crowd_leaves {R} {W} {stops} {given} {known} {g} {c} {c'} {steps} {fault} {refused} {s} {a} b far crowd m =
-    subst (λ (x : List (Client R W)). IsCrowd stops given known g c c' steps fault refused (record { told = b.told; came = b.came; here = x }))
+    subst (λ (x : List (Client R W)). IsCrowd stops given known g c c' steps fault refused
+    (record { calls = b.calls; came = b.came; here = x }))
     (sym m.here)
-    (subst (λ (n : ℕ). IsCrowd stops given known g c c' steps fault refused (record { told = b.told; came = n; here = m.before ++ m.after }))
+    (subst (λ (n : ℕ). IsCrowd stops given known g c c' steps fault refused
+    (record { calls = b.calls; came = n; here = m.before ++ m.after }))
     (sym m.came)
-    (left_one a.told a.came m.before m.after m.client m.cause far
-    (subst (λ (x : List (Client R W)). IsCrowd stops given known g c c' steps fault refused (record { told = a.told; came = a.came; here = x }))
+    (left_one a.calls a.came m.before m.after m.client m.cause far
+    (subst (λ (x : List (Client R W)). IsCrowd stops given known g c c' steps fault refused
+    (record { calls = a.calls; came = a.came; here = x }))
     m.was crowd) m.why m.closes))
 
 -- ---- nobody comes or leaves
@@ -480,14 +490,15 @@ crowd_leaves {R} {W} {stops} {given} {known} {g} {c} {c'} {steps} {fault} {refus
 waited : {R W : Type 0} {stops : Type 0} {given : List ℕ} {known : R × W → Known} {g t' : Option (List (ClientsCall (R × W)))} {c c' : Seen}
     {steps : List Step} {fault : Option Fault} {refused : List Step} (t : Option (List (ClientsCall (R × W)))) (came : ℕ) (here : List (Client R W))
     (more : List (ClientsCall (R × W))) (given' : List ℕ)
-    (crowd : IsCrowd stops given known g c c' steps fault refused (record { told = t; came = came; here = here }))
+    (crowd : IsCrowd stops given known g c c' steps fault refused (record { calls = t; came = came; here = here }))
     → AreGivenUp fault (crowd.calls ++ more) given' → GrowsBy t t' more → openings more ≡ [] → closings more ≡ []
-    → IsCrowd stops given' known g c c' steps fault refused (record { told = t'; came = came; here = here })
-waited {R} {W} {stops} {given} {known} {g} {t'} {c} {c'} {steps} {fault} {refused} t came here more given' crowd to_give_up told none_came none_left =
+    → IsCrowd stops given' known g c c' steps fault refused (record { calls = t'; came = came; here = here })
+waited {R} {W} {stops} {given} {known} {g} {t'} {c} {c'} {steps} {fault}
+    {refused} t came here more given' crowd to_give_up made none_came none_left =
     let calls = crowd.calls ++ more in
     record {
       calls = calls;
-      told = adds-more g t t' crowd.calls more crowd.told told;
+      made = adds-more g t t' crowd.calls more crowd.made made;
       visits = crowd.visits;
       closed = crowd.closed ∙ sym (closings-append crowd.calls more
           ∙ ap (λ (x : List (ℕ × (R × W))). closings crowd.calls ++ x) none_left ∙ append-nil (closings crowd.calls));
@@ -509,10 +520,13 @@ pub crowd_stays : {R W : Type 0} {stops : Type 0} {given : List ℕ} {known : R 
     {steps : List Step} {fault : Option Fault} {refused : List Step} {a : Scene R W} (b : Scene R W) → IsCrowd stops given known g c c' steps fault refused a → Stays a b
     → IsCrowd stops given known g c c' steps fault refused b
 crowd_stays {R} {W} {stops} {given} {known} {g} {c} {c'} {steps} {fault} {refused} {a} b crowd m =
-    subst (λ (x : List (Client R W)). IsCrowd stops given known g c c' steps fault refused (record { told = b.told; came = b.came; here = x }))
+    subst (λ (x : List (Client R W)). IsCrowd stops given known g c c' steps fault refused
+    (record { calls = b.calls; came = b.came; here = x }))
     (sym m.here)
-    (subst (λ (n : ℕ). IsCrowd stops given known g c c' steps fault refused (record { told = b.told; came = n; here = a.here })) (sym m.came)
-    (waited a.told a.came a.here m.calls given crowd (given_told crowd.calls m.calls fault given crowd.to_give_up) m.told
+    (subst (λ (n : ℕ). IsCrowd stops given known g c c' steps fault refused
+    (record { calls = b.calls; came = n; here = a.here })) (sym m.came)
+    (waited a.calls a.came a.here m.calls given crowd
+    (given_told crowd.calls m.calls fault given crowd.to_give_up) m.made
     m.none_came m.none_left))
 
 none_opened : {E : Type 0} (ns : List ℕ) → openings {E = E} (given_up_told ns) ≡ []
@@ -536,10 +550,10 @@ all_said {E} calls (n ∷ ns) = (
 pub crowd_waits : {R W : Type 0} {stops : Type 0} {known : R × W → Known} {g t t' : Option (List (ClientsCall (R × W)))}
     {c c' : Seen} {steps : List Step} {came : ℕ} {here : List (Client R W)} (ns : List ℕ)
     → GrowsBy t t' (given_up_told ns)
-    → IsCrowd stops [] known g c c' steps None [] (record { told = t; came = came; here = here })
-    → IsCrowd stops ns known g c c' steps None [] (record { told = t'; came = came; here = here })
-crowd_waits {t = t} {came = came} {here = here} ns told crowd =
-    waited t came here (given_up_told ns) ns crowd (all_said crowd.calls ns) told (none_opened ns) (none_closed ns)
+    → IsCrowd stops [] known g c c' steps None [] (record { calls = t; came = came; here = here })
+    → IsCrowd stops ns known g c c' steps None [] (record { calls = t'; came = came; here = here })
+crowd_waits {t = t} {came = came} {here = here} ns made crowd =
+    waited t came here (given_up_told ns) ns crowd (all_said crowd.calls ns) made (none_opened ns) (none_closed ns)
 
 pub none_given : {E : Type 0} (fault : Option Fault) (calls : List (ClientsCall E)) → AreGivenUp fault calls []
 none_given None calls = tt
@@ -552,7 +566,7 @@ pub crowd_on : {R W : Type 0} {stops : Type 0} {given : List ℕ} {known : R × 
     → IsCrowd stops [] known g c c' steps fault refused a
 crowd_on {fault = fault} crowd = record {
   calls = crowd.calls;
-  told = crowd.told;
+  made = crowd.made;
   visits = crowd.visits;
   closed = crowd.closed;
   visited = crowd.visited;
@@ -582,7 +596,7 @@ pub crowd_stops : {R W : Type 0} {s stops : Type 0} {given : List ℕ} {known : 
     → IsCrowd stops given known g c c' steps fault refused a
 crowd_stops {s = s} {stops} {known = known} {c = c} {c'} {steps} {fault} {refused} far crowd = record {
   calls = crowd.calls;
-  told = crowd.told;
+  made = crowd.made;
   visits = crowd.visits;
   closed = crowd.closed;
   visited = each_weaker (HasLeft s known c c' steps fault refused crowd.calls)
@@ -646,7 +660,8 @@ pub left_at : {R W : Type 0} {s : Type 0} {given : List ℕ} {t t' : Option (Lis
     (here here' : List (Client R W)) (place : ℕ) (client : Client R W) (cause : Parting) → place < length here
     → client ≡ get_or here place client → here' ≡ take place here ++ drop (place + 1) here
     → ((IsOver client → ⊥) → MayPart s given client.number cause) → Closes t t' client cause
-    → (came : ℕ) → HaveMoved s given (record { told = t; came = came; here = here }) (record { told = t'; came = came; here = here' })
+    → (came : ℕ) → HaveMoved s given (record { calls = t; came = came; here = here })
+    (record { calls = t'; came = came; here = here' })
 left_at here here' place client cause within is rest why closes came = one_leaves (record {
   before = take place here;
   client = client;
@@ -673,7 +688,8 @@ over_at here place looked removed within is same over =
 pub left_last : {R W : Type 0} {s : Type 0} {given : List ℕ} {t t' : Option (List (ClientsCall (R × W)))}
     (here here' : List (Client R W)) (client : Client R W) (cause : Parting) → here ≡ here' ++ client ∷ []
     → MayPart s given client.number cause → Closes t t' client cause
-    → (came : ℕ) → HaveMoved s given (record { told = t; came = came; here = here }) (record { told = t'; came = came; here = here' })
+    → (came : ℕ) → HaveMoved s given (record { calls = t; came = came; here = here })
+    (record { calls = t'; came = came; here = here' })
 left_last here here' client cause is why closes came = one_leaves (record {
   before = here';
   client = client;
@@ -694,13 +710,14 @@ some_last here here' x is none =
 pub came_in : {R W : Type 0} {s : Type 0} {given : List ℕ} {t t' : Option (List (ClientsCall (R × W)))} (came came' : ℕ) (here here' : List (Client R W))
     (ends : R × W) (client : Client R W) → IsNew came ends.0 ends.1 client → here' ≡ here ++ client ∷ []
     → came' ≡ came + 1 → GrowsBy t t' (Gave came ends ∷ [])
-    → HaveMoved s given (record { told = t; came = came; here = here }) (record { told = t'; came = came'; here = here' })
-came_in came came' here here' ends client is more next told = one_comes (record {
+    → HaveMoved s given (record { calls = t; came = came; here = here })
+    (record { calls = t'; came = came'; here = here' })
+came_in came came' here here' ends client is more next made = one_comes (record {
   given = ends;
   client = client;
   is = is;
   here = more;
-  told = told;
+  made = made;
   came = next;
 })
 
@@ -709,9 +726,11 @@ pub turned_away : {R W : Type 0} {s : Type 0} {given : List ℕ} {t t' t'' : Opt
     (here here' : List (Client R W)) (ends : R × W) (client other : Client R W) → IsNew came ends.0 ends.1 client
     → other ≡ client → here' ≡ here → came' ≡ came + 1 → GrowsBy t t' (Gave came ends ∷ [])
     → Closes t' t'' other parting.Memory
-    → HaveMoved s given (record { told = t; came = came; here = here }) (record { told = t''; came = came'; here = here' })
-turned_away {R} {W} {s} {given} {t} {t'} {t''} came came' here here' ends client other is same rest next told closes =
-    moved_then (came_in {s = s} {given = given} {t = t} {t' = t'} came came' here (here ++ client ∷ []) ends client is refl next told)
+    → HaveMoved s given (record { calls = t; came = came; here = here })
+    (record { calls = t''; came = came'; here = here' })
+turned_away {R} {W} {s} {given} {t} {t'} {t''} came came' here here' ends client other is same rest next made closes =
+    moved_then (came_in {s = s} {given = given} {t = t} {t' = t'} came came' here
+    (here ++ client ∷ []) ends client is refl next made)
     (left_last (here ++ client ∷ []) here' client parting.Memory
     (ap (λ (x : List (Client R W)). x ++ client ∷ []) (sym rest)) tt
     (subst (λ (x : Client R W). Closes t' t'' x parting.Memory) same closes) came')
@@ -719,10 +738,11 @@ turned_away {R} {W} {s} {given} {t} {t'} {t''} came came' here here' ends client
 -- nobody came
 pub nobody_came_in : {R W : Type 0} {s : Type 0} {given : List ℕ} {t t' : Option (List (ClientsCall (R × W)))} (came : ℕ) (here : List (Client R W))
     (calls : List (ClientsCall (R × W))) → openings calls ≡ [] → closings calls ≡ [] → GrowsBy t t' calls
-    → HaveMoved s given (record { told = t; came = came; here = here }) (record { told = t'; came = came; here = here })
-nobody_came_in came here calls none_came none_left told = all_stay (record {
+    → HaveMoved s given (record { calls = t; came = came; here = here })
+    (record { calls = t'; came = came; here = here })
+nobody_came_in came here calls none_came none_left made = all_stay (record {
   calls = calls;
-  told = told;
+  made = made;
   none_came = none_came;
   none_left = none_left;
   here = refl;
@@ -731,24 +751,27 @@ nobody_came_in came here calls none_came none_left told = all_stay (record {
 
 -- ---- the calls that were made on the way
 
-one_grows : {R W : Type 0} {s : Type 0} {given : List ℕ} (a m : Scene R W) → Comes a m ⊎ (Leaves s given a m ⊎ Stays a m) → HasMore a.told m.told
-one_grows a m (inl comes) = record { calls = Gave a.came comes.given ∷ []; made = comes.told }
+one_grows : {R W : Type 0} {s : Type 0} {given : List ℕ} (a m : Scene R W)
+    → Comes a m ⊎ (Leaves s given a m ⊎ Stays a m) → HasMore a.calls m.calls
+one_grows a m (inl comes) = record { calls = Gave a.came comes.given ∷ []; made = comes.made }
 one_grows a m (inr (inl leaves)) =
-    record { calls = Closed leaves.client.number leaves.closes.left ∷ []; made = leaves.closes.told }
-one_grows a m (inr (inr stays)) = record { calls = stays.calls; made = stays.told }
+    record { calls = Closed leaves.client.number leaves.closes.left ∷ []; made = leaves.closes.made }
+one_grows a m (inr (inr stays)) = record { calls = stays.calls; made = stays.made }
 
-all_grow : {R W : Type 0} (s : Type 0) (given : List ℕ) (ms : List (Scene R W)) (a b : Scene R W) → Moves s given ms a b → HasMore a.told b.told
-all_grow s given [] a b same = subst (λ (x : Scene _ _). HasMore a.told x.told) (sym same) (more_none a.told)
+all_grow : {R W : Type 0} (s : Type 0) (given : List ℕ) (ms : List (Scene R W)) (a b : Scene R W)
+    → Moves s given ms a b → HasMore a.calls b.calls
+all_grow s given [] a b same = subst (λ (x : Scene _ _). HasMore a.calls x.calls) (sym same) (more_none a.calls)
 all_grow s given (m ∷ ms) a b moves = more_more (one_grows a m moves.0) (all_grow s given ms m b moves.1)
 
-pub moved_grows : {R W : Type 0} {s : Type 0} {given : List ℕ} (a b : Scene R W) → HaveMoved s given a b → HasMore a.told b.told
+pub moved_grows : {R W : Type 0} {s : Type 0} {given : List ℕ} (a b : Scene R W) → HaveMoved s given a b
+    → HasMore a.calls b.calls
 moved_grows {s = s} {given} a b moved = all_grow s given moved.scenes a b moved.moves
 
 pub one_refused : {E : Type 0} (a b : Option (List (ClientsCall E))) (kind : ErrorKind)
     → GrowsBy a b (Refused kind ∷ []) → HasRefused a b
-one_refused a b kind told = record {
+one_refused a b kind made = record {
   calls = Refused kind ∷ [];
-  told = told;
+  made = made;
   kind = kind;
   one = (0, omega arith, refl);
 }
@@ -756,7 +779,7 @@ one_refused a b kind told = record {
 pub refused_last : {E : Type 0} (a b d : Option (List (ClientsCall E))) → HasMore a b → HasRefused b d → HasRefused a d
 refused_last a b d grown refused = record {
   calls = grown.calls ++ refused.calls;
-  told = adds-more a b d grown.calls refused.calls grown.made refused.told;
+  made = adds-more a b d grown.calls refused.calls grown.made refused.made;
   kind = refused.kind;
   one = Contains-append_right grown.calls refused.calls (Refused refused.kind) refused.one;
 }
@@ -764,7 +787,7 @@ refused_last a b d grown refused = record {
 pub refused_first : {E : Type 0} (a b d : Option (List (ClientsCall E))) → HasRefused a b → HasMore b d → HasRefused a d
 refused_first a b d refused grown = record {
   calls = refused.calls ++ grown.calls;
-  told = adds-more a b d refused.calls grown.calls refused.told grown.made;
+  made = adds-more a b d refused.calls grown.calls refused.made grown.made;
   kind = refused.kind;
   one = Contains-append_left refused.calls grown.calls (Refused refused.kind) refused.one;
 }

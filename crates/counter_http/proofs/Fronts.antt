@@ -103,18 +103,23 @@ gone_here old new lost is = lost_here old new parting.Memory tt lost tt (left_as
 
 -- after which it goes on, or not
 answered_as : {i : ℕ} {k l : Known} {c c' c'' : Seen} {steps : List Step} {has_more shown : Bool}
-    {buf left : List ℕ} (ends : Bool) (told : Option Figures) (moment : ℕ) (m : Message) (head : Head) (text : List ℕ) → IsHeadOf head buf m
+    {buf left : List ℕ} (ends : Bool) (figures : Option Figures) (moment : ℕ) (m : Message) (head : Head)
+    (text : List ℕ) → IsHeadOf head buf m
     → head.closes ≡ ends → (c''.honest → c'.honest)
     → (c''.honest → (log : List Command) → ShowsLog c log
-    → text ≡ answer_told told (followed_by log (submitted_by steps)) (asked_by m))
+    → text ≡ answer_told figures (followed_by log (submitted_by steps)) (asked_by m))
     → (more : Bool) → (more ≡ false → drop head.length buf ≡ [])
     → IsGoing i k l c c' steps has_more shown buf left
-    → StandsAs (parting_after ends None) i k l c c'' (steps ++ step_told told i moment m ∷ []) more shown
+    → StandsAs (parting_after ends None) i k l c c'' (steps ++ step_told figures i moment m ∷ []) more shown
     (drop head.length buf) (left ++ text)
-answered_as {buf = buf} true told moment m head text is e honest says more none g =
-    record { is = answered_last told moment m (drop head.length buf) text is.whole (sym is.closes_is ∙ e) is.front honest says g }
-answered_as {buf = buf} false told moment m head text is e honest says more none g = record {
-  is = answered_on told moment m (drop head.length buf) text is.whole (sym is.closes_is ∙ e) is.front honest says more none g;
+answered_as {buf = buf} true figures moment m head text is e honest says more none g =
+    record {
+      is = answered_last figures moment m (drop head.length buf) text is.whole
+          (sym is.closes_is ∙ e) is.front honest says g;
+    }
+answered_as {buf = buf} false figures moment m head text is e honest says more none g = record {
+  is = answered_on figures moment m (drop head.length buf) text is.whole
+      (sym is.closes_is ∙ e) is.front honest says more none g;
 }
 
 shows_then : {i : ℕ} {k l : Known} {c c' : Seen} {steps : List Step} {has_more : Bool} {rest left : List ℕ}
@@ -124,18 +129,20 @@ shows_then {i} {k} {l} {c} {c'} {steps} {has_more} {rest} {left} p shown shown' 
     subst (λ (b : Bool). StandsAs p i k l c c' steps has_more b rest left) (sym e) is
 
 pub answered_here : {R W : Type 0} {known : R × W → Known} {k : Known} {c c' c'' : Seen} {steps : List Step}
-    (old new : Client R W) (told : Option Figures) (moment : ℕ) (m : Message) (head : Head) (text : List ℕ) → old.parting ≡ None
+    (old new : Client R W) (figures : Option Figures) (moment : ℕ) (m : Message) (head : Head) (text : List ℕ)
+    → old.parting ≡ None
     → IsHeadOf head (unread old) m → HasAnswered old new text head → (c''.honest → c'.honest)
     → (c''.honest → (log : List Command) → ShowsLog c log
-    → text ≡ answer_told told (followed_by log (submitted_by steps)) (asked_by m))
+    → text ≡ answer_told figures (followed_by log (submitted_by steps)) (asked_by m))
     → StandsHere known k c c' steps old
-    → StandsHere known k c c'' (steps ++ step_told told old.number moment m ∷ []) new
-answered_here {R} {W} {known} {k} {c} {c'} {c''} {steps} old new told moment m head text going is did honest says stands =
+    → StandsHere known k c c'' (steps ++ step_told figures old.number moment m ∷ []) new
+answered_here {R} {W} {known} {k} {c} {c'} {c''}
+    {steps} old new figures moment m head text going is did honest says stands =
     let l = known (old.reader, old.writer) in
-    let next = steps ++ step_told told old.number moment m ∷ [] in
+    let next = steps ++ step_told figures old.number moment m ∷ [] in
     let after : StandsAs (parting_after head.closes None) old.number k l c c'' next new.has_more old.shows_body
     (drop head.length (unread old)) (pending old ++ text) =
-    answered_as head.closes told moment m head text is refl honest says new.has_more (λ e. sym did.rest ∙ did.more e)
+    answered_as head.closes figures moment m head text is refl honest says new.has_more (λ e. sym did.rest ∙ did.more e)
     (going_of old going stands) in
     let kept = shows_then (parting_after head.closes None) old.shows_body new.shows_body did.shows after in
     let why : new.parting ≡ parting_after head.closes None =
@@ -150,7 +157,7 @@ answered_here {R} {W} {known} {k} {c} {c'} {c''} {steps} old new told moment m h
           (subst (λ (x : List ℕ). StandsAs (parting_after head.closes None) old.number k l c c'' next
           new.has_more new.shows_body x (pending new)) (sym did.rest)
           (subst (λ (x : List ℕ). StandsAs (parting_after head.closes None) old.number k l c c'' next
-          new.has_more new.shows_body (drop head.length (unread old)) x) (sym did.told) kept))));
+          new.has_more new.shows_body (drop head.length (unread old)) x) (sym did.added) kept))));
     }
 
 -- memory was refused for the answer to a record that the bank took
@@ -217,7 +224,7 @@ record_step old new moment head text bytes going is says (inr (inr short)) stand
 
 pub number_ended : {R W : Type 0} {text : List ℕ} {p : Parting} (old new : Client R W) → HasEndedWith old new text p
     → new.number ≡ old.number
-number_ended old new (inl told) = told.same.number
+number_ended old new (inl ended) = ended.same.number
 number_ended old new (inr lost) = lost.number
 
 pub refused_here : {R W : Type 0} {known : R × W → Known} {k : Known} {c c' c'' : Seen} {steps : List Step}
@@ -225,9 +232,10 @@ pub refused_here : {R W : Type 0} {known : R × W → Known} {k : Known} {c c' c
     → IsHeadOf head (unread old) m
     → HasEndedWith old new (answer_text (bare 503) head.shows_body true) (parting.Bank why) → (c''.honest → c'.honest)
     → StandsHere known k c c' steps old → StandsHere known k c c'' steps new
-refused_here {known = known} {k} {c} {c'} {c''} {steps} old new m head why going is (inl told) honest stands =
-    parted_here new (parting.Bank why) told.same.number told.parting (ends_by known told.same.reader told.same.writer)
-    (told.told ∙ ap (λ (b : Bool). pending old ++ answer_text (bare 503) b true) is.shows_is)
+refused_here {known = known} {k} {c} {c'} {c''} {steps} old new m head why going is (inl ended) honest stands =
+    parted_here new (parting.Bank why) ended.same.number ended.parting
+    (ends_by known ended.same.reader ended.same.writer)
+    (ended.added ∙ ap (λ (b : Bool). pending old ++ answer_text (bare 503) b true) is.shows_is)
     (answered_unavailable why 0 m (drop head.length (unread old)) is.whole is.front honest (going_of old going stands)).parted
 refused_here {known = known} {k} {c} {c'} {c''} {steps} old new m head why going is (inr lost) honest stands =
     gone_here old new lost (stands_after old honest stands)

@@ -27,12 +27,12 @@ none_served seen reason k c n = record {
   why = tt;
   network = λ same. inl (record {
     calls = Refused Interrupted ∷ [];
-    told = tt;
+    made = tt;
     kind = Interrupted;
     one = (0, omega arith, refl);
   });
   calls = [];
-  told = tt;
+  made = tt;
   visits = [];
   closed = refl;
   once = λ i j d before short. absurd (omega (arith, before, short));

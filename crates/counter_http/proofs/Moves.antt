@@ -60,14 +60,14 @@ ended_so old new p (inr lost) = inr (inr (parting.Memory, lost.parting))
 
 told_so : {R W : Type 0} (old new : Client R W) (why : Fault) (result : Result Front Fault) → IsToldOf why result → Rests new
     → IfOk result (LooksDone old new)
-told_so old new fault.Memory result told rests =
-    subst (λ (r : Result Front Fault). IfOk r (LooksDone old new)) (sym told) rests
-told_so old new fault.Store result told rests =
-    subst (λ (r : Result Front Fault). IfOk r (LooksDone old new)) (sym told) tt
-told_so old new fault.Down result told rests =
-    subst (λ (r : Result Front Fault). IfOk r (LooksDone old new)) (sym told) tt
-told_so old new (fault.Damaged rule) result told rests =
-    subst (λ (r : Result Front Fault). IfOk r (LooksDone old new)) (sym told) tt
+told_so old new fault.Memory result is rests =
+    subst (λ (r : Result Front Fault). IfOk r (LooksDone old new)) (sym is) rests
+told_so old new fault.Store result is rests =
+    subst (λ (r : Result Front Fault). IfOk r (LooksDone old new)) (sym is) tt
+told_so old new fault.Down result is rests =
+    subst (λ (r : Result Front Fault). IfOk r (LooksDone old new)) (sym is) tt
+told_so old new (fault.Damaged rule) result is rests =
+    subst (λ (r : Result Front Fault). IfOk r (LooksDone old new)) (sym is) tt
 
 pub read_so : {R W : Type 0} (old new : Client R W) (m : Message) (read : Result Reading Fault) (head : Head)
     (result : Result Front Fault) → IsHeadOf head (unread old) m → ReadsAnswer old new read head result

@@ -102,11 +102,11 @@ round_submitted seen {reason} {known} old mid new here one two {t} {t'} seconds 
       refused = d.refused;
       whose = both.whose;
       whose_refused = subst (λ (ns : List ℕ). AllByRecursion (IsOfOneOf ns) d.refused) g.beside.same d.whose_refused;
-      told = λ p y y' at at' k first before takes is.
+      are_told = λ p y y' at at' k first before takes is.
           let mids = found_too here one p y g.beside.same at in
           subst (λ (l : List Step). AreRefused known k (seen first) (seen new) l (fault_in result) d.refused y')
           (append_assoc before g.reads d.posts)
-          (d.told p mids.0 y' mids.1 at' k first (before ++ g.reads)
+          (d.are_told p mids.0 y' mids.1 at' k first (before ++ g.reads)
           (takes_then seen first old mid before g.reads g.asked.honest takes took)
           (g.beside.stand p y mids.0 at mids.1 k first before takes is));
       clock = s.clock;
@@ -149,7 +149,7 @@ round_refused {Y = Y} seen {reason} {known} old new here one t seconds batch why
       refused = [];
       whose = all_more (IsOfOneOf (numbers here)) g.reads [] g.beside.whose tt;
       whose_refused = tt;
-      told = λ p y y' at at' k first before takes is. tt;
+      are_told = λ p y y' at at' k first before takes is. tt;
       clock = refl;
       stood = f.stood;
       honest_first = f.honest_first;
@@ -179,7 +179,7 @@ round_as y a = record {
   refused = a.refused;
   whose = a.whose;
   whose_refused = a.whose_refused;
-  told = a.told;
+  are_told = a.are_told;
   moves = a.moves;
   clock = a.clock;
   stood = a.stood;
@@ -207,7 +207,7 @@ round_err a = record {
   refused = a.refused;
   whose = a.whose;
   whose_refused = a.whose_refused;
-  told = a.told;
+  are_told = a.are_told;
   moves = tt;
   clock = a.clock;
   stood = a.stood;

@@ -37,7 +37,7 @@ whole_so_far rest g none log = record {
 -- all whole messages that were read are answered
 holds_now : {r r' w w' k k' : Option (List ℕ)} {c c' : Seen} {count : ℕ} {t t' : Option (List WriteCall)}
     (rest : List ℕ) (g : Going r r' w w' k k' c c' rest count) → BeginsWithNoMessage rest → IsThrough t t'
-    → HoldsAnswers w t c c' (moments_of g.turns) (texts_of g.turns ++ rest) (record { contents = w'; told = t' })
+    → HoldsAnswers w t c c' (moments_of g.turns) (texts_of g.turns ++ rest) (record { contents = w'; calls = t' })
 holds_now {w = w} {w' = w'} rest g none through = record {
   wrote = λ h log shows. (
     joined (answers_to log g.turns),
@@ -117,9 +117,9 @@ one_read : {q q' q'' : Option (List ReadCall)} {b b' b'' : Option (List Beside)}
     → AnswersBeforeReads q q' b b' w t c c' moments input → HoldsAnswers w t c c' moments input sink
     → GrowsBy q' q'' (x ∷ []) → GrowsBy b' b'' (sink ∷ []) → given (x ∷ []) ≡ length bytes
     → AnswersBeforeReads q q'' b b'' w t c c' moments (input ++ bytes)
-one_read {q} {q'} {q''} {b} {b'} {b''} {w} {t} {c} {c'} input bytes x sink p holds told beside long = record {
+one_read {q} {q'} {q''} {b} {b'} {b''} {w} {t} {c} {c'} input bytes x sink p holds made beside long = record {
   reads = p.reads ++ x ∷ [];
-  made = adds-more q q' q'' p.reads (x ∷ []) p.made told;
+  made = adds-more q q' q'' p.reads (x ∷ []) p.made made;
   long = omega (arith, given-append p.reads (x ∷ []), p.long, long, length-append input bytes);
   sinks = p.sinks ++ sink ∷ [];
   beside = adds-more b b' b'' p.sinks (sink ∷ []) p.beside beside;
@@ -232,11 +232,11 @@ prompted_first {q = q} {b = b} {c = c} rest none = record {
 }
 
 -- a read gave some bytes, or it failed and gave none
-pub record HasRead (r r' : Option (List ℕ)) (told : Result ℕ Error) (rest all : List ℕ) : Type 0 where
+pub record HasRead (r r' : Option (List ℕ)) (answer : Result ℕ Error) (rest all : List ℕ) : Type 0 where
   pub bytes : List ℕ
   pub got : Consumes r r' bytes
   pub all_is : all ≡ rest ++ bytes
-  pub long : given (read_call told ∷ []) ≡ length bytes
+  pub long : given (read_call answer ∷ []) ≡ length bytes
 
 bytes_long : (old new bytes : List ℕ) (filled n : ℕ) → take (filled + n) new ≡ take filled old ++ bytes
     → filled + n ≤ length new → filled ≤ length old → length bytes ≡ n
@@ -250,43 +250,43 @@ bytes_long old new bytes filled n e fits within =
       length-take-le (filled + n) new fits,
     )
 
-pub has_read : {r r' : Option (List ℕ)} (old new : List ℕ) (filled filled' n : ℕ) (told : Result ℕ Error)
-    → told ≡ Ok n → filled + n ≤ length new → filled ≤ length old
+pub has_read : {r r' : Option (List ℕ)} (old new : List ℕ) (filled filled' n : ℕ) (answer : Result ℕ Error)
+    → answer ≡ Ok n → filled + n ≤ length new → filled ≤ length old
     → ((bytes : List ℕ) × (take (filled + n) new ≡ take filled old ++ bytes) × Consumes r r' bytes)
-    → filled' ≡ filled + n → HasRead r r' told (take filled old) (take filled' new)
-has_read old new filled filled' n told is fits within got place = record {
+    → filled' ≡ filled + n → HasRead r r' answer (take filled old) (take filled' new)
+has_read old new filled filled' n answer is fits within got place = record {
   bytes = got.0;
   got = got.2;
   all_is = ap (λ (j : ℕ). take j new) place ∙ got.1;
-  long = gave_some told n is ∙ sym (bytes_long old new got.0 filled n got.1 fits within);
+  long = gave_some answer n is ∙ sym (bytes_long old new got.0 filled n got.1 fits within);
 }
 
-pub has_failed : {r r' : Option (List ℕ)} (old new : List ℕ) (filled filled' : ℕ) (told : Result ℕ Error)
-    (e : Error) → told ≡ Err e → (Keeps r r' × (take filled new ≡ take filled old)) → filled' ≡ filled
-    → HasRead r r' told (take filled old) (take filled' new)
-has_failed {r} {r'} old new filled filled' told e is kept place = record {
+pub has_failed : {r r' : Option (List ℕ)} (old new : List ℕ) (filled filled' : ℕ) (answer : Result ℕ Error)
+    (e : Error) → answer ≡ Err e → (Keeps r r' × (take filled new ≡ take filled old)) → filled' ≡ filled
+    → HasRead r r' answer (take filled old) (take filled' new)
+has_failed {r} {r'} old new filled filled' answer e is kept place = record {
   bytes = [];
   got = Consumes-kept r r r' [] (Consumes-nil r) kept.0;
   all_is = ap (λ (j : ℕ). take j new) place ∙ kept.1 ∙ sym (append-nil (take filled old));
-  long = gave_none told e is;
+  long = gave_none answer e is;
 }
 
 -- one read more, before which all whole messages were answered
 pub read_on : {r r' r'' : Option (List ℕ)} {q q' q'' : Option (List ReadCall)}
     {b b' b'' : Option (List Beside)} {w w' : Option (List ℕ)} {t t' : Option (List WriteCall)}
-    {k k' : Option (List ℕ)} {c c' : Seen} {count : ℕ} (rest all : List ℕ) (told : Result ℕ Error)
+    {k k' : Option (List ℕ)} {c c' : Seen} {count : ℕ} (rest all : List ℕ) (answer : Result ℕ Error)
     → Prompted r r' q q' b b' w w' t k k' c c' rest count → BeginsWithNoMessage rest → IsThrough t t'
-    → HasRead r' r'' told rest all → GrowsBy q' q'' (read_call told ∷ [])
-    → GrowsBy b' b'' (record { contents = w'; told = t' } ∷ [])
+    → HasRead r' r'' answer rest all → GrowsBy q' q'' (read_call answer ∷ [])
+    → GrowsBy b' b'' (record { contents = w'; calls = t' } ∷ [])
     → Prompted r r'' q q'' b b'' w w' t k k' c c' all count
 unfolding going_read
-read_on rest all told p none through read tells beside =
+read_on rest all answer p none through read tells beside =
     let before = texts_of p.going.turns in
     record {
       going = going_read rest read.bytes all p.going read.got read.all_is;
       before = goes_to (append_assoc before rest read.bytes
           ∙ ap (λ (x : List ℕ). before ++ x) (sym read.all_is)) (λ h. h)
-          (one_read (before ++ rest) read.bytes (read_call told) _ p.before (holds_now rest p.going none through)
+          (one_read (before ++ rest) read.bytes (read_call answer) _ p.before (holds_now rest p.going none through)
           tells beside read.long);
     }
 

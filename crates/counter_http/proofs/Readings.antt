@@ -27,14 +27,16 @@ use Rattle.counter_http.proofs.Stood.{left_as, lost_as}
 use Rattle.counter_http.proofs.Walking.{walks_end}
 
 -- what is known of its ends after a read
-abbrev pub after_read : {R W : Type 0} {known : R × W → Known} {old new : Client R W} {told : Result ℕ Error} {bytes : List ℕ}
-    → MakesRead known old new told bytes → Known
+abbrev pub after_read : {R W : Type 0} {known : R × W → Known} {old new : Client R W} {answer : Result ℕ Error}
+    {bytes : List ℕ}
+    → MakesRead known old new answer bytes → Known
 after_read {known = known} {old} made =
     record (known (old.reader, old.writer)) { reader = made.reader; reads = made.reads; beside = made.beside }
 
 -- as the read was made
 before_read : {R W : Type 0} {known : R × W → Known} {k : Known} {c c' : Seen} {steps : List Step} {old new : Client R W}
-    {told : Result ℕ Error} {bytes : List ℕ} → MakesRead known old new told bytes → StandsHere known k c c' steps old
+    {answer : Result ℕ Error} {bytes : List ℕ} → MakesRead known old new answer bytes
+    → StandsHere known k c c' steps old
     → IsGoing old.number k (known (old.reader, old.writer)) c c' steps false old.shows_body (unread old) []
 before_read {known = known} {k} {c} {c'} {steps} {old} made stands =
     let l = known (old.reader, old.writer) in
@@ -43,28 +45,28 @@ before_read {known = known} {k} {c} {c'} {steps} {old} made stands =
     (going_of old made.going stands))
 
 with_read : {R W : Type 0} {known : R × W → Known} {k : Known} {c c' : Seen} {steps : List Step} {old new : Client R W}
-    {told : Result ℕ Error} {bytes : List ℕ} (made : MakesRead known old new told bytes)
+    {answer : Result ℕ Error} {bytes : List ℕ} (made : MakesRead known old new answer bytes)
     → StandsHere known k c c' steps old
     → IsGoing old.number k (after_read made) c c' steps true old.shows_body (unread old ++ bytes) []
-with_read {known = known} {old = old} {told = told} {bytes} made stands =
-    read_going (unread old ++ bytes) told made.reader made.reads made.beside (before_read made stands)
+with_read {known = known} {old = old} {answer = answer} {bytes} made stands =
+    read_going (unread old ++ bytes) answer made.reader made.reads made.beside (before_read made stands)
     (record { bytes = bytes; got = made.got; all_is = refl; long = made.long }) made.tells made.sink
 
 -- a read that gave nothing
 with_none : {R W : Type 0} {known : R × W → Known} {k : Known} {c c' : Seen} {steps : List Step} {old new : Client R W}
-    {told : Result ℕ Error} (made : MakesRead known old new told []) → StandsHere known k c c' steps old
+    {answer : Result ℕ Error} (made : MakesRead known old new answer []) → StandsHere known k c c' steps old
     → IsGoing old.number k (after_read made) c c' steps true old.shows_body (unread old) []
 with_none {old = old} made stands = waits_so (append-nil (unread old)) (λ e. cc e) (with_read made stands)
 
 last_read : {R W : Type 0} {known : R × W → Known} {k : Known} {c c' : Seen} {steps : List Step} {old new : Client R W}
-    {told : Result ℕ Error} {bytes : List ℕ} (P : ReadCall → Type 0) (made : MakesRead known old new told bytes)
-    → StandsHere known k c c' steps old → P (read_call told) → EndsWith P k.reads made.reads
-last_read {known = known} {k} {old = old} {told = told} P made stands is =
+    {answer : Result ℕ Error} {bytes : List ℕ} (P : ReadCall → Type 0) (made : MakesRead known old new answer bytes)
+    → StandsHere known k c c' steps old → P (read_call answer) → EndsWith P k.reads made.reads
+last_read {known = known} {k} {old = old} {answer = answer} P made stands is =
     let before = (before_read made stands).prompt in
     record {
       earlier = before.reads;
-      last = read_call told;
-      made = adds-more k.reads (known (old.reader, old.writer)).reads made.reads before.reads (read_call told ∷ [])
+      last = read_call answer;
+      made = adds-more k.reads (known (old.reader, old.writer)).reads made.reads before.reads (read_call answer ∷ [])
           before.made made.tells;
       is = is;
     }
@@ -95,7 +97,7 @@ ended_here {steps = steps} old new end ended (Refused some text why) stands =
     record {
       ending = waits.ending;
       walks = walks_end own (unread old) waits.ending g.stays (waits.ends some);
-      last_is = sym waits.told;
+      last_is = sym waits.answer;
       ended = inl ended;
       none_refused = refl;
     } in
@@ -118,7 +120,7 @@ read_here {known = known} {k} {c} {c'} {steps} old new (inl same) stands =
     subst (λ (x : Client _ _). StandsHere known k c c' steps x) (sym same) stands
 read_here old new (inr (inl some)) stands = some_here old new some stands
 read_here old new (inr (inr (inl end))) stands =
-    ended_here old new end (record { none = end.none; told = last_read _ end.made stands end.end }) end.says stands
+    ended_here old new end (record { none = end.none; read = last_read _ end.made stands end.end }) end.says stands
 read_here old new (inr (inr (inr last))) stands = unread_here old new last stands
 
 pub number_read : {R W : Type 0} {known : R × W → Known} (old new : Client R W) → Reads known old new
@@ -130,26 +132,26 @@ number_read old new (inr (inr (inr last))) = last.made.number
 
 -- ---- what a read did
 
-abbrev pub made_read : {R W : Type 0} (remaining : R → Option (List ℕ)) (told : R → Option (List ReadCall))
+abbrev pub made_read : {R W : Type 0} (remaining : R → Option (List ℕ)) (calls : R → Option (List ReadCall))
     (beside : R → Option (List Beside)) (contents : W → Option (List ℕ)) (writes : W → Option (List WriteCall))
     (old new : Client R W) (reader : R) (result : Result ℕ Error) (bytes : List ℕ) → old.parting ≡ None
     → old.has_more ≡ false → pending old ≡ [] → new.number ≡ old.number → new.reader ≡ reader → new.writer ≡ old.writer
     → Consumes (remaining old.reader) (remaining reader) bytes → given (read_call result ∷ []) ≡ length bytes
-    → GrowsBy (told old.reader) (told reader) (read_call result ∷ [])
+    → GrowsBy (calls old.reader) (calls reader) (read_call result ∷ [])
     → GrowsBy (beside old.reader) (beside reader)
-    (record { contents = contents old.writer; told = writes old.writer } ∷ [])
-    → MakesRead (known_ends remaining told beside contents writes) old new result bytes
-made_read remaining told beside contents writes old new reader result bytes going waited written number is same got long
-    tells sink =
+    (record { contents = contents old.writer; calls = writes old.writer } ∷ [])
+    → MakesRead (known_ends remaining calls beside contents writes) old new result bytes
+made_read remaining calls beside contents writes old new reader result bytes going waited written number is same got
+    long tells sink =
     record {
       going = going;
       waited = waited;
       written = written;
       number = number;
       reader = remaining reader;
-      reads = told reader;
+      reads = calls reader;
       beside = beside reader;
-      ends = ends_by (known_ends remaining told beside contents writes) is same;
+      ends = ends_by (known_ends remaining calls beside contents writes) is same;
       got = got;
       tells = tells;
       sink = sink;
@@ -178,7 +180,7 @@ pub says_at_end : {R W : Type 0} (old mid new : Client R W) (answer : Answer) �
     → pending mid ≡ [] → HasEndedWith mid new (answer_text answer old.shows_body true) parting.Served
     → SaysAtEnd old new
 says_at_end old mid new answer is some none (inl so) =
-    Refused some (so.told ∙ ap (λ (x : List ℕ). x ++ answer_text answer old.shows_body true) none
+    Refused some (so.added ∙ ap (λ (x : List ℕ). x ++ answer_text answer old.shows_body true) none
     ∙ ap (λ (a : Answer). answer_text a old.shows_body true) is) so.parting
 says_at_end old mid new answer is some none (inr lost) = Lost lost.none lost.parting
 

@@ -48,22 +48,23 @@ lost_to : {i : ℕ} {k l : Known} {c c' : Seen} {steps : List Step} {turn : Turn
     → (is : IsLeft i k l c c' steps) → PartingIsOfItsEnd p k.reads l.reads k.writes l.writes → is.lost ≡ turn ∷ []
     → IsBrokenOff (of_client i steps) is.lost is.last → IsRefused i k l c c' steps [] turn p
 unfolding lost_as loses
-lost_to parting.Served loss is ends lost told = absurd loss
-lost_to parting.Read loss is ends lost told = absurd loss
-lost_to (parting.Bank fault) loss is ends lost told = absurd loss
-lost_to parting.Write loss is ends lost told =
-    record { parted = lost_as parting.Write loss is ends; lost = lost; told = told }
-lost_to parting.Memory loss is ends lost told =
-    record { parted = lost_as parting.Memory loss is ends; lost = lost; told = told }
-lost_to parting.GivenUp loss is ends lost told = absurd loss
-lost_to parting.Stopped loss is ends lost told = absurd loss
+lost_to parting.Served loss is ends lost broken_off = absurd loss
+lost_to parting.Read loss is ends lost broken_off = absurd loss
+lost_to (parting.Bank fault) loss is ends lost broken_off = absurd loss
+lost_to parting.Write loss is ends lost broken_off =
+    record { parted = lost_as parting.Write loss is ends; lost = lost; broken_off = broken_off }
+lost_to parting.Memory loss is ends lost broken_off =
+    record { parted = lost_as parting.Memory loss is ends; lost = lost; broken_off = broken_off }
+lost_to parting.GivenUp loss is ends lost broken_off = absurd loss
+lost_to parting.Stopped loss is ends lost broken_off = absurd loss
 
 -- there was no memory for the 503
 forgotten : {i : ℕ} {k l : Known} {c c' : Seen} {steps : List Step} {left : List ℕ} {turn : Turn} {p : Parting}
     → IsRefused i k l c c' steps left turn p → IsRefused i k l c c' steps [] turn parting.Memory
 unfolding left_as
 forgotten {p = p} is =
-    lost_to parting.Memory tt (left_as (Some p) {has_more = true} {shown = true} {rest = []} (record { is = is.parted })) tt is.lost is.told
+    lost_to parting.Memory tt
+    (left_as (Some p) {has_more = true} {shown = true} {rest = []} (record { is = is.parted })) tt is.lost is.broken_off
 
 pub refused_now : {R W : Type 0} {known : R × W → Known} {k : Known} {c c' c'' : Seen} {steps : List Step}
     (old new : Client R W) (moment : ℕ) (m : Message) (head : Head) (why : Fault) → old.parting ≡ None
@@ -71,9 +72,10 @@ pub refused_now : {R W : Type 0} {known : R × W → Known} {k : Known} {c c' c'
     → HasEndedWith old new (answer_text (bare 503) head.shows_body true) (parting.Bank why) → (c''.honest → c'.honest)
     → StandsHere known k c c' steps old
     → StandsRefused known k c c'' steps why (record { message = m; moment = moment }) new
-refused_now {known = known} old new moment m head why going is (inl told) honest stands =
-    refused_as why (parting.Bank why) new told.parting told.same.number (ends_by known told.same.reader told.same.writer)
-    (told.told ∙ ap (λ (b : Bool). pending old ++ answer_text (bare 503) b true) is.shows_is) refl
+refused_now {known = known} old new moment m head why going is (inl ended) honest stands =
+    refused_as why (parting.Bank why) new ended.parting ended.same.number
+    (ends_by known ended.same.reader ended.same.writer)
+    (ended.added ∙ ap (λ (b : Bool). pending old ++ answer_text (bare 503) b true) is.shows_is) refl
     (answered_unavailable why moment m (drop head.length (unread old)) is.whole is.front honest (going_of old going stands))
 refused_now {known = known} old new moment m head why going is (inr lost) honest stands =
     refused_as why parting.Memory new lost.parting lost.number (ends_by known lost.reader lost.writer) lost.none tt
@@ -90,7 +92,7 @@ unfolding wrote_to
 refused_wrote {p = p} n w' v' wrote more some flushed is = record {
   parted = (wrote_to (Some p) {has_more = true} {shown = true} {rest = []} n w' v' wrote more some flushed (record { is = is.parted })).is;
   lost = is.lost;
-  told = is.told;
+  broken_off = is.broken_off;
 }
 
 refused_failed : {i : ℕ} {k l : Known} {c c' : Seen} {steps : List Step} {left : List ℕ} {turn : Turn} {p : Parting} (n : ℕ)
@@ -101,7 +103,7 @@ unfolding left_after left_as
 refused_failed {p = p} n w' v' wrote failed is =
     lost_to parting.Write tt
     (left_after (Some p) {has_more = true} {shown = true} {rest = []} n w' v' wrote (failed_more failed) (record { is = is.parted }))
-    (more_failed IsWriteFailure is.parted.more failed) is.lost is.told
+    (more_failed IsWriteFailure is.parted.more failed) is.lost is.broken_off
 
 pub refused_written : {R W : Type 0} {known : R × W → Known} {k : Known} {c c' : Seen} {steps : List Step} {fault : Fault}
     {turn : Turn} (old new : Client R W) → Writes known old new → StandsRefused known k c c' steps fault turn old
@@ -110,10 +112,10 @@ refused_written {known = known} {k} {c} {c'} {steps} {fault} {turn} old new (inl
     subst (λ (x : Client _ _). StandsRefused known k c c' steps fault turn x) (sym same) is
 refused_written {fault = fault} old new (inr (inl w)) is =
     refused_as fault is.parting new (w.parting ∙ is.parting_is) w.number w.ends w.left is.why
-    (refused_wrote w.count w.contents w.told w.wrote w.more w.some (λ e. w.flushed (w.left ∙ e)) is.is)
+    (refused_wrote w.count w.contents w.writes w.wrote w.more w.some (λ e. w.flushed (w.left ∙ e)) is.is)
 refused_written {fault = fault} old new (inr (inr w)) is =
     refused_as fault parting.Write new w.parting w.number w.ends w.none tt
-    (refused_failed w.count w.contents w.told w.wrote w.failed is.is)
+    (refused_failed w.count w.contents w.writes w.wrote w.failed is.is)
 
 -- ---- its connection is closed
 
@@ -131,14 +133,14 @@ refused_early {p = p} fault parting.Memory ours is = record {
   served = closed_early parting.Memory tt
       (left_as (Some p) {has_more = true} {shown = true} {rest = []} (record { is = is.parted }));
   lost = is.lost;
-  told = is.told;
+  broken_off = is.broken_off;
   why = tt;
 }
 refused_early {p = p} fault parting.Stopped ours is = record {
   served = closed_early parting.Stopped tt
       (left_as (Some p) {has_more = true} {shown = true} {rest = []} (record { is = is.parted }));
   lost = is.lost;
-  told = is.told;
+  broken_off = is.broken_off;
   why = tt;
 }
 refused_early fault parting.GivenUp ours is = absurd ours
@@ -152,7 +154,7 @@ refused_over : {i : ℕ} {k l : Known} {c c' : Seen} {steps : List Step} {left :
     → ClientIsRefused i k l c c' steps fault turn p
 unfolding closed_as
 refused_over fault none why is =
-    record { served = closed_as none is.parted; lost = is.lost; told = is.told; why = why }
+    record { served = closed_as none is.parted; lost = is.lost; broken_off = is.broken_off; why = why }
 
 some_same : (p q : Parting) → Some p ≡ Some q → p ≡ q
 some_same p q e = cc e

@@ -70,15 +70,16 @@ pub says_answered : {C R W X : Type 0} (seen : C → Seen) {reason : Fault → C
     → IsAnswered seen reason known figures bank new old after result
 says_answered seen {known = known} figures bank new old after m head answer front.Answered result did is going reads asked
     says =
-    let told = told_to figures (asked_by m) in
+    let given = told_to figures (asked_by m) in
     record {
-      more = step_told told old.number 0 m ∷ [];
+      more = step_told given old.number 0 m ∷ [];
       reads = ((reads, refl), tt);
       own = (refl, tt);
       asked = asked;
       number = did.same.number;
       stands = λ k first steps takes stands.
-          answered_here old after told 0 m head (answer_text answer head.shows_body head.closes) going is did asked.honest
+          answered_here old after given 0 m head
+          (answer_text answer head.shows_body head.closes) going is did asked.honest
           (λ h log s. ap (λ (b : Bool). answer_text answer b head.closes) is.shows_is
           ∙ ap (λ (b : Bool). answer_text answer (shows (asked_by m)) b) is.closes_is
           ∙ ap (λ (a : Answer). answer_text a (shows (asked_by m)) (asked_by m).closes)
@@ -97,7 +98,7 @@ untold figures a none = rw none refl
 pub as_untold : (figures : Figures) (a : Asked) (log : List Command) (answer : Answer) → asks_figures a ≡ false
     → answer ≡ answer_to log a → answer ≡ answer_with (told_to figures a) log a
 as_untold figures a log answer none is =
-    is ∙ ap (λ (told : Option Figures). answer_with told log a) (sym (untold figures a none))
+    is ∙ ap (λ (given : Option Figures). answer_with given log a) (sym (untold figures a none))
 
 -- and here it is figures
 pub as_told : (figures : Figures) (a : Asked) (log : List Command) → asks_figures a ≡ true
@@ -109,21 +110,21 @@ told_answered : {C R W X : Type 0} (seen : C → Seen) {reason : Fault → C →
     → HasEndedWith old after (answer_text (bare 503) head.shows_body true) (parting.Bank why)
     → IsHeadOf head (unread old) m → old.parting ≡ None → IsAsked seen reason bank new result
     → IsAnswered seen reason known figures bank new old after result
-told_answered seen bank new old after m head why result told is going asked =
-    answered_nothing seen bank new old after result asked (number_ended old after told)
-    (λ k c steps stands. refused_here old after m head why going is told asked.honest stands)
+told_answered seen bank new old after m head why result ended is going asked =
+    answered_nothing seen bank new old after result asked (number_ended old after ended)
+    (λ k c steps stands. refused_here old after m head why going is ended asked.honest stands)
 
 refusal_asked : {C : Type 0} (seen : C → Seen) {reason : Fault → C → C → Type 0} (bank new : C) (why : Fault)
     (result : Result Front Fault) → IsToldOf why result → IsAsked {X = Reading} seen reason bank new (Err why)
     → IsAsked seen reason bank new result
-refusal_asked seen {reason} bank new fault.Memory result told asked =
-    subst (λ (r : Result Front Fault). IsAsked seen reason bank new r) (sym told) (asked_full front.Nothing asked)
-refusal_asked seen {reason} bank new fault.Store result told asked =
-    subst (λ (r : Result Front Fault). IsAsked seen reason bank new r) (sym told) (asked_err asked)
-refusal_asked seen {reason} bank new fault.Down result told asked =
-    subst (λ (r : Result Front Fault). IsAsked seen reason bank new r) (sym told) (asked_err asked)
-refusal_asked seen {reason} bank new (fault.Damaged rule) result told asked =
-    subst (λ (r : Result Front Fault). IsAsked seen reason bank new r) (sym told) (asked_err asked)
+refusal_asked seen {reason} bank new fault.Memory result is asked =
+    subst (λ (r : Result Front Fault). IsAsked seen reason bank new r) (sym is) (asked_full front.Nothing asked)
+refusal_asked seen {reason} bank new fault.Store result is asked =
+    subst (λ (r : Result Front Fault). IsAsked seen reason bank new r) (sym is) (asked_err asked)
+refusal_asked seen {reason} bank new fault.Down result is asked =
+    subst (λ (r : Result Front Fault). IsAsked seen reason bank new r) (sym is) (asked_err asked)
+refusal_asked seen {reason} bank new (fault.Damaged rule) result is asked =
+    subst (λ (r : Result Front Fault). IsAsked seen reason bank new r) (sym is) (asked_err asked)
 
 pub read_answered : {C R W : Type 0} (seen : C → Seen) {reason : Fault → C → C → Type 0} {known : R × W → Known}
     (figures : Figures) (bank new : C) (old after : Client R W) (m : Message) (head : Head) (read : Result Reading Fault)
@@ -159,7 +160,7 @@ hopeless : {has_ended : Type 0} (own : List Turn) (buf : List ℕ) (shown : Bool
 hopeless own buf shown stays is = record {
   ending = is.ending;
   walks = walks_end own buf is.ending stays (subst (λ (x : List ℕ). EndsWalk is.ending x) (append-nil buf) (is.ends []));
-  last_is = sym is.told;
+  last_is = sym is.answer;
   ended = inr (walks_always own buf is.ending stays is.ends);
   none_refused = refl;
 }
@@ -168,9 +169,9 @@ pub hopeless_here : {R W : Type 0} {known : R × W → Known} {k : Known} {c c' 
     (old new : Client R W) (shown : Bool) (answer : Answer) → answer ≡ bare 400 → old.parting ≡ None
     → IsHopeless (unread old) shown → HasEndedWith old new (answer_text answer shown true) parting.Served
     → StandsHere known k c c' steps old → StandsHere known k c c' steps new
-hopeless_here {known = known} {steps = steps} old new shown answer same going is (inl told) stands =
+hopeless_here {known = known} {steps = steps} old new shown answer same going is (inl ended) stands =
     let g = going_of old going stands in
-    parted_here new parting.Served told.same.number told.parting (ends_by known told.same.reader told.same.writer)
-    (told.told ∙ ap (λ (a : Answer). pending old ++ answer_text a shown true) same)
+    parted_here new parting.Served ended.same.number ended.parting (ends_by known ended.same.reader ended.same.writer)
+    (ended.added ∙ ap (λ (a : Answer). pending old ++ answer_text a shown true) same)
     (answered_refusal shown g (hopeless (of_client old.number steps) (unread old) shown g.stays is))
 hopeless_here old new shown answer same going is (inr lost) stands = gone_here old new lost stands

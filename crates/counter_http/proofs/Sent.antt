@@ -17,7 +17,7 @@ pub ended_at : {remaining : Option (List ℕ)} {a b c : Option (List ReadCall)} 
     → IfOk r (λ m. m ≡ 0 → IsAtEnd remaining)
     → HasEnded remaining a c
 ended_at r n made tells is none end = record
-    { none = at_ok _ r n is end none; told = read_ended r n made tells is none }
+    { none = at_ok _ r n is end none; read = read_ended r n made tells is none }
 
 -- ---- within an answer
 

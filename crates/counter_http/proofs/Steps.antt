@@ -31,7 +31,7 @@ pub answers_at-append : (i : ℕ) (log : List Command) (ss ts : List Step)
 answers_at-append i log [] ts = refl
 answers_at-append i log (s ∷ ss) ts =
     let after = followed_by log (commands_in s.turn) in
-    own_append (eqb s.client i) (answer_told s.told log (asked_by s.turn.message)) (answers_at i after ss)
+    own_append (eqb s.client i) (answer_told s.figures log (asked_by s.turn.message)) (answers_at i after ss)
     (answers_at i (followed_by log (submitted_by (s ∷ ss))) ts) (answers_at i after (ss ++ ts))
     (answers_at-append i after ss ts
     ∙ ap (λ (l : List Command). answers_at i after ss ++ answers_at i l ts)
@@ -63,19 +63,19 @@ all_of i (t ∷ ts) all = rw (eq-eqb t.client i all.0) (ap (λ (x : List Turn). 
 
 -- it asked for no figures
 abbrev pub IsUntold : Step → Type 0
-IsUntold s = s.told ≡ None
+IsUntold s = s.figures ≡ None
 
 pub all_answers : (i : ℕ) (log : List Command) (ts : List Step) → AllByRecursion (OfOne i) ts
     → AllByRecursion IsUntold ts → answers_at i log ts ≡ answers_to log (turns_of ts)
 all_answers i log [] all untold = refl
 all_answers i log (t ∷ ts) all untold =
     rw (eq-eqb t.client i all.0)
-    (ap (λ (told : Option Figures). answer_told told log (asked_by t.turn.message)
+    (ap (λ (figures : Option Figures). answer_told figures log (asked_by t.turn.message)
     ∷ answers_at i (followed_by log (commands_in t.turn)) ts) untold.0
     ∙ ap (λ (x : List (List ℕ)). answer_of log (asked_by t.turn.message) ∷ x)
     (all_answers i (followed_by log (commands_in t.turn)) ts all.1 untold.1))
 
 -- one alone, whether it is told figures or not
 pub one_answer : (i : ℕ) (log : List Command) (t : Step) → t.client ≡ i
-    → answers_at i log (t ∷ []) ≡ answer_told t.told log (asked_by t.turn.message) ∷ []
+    → answers_at i log (t ∷ []) ≡ answer_told t.figures log (asked_by t.turn.message) ∷ []
 one_answer i log t own = rw (eq-eqb t.client i own) refl

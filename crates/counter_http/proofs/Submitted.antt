@@ -50,7 +50,7 @@ submitted_nothing seen readings bank here t = record {
   moves = λ some. absurd (omega (arith, some));
   beside = beside_none seen bank bank here (λ h. h);
   whose_refused = tt;
-  told = λ p y y' at at' k first before takes is. tt;
+  are_told = λ p y y' at at' k first before takes is. tt;
   stood = bank;
   honest_first = λ h. h;
   honest = λ h. h;
@@ -80,7 +80,7 @@ spared_all {X = X} seen contents reason readings old new here cs t why e it =
       moves = λ some. absurd (omega (arith, some));
       beside = beside_none seen old new here call.honest;
       whose_refused = tt;
-      told = λ p y y' at at' k first before takes is. tt;
+      are_told = λ p y y' at at' k first before takes is. tt;
       stood = new;
       honest_first = call.honest;
       honest = λ h. h;
@@ -134,7 +134,7 @@ module _ {C K R W X : Type 0} (seen : C → Seen) (contents : C → K) (reason :
           (stands_after y call.honest is);
     };
     whose_refused = tt;
-    told = λ p y y' at at' k first before takes is. tt;
+    are_told = λ p y y' at at' k first before takes is. tt;
     stood = new;
     honest_first = call.honest;
     honest = λ h. h;
@@ -165,7 +165,7 @@ module _ {C K R W X : Type 0} (seen : C → Seen) (contents : C → K) (reason :
       stand = λ p y y' at at' k first before takes is. refused_beside seen old new here here' ss rs g apart why call.honest chain p y y' at at' k first before is;
     };
     whose_refused = steps_whose moment here ss rs g;
-    told = λ p y y' at at' k first before takes is.
+    are_told = λ p y y' at at' k first before takes is.
         subst (λ (l : List Step). AreRefused known k (seen first) (seen new) l (Some why) (steps_at moment here ss rs g) y')
         (sym (append-nil before))
         (told_each moment here here' ss rs why g apart all chain p y y' at at' (stands_after y call.honest is));
@@ -204,7 +204,7 @@ module _ {C K R W X : Type 0} (seen : C → Seen) (contents : C → K) (reason :
               refused_beside seen old new here here' ss rs g apart why call.honest chain p y y' at at' k first before is;
         };
         whose_refused = tt;
-        told = λ p y y' at at' k first before takes is. tt;
+        are_told = λ p y y' at at' k first before takes is. tt;
         stood = new;
         honest_first = call.honest;
         honest = λ h. h;
@@ -263,11 +263,11 @@ submitted_then {C = C} seen {reason} {known} readings old mid new here one two {
       moves = λ given. more_posted two a.posts b.posts result (b.moves (some given));
       beside = beside_then seen old mid new here one two a.posts b.posts took honest a.beside b.beside;
       whose_refused = subst (λ (ns : List ℕ). AllByRecursion (IsOfOneOf ns) b.refused) a.beside.same b.whose_refused;
-      told = λ p y y' at at' k first before takes is.
+      are_told = λ p y y' at at' k first before takes is.
           let mids = found_too here one p y a.beside.same at in
           subst (λ (l : List Step). AreRefused known k (seen first) (seen new) l (fault_in result) b.refused y')
           (append_assoc before a.posts b.posts)
-          (b.told p mids.0 y' mids.1 at' k first (before ++ a.posts)
+          (b.are_told p mids.0 y' mids.1 at' k first (before ++ a.posts)
           (takes_then seen first old mid before a.posts honest takes took)
           (a.beside.stand p y mids.0 at mids.1 k first before takes is));
       stood = b.stood;
@@ -309,7 +309,7 @@ submitted_few n m le a = record {
   moves = λ some. tt;
   beside = a.beside;
   whose_refused = a.whose_refused;
-  told = a.told;
+  are_told = a.are_told;
   stood = a.stood;
   honest_first = a.honest_first;
   honest = a.honest;

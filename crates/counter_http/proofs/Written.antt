@@ -41,7 +41,7 @@ some_here : {R W : Type 0} {known : R × W → Known} {k : Known} {c c' : Seen} 
     → WritesSome known old new → StandsHere known k c c' steps old → StandsHere known k c c' steps new
 some_here old new w stands =
     stands_as old.parting new w.parting w.number w.ends w.has_more w.shows w.unread_same w.left
-    (wrote_to old.parting w.count w.contents w.told w.wrote w.more w.some (λ e. w.flushed (w.left ∙ e)) stands.is)
+    (wrote_to old.parting w.count w.contents w.writes w.wrote w.more w.some (λ e. w.flushed (w.left ∙ e)) stands.is)
 
 pub failed_more : {old new : Option (List WriteCall)} → HasWriteFailed old new → HasMore old new
 failed_more (inl last) = last_some IsWriteFailure last
@@ -52,7 +52,7 @@ last_here : {R W : Type 0} {known : R × W → Known} {k : Known} {c c' : Seen} 
 last_here old new w stands =
     parted_here new parting.Write w.number w.parting w.ends w.none
     (lost_as parting.Write tt
-    (left_after old.parting w.count w.contents w.told w.wrote (failed_more w.failed) stands.is)
+    (left_after old.parting w.count w.contents w.writes w.wrote (failed_more w.failed) stands.is)
     (more_failed IsWriteFailure (left_as old.parting stands.is).more w.failed))
 
 pub written_here : {R W : Type 0} {known : R × W → Known} {k : Known} {c c' : Seen} {steps : List Step}

@@ -57,7 +57,7 @@ outcome_in reply = option_and_then outcome_with (number_of (slice_range reply 4 
 
 abbrev pub is_told_as : Outcome → Option Outcome → Bool
 is_told_as outcome None = false
-is_told_as outcome (Some told) = is_same outcome told
+is_told_as outcome (Some other) = is_same outcome other
 
 abbrev pub has_outcome : Outcome → List ℕ → Bool
 has_outcome outcome reply = is_told_as outcome (outcome_in reply)
@@ -140,4 +140,4 @@ answer_with None log asked = answer_to log asked
 answer_with (Some figures) log asked = figures_answer figures
 
 abbrev pub answer_told : Option Figures → List Command → Asked → List ℕ
-answer_told told log asked = answer_text (answer_with told log asked) (shows asked) asked.closes
+answer_told figures log asked = answer_text (answer_with figures log asked) (shows asked) asked.closes

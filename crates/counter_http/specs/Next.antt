@@ -24,14 +24,14 @@ pub record IsWhole (buf : List ℕ) (w : Whole) : Type 0 where
 pub record IsUnfinished (buf : List ℕ) (shown : Bool) : Type 0 where
   pub ending : Ending
   pub ends : buf ≢ [] → EndsWalk ending buf
-  pub told : final_answer ending ≡ refusal shown ∷ []
+  pub answer : final_answer ending ≡ refusal shown ∷ []
   pub room : length buf < BUFFER
 
 -- whatever follows, the walk ends so
 pub record IsHopeless (buf : List ℕ) (shown : Bool) : Type 0 where
   pub ending : Ending
   pub ends : AlwaysEnds ending buf
-  pub told : final_answer ending ≡ refusal shown ∷ []
+  pub answer : final_answer ending ≡ refusal shown ∷ []
 
 abbrev pub IsNextMessage : List ℕ → Next → Type 0
 IsNextMessage buf (next.Message w) = IsWhole buf w

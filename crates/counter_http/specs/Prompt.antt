@@ -17,7 +17,7 @@ pub record HoldsAnswers (w : Option (List ℕ)) (t : Option (List WriteCall)) (c
     (moments input : List ℕ) (sink : Beside) : Type 0 where
   pub wrote : c'.honest → (log : List Command) → ShowsLog c log
       → (text : List ℕ) × AnswersWhole log moments input text × Appends w sink.contents text
-  pub through : IsThrough t sink.told
+  pub through : IsThrough t sink.calls
 
 -- so it was at each read, of the input that the reads before it gave
 pub record AnswersBeforeReads (q q' : Option (List ReadCall)) (b b' : Option (List Beside))

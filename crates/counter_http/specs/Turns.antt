@@ -81,7 +81,7 @@ pub record IsRefusedInPart {C : Type 0} (seen : C → Seen) (w w' : Option (List
     (asked : Asked) (commands : List Command) : Type 0 where
   pub written : List ℕ
   pub wrote : Appends w w' written
-  pub told : written ≡ take (length written) (unavailable asked)
+  pub part : written ≡ take (length written) (unavailable asked)
   pub fault : Fault
   pub refused : IsRefusedAt seen old new fault commands
 
@@ -104,7 +104,7 @@ IfRefused _ P = ⊤
 -- the fault of the bank, where all of the text was written, and that of the writer elsewhere
 abbrev pub IsTellingOf : Fault → ServeFault → ℕ → List ℕ → Type 0
 IsTellingOf fault Write n text = ⊤
-IsTellingOf fault (Bank told) n text = (told ≡ fault) × (n ≡ length text)
+IsTellingOf fault (Bank cause) n text = (cause ≡ fault) × (n ≡ length text)
 IsTellingOf fault Read n text = ⊥
 IsTellingOf fault Memory n text = ⊥
 

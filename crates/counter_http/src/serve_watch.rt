@@ -28,7 +28,7 @@ impl ServeWatch for Unwatched {
 pub(crate) struct Watched<V: Drop> {
     watch: V,
     postings: u64,
-    told: Option<(usize, u64, Instant)>,
+    last: Option<(usize, u64, Instant)>,
 }
 
 impl<V: ServeWatch + Drop> Watched<V> {
@@ -36,7 +36,7 @@ impl<V: ServeWatch + Drop> Watched<V> {
         Watched {
             watch,
             postings: 0,
-            told: None,
+            last: None,
         }
     }
 
@@ -47,7 +47,7 @@ impl<V: ServeWatch + Drop> Watched<V> {
 
     /// How long until it is told that so many are connected, where something has changed.
     pub fn left(&self, connected: usize, now: Instant) -> Option<Duration> {
-        match self.told {
+        match self.last {
             Some((before, postings, _)) if before == connected && postings == self.postings => None,
             Some((_, _, since)) => {
                 let passed = now.duration_since(since);
@@ -60,7 +60,7 @@ impl<V: ServeWatch + Drop> Watched<V> {
     /// Tells what is so now, where it is time.
     pub fn look(&mut self, connected: usize, now: Instant) {
         if self.left(connected, now) == Some(Duration::ZERO) {
-            self.told = Some((connected, self.postings, now));
+            self.last = Some((connected, self.postings, now));
             self.watch.served(connected, self.postings);
         }
     }

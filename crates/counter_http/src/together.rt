@@ -39,8 +39,8 @@ fn take_in<D: Clients>(
     here: &mut Vec<Client<D::Reader, D::Writer>>,
 ) -> Result<(), ListenFault>
     requires { came.old ≤ connections }
-    ensures come { HaveMoved ⊥ [] (record { told = D.calls door.old; came = came.old; here = here.old.items })
-        (record { told = D.calls door.new; came = came.new; here = here.new.items }) }
+    ensures come { HaveMoved ⊥ [] (record { calls = D.calls door.old; came = came.old; here = here.old.items })
+        (record { calls = D.calls door.new; came = came.new; here = here.new.items }) }
     ensures few { came.new ≤ connections }
     ensures fault { OnErr result (result ≡ Err ListenFault.Network) }
     ensures refused { OnErr result (HasRefused (D.calls door.old) (D.calls door.new)) }
@@ -103,8 +103,8 @@ fn give_up<D: Clients>(
     readiness: &[Readiness],
 )
     ensures { (came : ℕ) → HaveMoved ⊥ (given_up (numbers here.old.items) readiness.now)
-        (record { told = D.calls door.old; came = came; here = here.old.items })
-        (record { told = D.calls door.new; came = came; here = here.new.items }) }
+        (record { calls = D.calls door.old; came = came; here = here.old.items })
+        (record { calls = D.calls door.new; came = came; here = here.new.items }) }
 {
     let mut place = 0;
     for found in readiness {
@@ -220,8 +220,8 @@ fn answer<R: Source + Drop, W: Sink + Drop, K: Clock, C: Followed>(
 
 // Closes the connections of those for whom nothing more is done.
 fn part<D: Clients>(door: &mut D, here: &mut Vec<Client<D::Reader, D::Writer>>)
-    ensures { (came : ℕ) → HaveMoved ⊥ [] (record { told = D.calls door.old; came = came; here = here.old.items })
-        (record { told = D.calls door.new; came = came; here = here.new.items }) }
+    ensures { (came : ℕ) → HaveMoved ⊥ [] (record { calls = D.calls door.old; came = came; here = here.old.items })
+        (record { calls = D.calls door.new; came = came; here = here.new.items }) }
 {
     let mut place = 0;
     'clients: while place < here.len() {
@@ -236,8 +236,9 @@ fn part<D: Clients>(door: &mut D, here: &mut Vec<Client<D::Reader, D::Writer>>)
 
 // Closes the connections of all.
 fn part_from_all<D: Clients>(door: &mut D, here: &mut Vec<Client<D::Reader, D::Writer>>)
-    ensures leave { (came : ℕ) → HaveMoved (here.old.items ≢ []) [] (record { told = D.calls door.old; came = came; here = here.old.items })
-        (record { told = D.calls door.new; came = came; here = here.new.items }) }
+    ensures leave { (came : ℕ) → HaveMoved (here.old.items ≢ []) []
+        (record { calls = D.calls door.old; came = came; here = here.old.items })
+        (record { calls = D.calls door.new; came = came; here = here.new.items }) }
     ensures none { here.new.items ≡ [] }
 {
     'clients: while let Some(client) = here.pop() {

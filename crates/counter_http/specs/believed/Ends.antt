@@ -7,4 +7,4 @@ use Rattle.posting_core.specs.believed.EndCalls.{IsEndOfInput}
 -- the input ended: no known byte remains, and the last read returned its end
 pub record HasEnded (remaining : Option (List ℕ)) (r r' : Option (List ReadCall)) : Type 0 where
   pub none : IsAtEnd remaining
-  pub told : EndsWith IsEndOfInput r r'
+  pub read : EndsWith IsEndOfInput r r'

@@ -51,13 +51,13 @@ pub record Closes {R W : Type 0} (g g' : Option (List (ClientsCall (R × W)))) (
   pub left : R × W
   pub parting : Parting
   pub is : IsParting client cause (left.0, left.1, parting)
-  pub told : GrowsBy g g' (Closed client.number left ∷ [])
+  pub made : GrowsBy g g' (Closed client.number left ∷ [])
 
 -- ---- clients come and leave
 
 -- what the calls of what gives clients returned so far, how many clients came, and who is here
 pub record Scene (R W : Type 0) : Type 0 where
-  pub told : Option (List (ClientsCall (R × W)))
+  pub calls : Option (List (ClientsCall (R × W)))
   pub came : ℕ
   pub here : List (Client R W)
 
@@ -66,7 +66,7 @@ pub record Comes {R W : Type 0} (a b : Scene R W) : Type 0 where
   pub client : Client R W
   pub is : IsNew a.came given.0 given.1 client
   pub here : b.here ≡ a.here ++ client ∷ []
-  pub told : GrowsBy a.told b.told (Gave a.came given ∷ [])
+  pub made : GrowsBy a.calls b.calls (Gave a.came given ∷ [])
   pub came : b.came ≡ a.came + 1
 
 pub record Leaves {R W : Type 0} (stops : Type 0) (given : List ℕ) (a b : Scene R W) : Type 0 where
@@ -77,13 +77,13 @@ pub record Leaves {R W : Type 0} (stops : Type 0) (given : List ℕ) (a b : Scen
   pub here : b.here ≡ before ++ after
   pub cause : Parting
   pub why : (IsOver client → ⊥) → MayPart stops given client.number cause
-  pub closes : Closes a.told b.told client cause
+  pub closes : Closes a.calls b.calls client cause
   pub came : b.came ≡ a.came
 
 -- a call gave no client and closed no connection
 pub record Stays {R W : Type 0} (a b : Scene R W) : Type 0 where
   pub calls : List (ClientsCall (R × W))
-  pub told : GrowsBy a.told b.told calls
+  pub made : GrowsBy a.calls b.calls calls
   pub none_came : openings calls ≡ []
   pub none_left : closings calls ≡ []
   pub here : b.here ≡ a.here
@@ -107,7 +107,7 @@ pub record IsHere {R W : Type 0} (known : R × W → Known) (c c' : Seen) (steps
   pub given : R × W
   pub came : Contains calls (Gave client.number given)
   pub stands : StandsHere known (known given) c c' steps client
-  pub told : AreRefused known (known given) c c' steps fault refused client
+  pub are_refused : AreRefused known (known given) c c' steps fault refused client
 
 -- and so was one that left
 abbrev pub WereRefused : {E : Type 0} → (E → Known) → (c c' : Seen) → List Step → Option Fault → List Step → Visit E
@@ -140,7 +140,7 @@ Differ (n ∷ ns) = AllByRecursion (λ m. n ≢ m) ns × Differ ns
 pub record IsCrowd {R W : Type 0} (stops : Type 0) (given : List ℕ) (known : R × W → Known) (g : Option (List (ClientsCall (R × W)))) (c c' : Seen)
     (steps : List Step) (fault : Option Fault) (refused : List Step) (a : Scene R W) : Type 0 where
   pub calls : List (ClientsCall (R × W))
-  pub told : GrowsBy g a.told calls
+  pub made : GrowsBy g a.calls calls
   pub visits : List (Visit (R × W))
   pub closed : map closed_of visits ≡ closings calls
   pub visited : AllByRecursion (HasLeft stops known c c' steps fault refused calls) visits
@@ -183,10 +183,10 @@ pub record ServesRounds {C R W : Type 0} (seen : C → Seen) (reason : Fault →
   pub few : came ≤ n
   pub done : OnOk result ((came ≡ n) × (here ≡ []))
   pub crowd : IsCrowd ⊥ [] known g (seen old) (seen new) (steps_of rounds) (fault_of_bank result) refused
-      (record { told = g'; came = came; here = here })
+      (record { calls = g'; came = came; here = here })
 
 -- so many clients were given by openings
 pub record HaveCome {E : Type 0} (g g' : Option (List (ClientsCall E))) (n : ℕ) : Type 0 where
   pub calls : List (ClientsCall E)
-  pub told : GrowsBy g g' calls
+  pub made : GrowsBy g g' calls
   pub many : length (openings calls) ≡ n

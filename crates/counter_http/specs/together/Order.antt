@@ -20,7 +20,7 @@ use Rattle.counter_http.specs.believed.Turns.{Turn, commands_in, commands_of}
 pub record Step : Type 0 where
   pub client : ℕ
   pub turn : Turn
-  pub told : Option Figures
+  pub figures : Option Figures
 
 abbrev pub turn_in : Step → Turn
 turn_in s = s.turn
@@ -44,7 +44,7 @@ of_client i (s ∷ ss) = if_own (s.client == i) s.turn (of_client i ss)
 abbrev pub answers_at : ℕ → List Command → List Step → List (List ℕ)
 answers_at i log [] = []
 answers_at i log (s ∷ ss) =
-    if_own (s.client == i) (answer_told s.told log (asked_by s.turn.message))
+    if_own (s.client == i) (answer_told s.figures log (asked_by s.turn.message))
     (answers_at i (followed_by log (commands_in s.turn)) ss)
 
 -- ---- rounds
@@ -60,11 +60,11 @@ pub record Round : Type 0 where
 
 abbrev pub is_read_under : Figures → Step → Type 0
 is_read_under figures s =
-    (is_posting (asked_by s.turn.message) ≡ false) × (s.told ≡ told_to figures (asked_by s.turn.message))
+    (is_posting (asked_by s.turn.message) ≡ false) × (s.figures ≡ told_to figures (asked_by s.turn.message))
 
 abbrev pub is_posted_under : List ℕ → Step → Type 0
 is_posted_under readings s =
-    (is_posting (asked_by s.turn.message) ≡ true) × (readings ≡ s.turn.moment ∷ []) × (s.told ≡ None)
+    (is_posting (asked_by s.turn.message) ≡ true) × (readings ≡ s.turn.moment ∷ []) × (s.figures ≡ None)
 
 -- each commit took some of the records, and each record was taken by one
 pub record AreCommits (commits posts : ℕ) : Type 0 where

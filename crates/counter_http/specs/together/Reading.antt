@@ -13,7 +13,7 @@ use Rattle.counter_http.specs.declared.client.Client.{Client}
 use Rattle.counter_http.specs.declared.parting.Parting.TheVariants as parting
 
 -- one read was made, where no whole message was left and all answers were written, and it gave these bytes
-pub record MakesRead {R W : Type 0} (known : R × W → Known) (old new : Client R W) (told : Result ℕ Error)
+pub record MakesRead {R W : Type 0} (known : R × W → Known) (old new : Client R W) (answer : Result ℕ Error)
     (bytes : List ℕ) : Type 0 where
   pub going : old.parting ≡ None
   pub waited : old.has_more ≡ false
@@ -25,16 +25,19 @@ pub record MakesRead {R W : Type 0} (known : R × W → Known) (old new : Client
   pub ends : known (new.reader, new.writer)
       ≡ record (known (old.reader, old.writer)) { reader = reader; reads = reads; beside = beside }
   pub got : Consumes (known (old.reader, old.writer)).reader reader bytes
-  pub tells : GrowsBy (known (old.reader, old.writer)).reads reads (read_call told ∷ [])
+  pub tells : GrowsBy (known (old.reader, old.writer)).reads reads (read_call answer ∷ [])
   pub sink : GrowsBy (known (old.reader, old.writer)).beside beside
-      (record { contents = (known (old.reader, old.writer)).writer; told = (known (old.reader, old.writer)).writes } ∷ [])
-  pub long : given (read_call told ∷ []) ≡ length bytes
+      (record {
+        contents = (known (old.reader, old.writer)).writer;
+        calls = (known (old.reader, old.writer)).writes;
+      } ∷ [])
+  pub long : given (read_call answer ∷ []) ≡ length bytes
 
 -- bytes came, or none for now
 pub record ReadsSome {R W : Type 0} (known : R × W → Known) (old new : Client R W) : Type 0 where
-  pub told : Result ℕ Error
+  pub answer : Result ℕ Error
   pub bytes : List ℕ
-  pub made : MakesRead known old new told bytes
+  pub made : MakesRead known old new answer bytes
   pub goes_on : new.parting ≡ None
   pub more : new.has_more ≡ false → bytes ≡ []
   pub shows : new.shows_body ≡ old.shows_body
@@ -50,17 +53,17 @@ pub data SaysAtEnd {R W : Type 0} (old new : Client R W) : Type 0 where
 
 -- the input ended
 pub record ReadsEnd {R W : Type 0} (known : R × W → Known) (old new : Client R W) : Type 0 where
-  pub told : Result ℕ Error
-  pub made : MakesRead known old new told []
-  pub end : IsEndOfInput (read_call told)
+  pub answer : Result ℕ Error
+  pub made : MakesRead known old new answer []
+  pub end : IsEndOfInput (read_call answer)
   pub none : IsAtEnd made.reader
   pub says : SaysAtEnd old new
 
 -- the reader failed
 pub record ReadsLast {R W : Type 0} (known : R × W → Known) (old new : Client R W) : Type 0 where
-  pub told : Result ℕ Error
-  pub made : MakesRead known old new told []
-  pub failed : IsReadFailure (read_call told)
+  pub answer : Result ℕ Error
+  pub made : MakesRead known old new answer []
+  pub failed : IsReadFailure (read_call answer)
   pub none : pending new ≡ []
   pub parting : new.parting ≡ Some parting.Read
 

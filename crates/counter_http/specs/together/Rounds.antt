@@ -123,4 +123,4 @@ pub record AnswersRound {C R W X : Type 0} (seen : C â†’ Seen) (reason : Fault â
   -- where no fault came, what could be done was done
   pub moves : OnOk result (AllMoveOn here here' round.posts)
   -- each client whose record was refused was told so
-  pub told : AreToldAt seen known old new here here' (steps_in round) (fault_in result) refused
+  pub are_told : AreToldAt seen known old new here here' (steps_in round) (fault_in result) refused

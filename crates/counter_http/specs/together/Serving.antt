@@ -83,7 +83,7 @@ pub record HoldsOwnAnswers (i : ℕ) (w : Option (List ℕ)) (t : Option (List W
   pub no_more : BeginsWithNoMessage rest
   pub wrote : c'.honest → (log : List Command) → ShowsLog c log
       → Appends w sink.contents (joined (answers_at i log before))
-  pub through : IsThrough t sink.told
+  pub through : IsThrough t sink.calls
 
 -- so it was at each of a client's reads
 pub record AnswersBeforeItsReads (i : ℕ) (q q' : Option (List ReadCall)) (b b' : Option (List Beside))
@@ -131,7 +131,7 @@ pub record ClientIsRefused (i : ℕ) (k l : Known) (c c' : Seen) (steps : List S
     (p : Parting) : Type 0 where
   pub served : ClientIsServed i k l c c' steps p
   pub lost : served.lost ≡ turn ∷ []
-  pub told : IsBrokenOff (of_client i steps) served.lost served.last
+  pub broken_off : IsBrokenOff (of_client i steps) served.lost served.last
   pub why : IsOfRefusal fault p
 
 -- ---- clients one after another, as their connections were closed
@@ -216,7 +216,7 @@ IsWhyRefused seen reason old new fault = IsOfCall seen reason old new fault ⊎ 
 -- an opening was refused, among the calls that were made since
 pub record HasRefused {E : Type 0} (g g' : Option (List (ClientsCall E))) : Type 0 where
   pub calls : List (ClientsCall E)
-  pub told : GrowsBy g g' calls
+  pub made : GrowsBy g g' calls
   pub kind : ErrorKind
   pub one : Contains calls (Refused kind)
 
@@ -252,7 +252,7 @@ pub record ServesTogether {C E : Type 0} (seen : C → Seen) (reason : Fault →
   pub network : IsCutOff g g' result rounds
   -- the clients, as their connections were closed: each one that was taken in, once
   pub calls : List (ClientsCall E)
-  pub told : GrowsBy g g' calls
+  pub made : GrowsBy g g' calls
   pub visits : List (Visit E)
   pub closed : map closed_of visits ≡ closings calls
   pub once : AllPairs OfOthers visits

@@ -126,7 +126,7 @@ pub record IsRefused (i : ℕ) (k l : Known) (c c' : Seen) (steps : List Step) (
     (p : Parting) : Type 0 where
   pub parted : IsParted i k l c c' steps pending p
   pub lost : parted.lost ≡ turn ∷ []
-  pub told : IsBrokenOff (of_client i steps) parted.lost parted.last
+  pub broken_off : IsBrokenOff (of_client i steps) parted.lost parted.last
 
 pub record StandsRefused {R W : Type 0} (known : R × W → Known) (k : Known) (c c' : Seen) (steps : List Step)
     (fault : Fault) (turn : Turn) (client : Client R W) : Type 0 where
@@ -213,7 +213,7 @@ pub record IsSame {R W : Type 0} (old new : Client R W) : Type 0 where
 -- it was answered so, and no more of its messages are answered; or memory was refused for that
 pub record EndsSo {R W : Type 0} (old new : Client R W) (text : List ℕ) (p : Parting) : Type 0 where
   pub same : IsSame old new
-  pub told : pending new ≡ pending old ++ text
+  pub added : pending new ≡ pending old ++ text
   pub parting : new.parting ≡ Some p
 
 abbrev pub HasEndedWith : {R W : Type 0} → Client R W → Client R W → List ℕ → Parting → Type 0
@@ -226,7 +226,7 @@ parting_after false p = p
 -- the message at the front was answered so
 pub record HasAnswered {R W : Type 0} (old new : Client R W) (text : List ℕ) (head : Head) : Type 0 where
   pub same : IsSame old new
-  pub told : pending new ≡ pending old ++ text
+  pub added : pending new ≡ pending old ++ text
   pub rest : unread new ≡ drop head.length (unread old)
   pub parting : new.parting ≡ parting_after head.closes old.parting
   -- it has more, unless nothing is left
@@ -275,14 +275,14 @@ AnswersRecord old new head text =
 pub record WritesSome {R W : Type 0} (known : R × W → Known) (old new : Client R W) : Type 0 where
   pub count : ℕ
   pub contents : Option (List ℕ)
-  pub told : Option (List WriteCall)
+  pub writes : Option (List WriteCall)
   pub ends : known (new.reader, new.writer)
-      ≡ record (known (old.reader, old.writer)) { writer = contents; writes = told }
+      ≡ record (known (old.reader, old.writer)) { writer = contents; writes = writes }
   pub wrote : Appends (known (old.reader, old.writer)).writer contents (take count (pending old))
-  pub more : HasMore (known (old.reader, old.writer)).writes told
+  pub more : HasMore (known (old.reader, old.writer)).writes writes
   pub some : pending old ≢ []
   pub left : pending new ≡ drop count (pending old)
-  pub flushed : pending new ≡ [] → EndsWith IsFlush (known (old.reader, old.writer)).writes told
+  pub flushed : pending new ≡ [] → EndsWith IsFlush (known (old.reader, old.writer)).writes writes
   pub number : new.number ≡ old.number
   pub unread_same : unread new ≡ unread old
   pub parting : new.parting ≡ old.parting
@@ -293,11 +293,11 @@ pub record WritesSome {R W : Type 0} (known : R × W → Known) (old new : Clien
 pub record WritesLast {R W : Type 0} (known : R × W → Known) (old new : Client R W) : Type 0 where
   pub count : ℕ
   pub contents : Option (List ℕ)
-  pub told : Option (List WriteCall)
+  pub writes : Option (List WriteCall)
   pub ends : known (new.reader, new.writer)
-      ≡ record (known (old.reader, old.writer)) { writer = contents; writes = told }
+      ≡ record (known (old.reader, old.writer)) { writer = contents; writes = writes }
   pub wrote : Appends (known (old.reader, old.writer)).writer contents (take count (pending old))
-  pub failed : HasWriteFailed (known (old.reader, old.writer)).writes told
+  pub failed : HasWriteFailed (known (old.reader, old.writer)).writes writes
   pub number : new.number ≡ old.number
   pub parting : new.parting ≡ Some parting.Write
   pub none : pending new ≡ []

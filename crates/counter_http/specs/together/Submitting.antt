@@ -157,7 +157,7 @@ pub record AreSubmitted {C R W X : Type 0} (seen : C → Seen) (reason : Fault �
   pub moves : PostsSome n posts here' result
   pub beside : AreBeside seen known old new here here' posts
   pub whose_refused : AllByRecursion (IsOfOneOf (numbers here)) refused
-  pub told : AreToldAt seen known old new here here' posts (fault_in result) refused
+  pub are_told : AreToldAt seen known old new here here' posts (fault_in result) refused
   pub stood : C
   pub honest_first : (seen stood).honest → (seen old).honest
   pub honest : (seen new).honest → (seen stood).honest

@@ -74,7 +74,7 @@ reads-init g c = record {
   few = omega arith;
   room = c.requires;
   bound = omega arith;
-  waits = record { ending = No_head; ends = λ some. absurd (some refl); told = refl; room = omega arith };
+  waits = record { ending = No_head; ends = λ some. absurd (some refl); answer = refl; room = omega arith };
   prompted = prompted_first [] refl;
   idle = λ down. refl;
   spares = g.met.C.Counter.spares_itself c.args.bank.now;
@@ -137,11 +137,11 @@ returns-in_err-refuse-in-Ok-eq0-2-clause-served g c =
     (held_within c.reads.filled (length c.reads.buffer) c.reads.invariant.few c.reads.invariant.room)
     (sym c.fill_buffer_beside.auto.buffer)
     c.reads.invariant.waits in
-    let told = err_from_is_err_and c.from_residual.result c.from_residual.ensures.1 in
+    let failed = err_from_is_err_and c.from_residual.result c.from_residual.ensures.1 in
     let w = c.in_err-refuse-in-Ok-eq0-2.ensures.written in
     let write : c.in_err-refuse-in-Ok-eq0-2.field-0.0 ≡ Write =
     cc (c.in_err-refuse-in-Ok-eq0-2.ensures.fault) in
-    rw (told.1, told.2, write) (end_untold g.C.Counter.seen c.args.bank.now c.reads.bank c.reads.shows_body
+    rw (failed.1, failed.2, write) (end_untold g.C.Counter.seen c.args.bank.now c.reads.bank c.reads.shows_body
     w.0
     (take c.reads.filled c.fill_buffer_beside.new.buffer) short.0 short.1 w.1 c.reads.invariant.idle)
 
@@ -219,9 +219,9 @@ pub returns-in_err-answer_message-in-Message-clause-served :
     goal.returns-in_err-answer_message-in-Message-clause-served
 returns-in_err-answer_message-in-Message-clause-served g c =
     let fault = c.in_err-answer_message-in-Message.field-0.0 in
-    let told = err_from_is_err_and c.from_residual-in_err-answer_message-in-Message.result
+    let failed = err_from_is_err_and c.from_residual-in_err-answer_message-in-Message.result
     c.from_residual-in_err-answer_message-in-Message.ensures.1 in
-    rw (told.1, told.2) (end_broken g.C.Counter.seen fault c.args.bank.now c.messages.bank
+    rw (failed.1, failed.2) (end_broken g.C.Counter.seen fault c.args.bank.now c.messages.bank
     c.answer_message.new.bank _ c.in-Message.message c.messages.invariant.prompted.going c.messages.invariant.idle
     c.in-Message.ensures c.in_err-answer_message-in-Message.ensures.answers)
 
@@ -233,13 +233,13 @@ returns-then-message-clause-served g c =
 
 pub returns-in_err-refuse-in-Refused-clause-served : goal.returns-in_err-refuse-in-Refused-clause-served
 returns-in_err-refuse-in-Refused-clause-served g c =
-    let told = err_from_is_err_and c.from_residual-in_err-refuse-in-Refused.result
+    let failed = err_from_is_err_and c.from_residual-in_err-refuse-in-Refused.result
     c.from_residual-in_err-refuse-in-Refused.ensures.1 in
     let w = c.in_err-refuse-in-Refused.ensures.written in
     let write : c.in_err-refuse-in-Refused.field-0.0 ≡ Write =
     cc (c.in_err-refuse-in-Refused.ensures.fault) in
     let going = c.messages.invariant.prompted.going in
-    rw (told.1, told.2, write) (end_untold g.C.Counter.seen c.args.bank.now c.messages.bank c.in-Refused.shows
+    rw (failed.1, failed.2, write) (end_untold g.C.Counter.seen c.args.bank.now c.messages.bank c.in-Refused.shows
     w.0 _ going (hopeless_walk _ going c.in-Refused.ensures) w.1 c.messages.invariant.idle)
 
 pub returns-in-Refused-clause-served : goal.returns-in-Refused-clause-served
@@ -290,17 +290,17 @@ returns-in-Ok-eq0-2-clause-ends g c =
 
 pub returns-in_err-refuse-in-Ok-eq0-2-clause-ends : goal.returns-in_err-refuse-in-Ok-eq0-2-clause-ends
 returns-in_err-refuse-in-Ok-eq0-2-clause-ends g c =
-    let told = err_from_is_err_and c.from_residual.result c.from_residual.ensures.1 in
-    rw (told.1, told.2) (sent_broken c.in_err-refuse-in-Ok-eq0-2.field-0.0 _ _ _ _ _ c.reads.invariant.through
+    let failed = err_from_is_err_and c.from_residual.result c.from_residual.ensures.1 in
+    rw (failed.1, failed.2) (sent_broken c.in_err-refuse-in-Ok-eq0-2.field-0.0 _ _ _ _ _ c.reads.invariant.through
     c.in_err-refuse-in-Ok-eq0-2.ensures.ends)
 
 pub returns-in_err-answer_message-in-Message-clause-ends :
     goal.returns-in_err-answer_message-in-Message-clause-ends
 returns-in_err-answer_message-in-Message-clause-ends g c =
     let fault = c.in_err-answer_message-in-Message.field-0.0 in
-    let told = err_from_is_err_and c.from_residual-in_err-answer_message-in-Message.result
+    let failed = err_from_is_err_and c.from_residual-in_err-answer_message-in-Message.result
     c.from_residual-in_err-answer_message-in-Message.ensures.1 in
-    rw (told.1, told.2) (sent_broken fault _ _ _ _ _ c.messages.invariant.through
+    rw (failed.1, failed.2) (sent_broken fault _ _ _ _ _ c.messages.invariant.through
     c.in_err-answer_message-in-Message.ensures.answers.dealt.ends)
 
 pub returns-then-message-clause-ends : goal.returns-then-message-clause-ends
@@ -309,9 +309,9 @@ returns-then-message-clause-ends g c =
 
 pub returns-in_err-refuse-in-Refused-clause-ends : goal.returns-in_err-refuse-in-Refused-clause-ends
 returns-in_err-refuse-in-Refused-clause-ends g c =
-    let told = err_from_is_err_and c.from_residual-in_err-refuse-in-Refused.result
+    let failed = err_from_is_err_and c.from_residual-in_err-refuse-in-Refused.result
     c.from_residual-in_err-refuse-in-Refused.ensures.1 in
-    rw (told.1, told.2) (sent_broken c.in_err-refuse-in-Refused.field-0.0 _ _ _ _ _
+    rw (failed.1, failed.2) (sent_broken c.in_err-refuse-in-Refused.field-0.0 _ _ _ _ _
     c.messages.invariant.through c.in_err-refuse-in-Refused.ensures.ends)
 
 pub returns-in-Refused-clause-ends : goal.returns-in-Refused-clause-ends
@@ -440,28 +440,28 @@ overflow_add-used g c =
 pub returns-in_err-answer_message-in-Message-clause-why :
     goal.returns-in_err-answer_message-in-Message-clause-why
 returns-in_err-answer_message-in-Message-clause-why g c =
-    let told = err_from_is_err_and c.from_residual-in_err-answer_message-in-Message.result
+    let failed = err_from_is_err_and c.from_residual-in_err-answer_message-in-Message.result
     c.from_residual-in_err-answer_message-in-Message.ensures.1 in
     let before = c.messages.invariant.prompted.going.answered in
-    rw (told.1, told.2)
+    rw (failed.1, failed.2)
     (why_after g.C.Counter.seen g.C.Counter.reason c.args.bank.now c.messages.bank c.answer_message.new.bank
     _ before.takes before.honest c.messages.invariant.idle c.in_err-answer_message-in-Message.field-0.0
     c.in_err-answer_message-in-Message.ensures.answers.dealt.why)
 
 pub returns-in_err-refuse-in-Ok-eq0-2-clause-why : goal.returns-in_err-refuse-in-Ok-eq0-2-clause-why
 returns-in_err-refuse-in-Ok-eq0-2-clause-why g c =
-    let told = err_from_is_err_and c.from_residual.result c.from_residual.ensures.1 in
+    let failed = err_from_is_err_and c.from_residual.result c.from_residual.ensures.1 in
     let write : c.in_err-refuse-in-Ok-eq0-2.field-0.0 ≡ Write =
     cc (c.in_err-refuse-in-Ok-eq0-2.ensures.fault) in
-    rw (told.1, told.2, write) tt
+    rw (failed.1, failed.2, write) tt
 
 pub returns-in_err-refuse-in-Refused-clause-why : goal.returns-in_err-refuse-in-Refused-clause-why
 returns-in_err-refuse-in-Refused-clause-why g c =
-    let told = err_from_is_err_and c.from_residual-in_err-refuse-in-Refused.result
+    let failed = err_from_is_err_and c.from_residual-in_err-refuse-in-Refused.result
     c.from_residual-in_err-refuse-in-Refused.ensures.1 in
     let write : c.in_err-refuse-in-Refused.field-0.0 ≡ Write =
     cc (c.in_err-refuse-in-Refused.ensures.fault) in
-    rw (told.1, told.2, write) tt
+    rw (failed.1, failed.2, write) tt
 
 -- ---- what no call of the bank touches
 

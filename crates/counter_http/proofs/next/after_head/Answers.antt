@@ -21,7 +21,7 @@ returns-in_default c =
       ending = No_body h;
       ends = no_length buf r h is at.reads
           (sym (fields_say body_length buf headers r h at) ∙ sym c.in_default.ensures.length);
-      told = ap (λ (b : Bool). refusal (not b) ∷ [])
+      answer = ap (λ (b : Bool). refusal (not b) ∷ [])
           (sym (c.is_head-shows_body.ensures
           ∙ ap (λ (m : List ℕ). bytes_eq m (codes "HEAD")) (c.of-method.ensures ∙ at.method)));
     }
@@ -44,7 +44,7 @@ returns-then-after-length c =
       ending = No_body h;
       ends = λ some. short_body buf r h n is at.reads
           (sym (fields_say body_length buf headers r h at) ∙ sym c.in-Some.ensures.length) short;
-      told = ap (λ (b : Bool). refusal (not b) ∷ [])
+      answer = ap (λ (b : Bool). refusal (not b) ∷ [])
           (sym (c.is_head-shows_body.ensures
           ∙ ap (λ (m : List ℕ). bytes_eq m (codes "HEAD")) (c.of-method.ensures ∙ at.method)));
       room = omega (arith, c.requires.bytes, length-drop r.len buf);

@@ -14,7 +14,7 @@ returns-clause-written g c =
     (c.put-going.ensures.text w _ c.put_first-going.ensures.text) in
     let num : c.as_bytes.result.now ≡ decimal (length a.body) = c.as_bytes.ensures.value
     ∙ c.format-length.ensures.text in
-    let told : IsWrittenOrHeld w (g.W.Sink.contents c.if-shows_body.writer) c.if-shows_body.going
+    let wrote : IsWrittenOrHeld w (g.W.Sink.contents c.if-shows_body.writer) c.if-shows_body.going
     c.if-shows_body.held.items
     (answer_text a c.args.shows_body c.args.closes) =
     elim c.if-shows_body.branch [
@@ -26,15 +26,15 @@ returns-clause-written g c =
           (told_as _ _ (ap (λ (d : List ℕ). (first_lines a ++ d) ++ last_lines a c.args.closes) num
           ∙ text_hidden a c.args.closes) front)
     ] in
-    c.send.ensures.text w (answer_text a c.args.shows_body c.args.closes) told
+    c.send.ensures.text w (answer_text a c.args.shows_body c.args.closes) wrote
 
 pub returns-clause-ends : goal.returns-clause-ends
 returns-clause-ends g c =
     let w = g.W.Sink.calls c.args.writer.now in
     let front = c.put_last-going.ensures.ends w (c.put-going.ensures.ends w c.put_first-going.ensures.ends) in
-    let told : HasTaken c.if-shows_body.going w (g.W.Sink.calls c.if-shows_body.writer) =
+    let taken : HasTaken c.if-shows_body.going w (g.W.Sink.calls c.if-shows_body.writer) =
     elim c.if-shows_body.branch [
       | then-shows_body v ↦ rw (v.writer-is, v.going-is) (v.put-going-then-shows_body.ensures.ends w front)
       | else-shows_body v ↦ rw (v.writer-is, v.going-is) front
     ] in
-    c.send.ensures.ends w told
+    c.send.ensures.ends w taken

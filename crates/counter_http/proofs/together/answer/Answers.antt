@@ -42,16 +42,16 @@ submit-requires g c = record {
 -- the bank refused a call while the first half was gathered
 pub returns-in_err-gather-clause-answers : goal.returns-in_err-gather-clause-answers
 returns-in_err-gather-clause-answers g c =
-    let told = err_from_is_err_and c.from_residual.result c.from_residual.ensures.1 in
-    rw (told.1, told.2) (round_refused g.C.Counter.seen c.args.bank.now c.gather.new.bank c.args.here.now.items
+    let failed = err_from_is_err_and c.from_residual.result c.from_residual.ensures.1 in
+    rw (failed.1, failed.2) (round_refused g.C.Counter.seen c.args.bank.now c.gather.new.bank c.args.here.now.items
     c.gather.new.here.items c.args.tally.now c.args.seconds c.gather.new.batch _
     (figured_by c.len-count.result (omega (arith, c.len-count.ensures)) c.in_err-gather.ensures.gathers))
 
 -- and the second
 pub returns-in_err-gather-2-clause-answers : goal.returns-in_err-gather-2-clause-answers
 returns-in_err-gather-2-clause-answers g c =
-    let told = err_from_is_err_and c.from_residual-in_err-gather-2.result c.from_residual-in_err-gather-2.ensures.1 in
-    rw (told.1, told.2) (round_refused g.C.Counter.seen c.args.bank.now c.gather-2.new.bank c.args.here.now.items
+    let failed = err_from_is_err_and c.from_residual-in_err-gather-2.result c.from_residual-in_err-gather-2.ensures.1 in
+    rw (failed.1, failed.2) (round_refused g.C.Counter.seen c.args.bank.now c.gather-2.new.bank c.args.here.now.items
     c.gather-2.new.here.items c.args.tally.now c.args.seconds c.gather-2.new.batch _
     (figured_by c.len-count.result (omega (arith, c.len-count.ensures)) (gathers_then g.C.Counter.seen c.args.bank.now c.gather.new.bank c.gather-2.new.bank c.args.here.now.items
     c.gather.new.here.items c.gather-2.new.here.items c.gather.new.batch c.gather-2.new.batch _
@@ -60,8 +60,8 @@ returns-in_err-gather-2-clause-answers g c =
 -- it refused the records
 pub returns-in_err-submit-clause-answers : goal.returns-in_err-submit-clause-answers
 returns-in_err-submit-clause-answers g c =
-    let told = err_from_is_err_and c.from_residual-in_err-submit.result c.from_residual-in_err-submit.ensures.1 in
-    rw (told.1, told.2) (round_err (round_submitted g.C.Counter.seen c.args.bank.now c.gather-2.new.bank
+    let failed = err_from_is_err_and c.from_residual-in_err-submit.result c.from_residual-in_err-submit.ensures.1 in
+    rw (failed.1, failed.2) (round_err (round_submitted g.C.Counter.seen c.args.bank.now c.gather-2.new.bank
     c.submit.new.bank c.args.here.now.items c.gather-2.new.here.items c.submit.new.here.items c.args.seconds c.gather-2.new.batch _
     (figured_by c.len-count.result (omega (arith, c.len-count.ensures)) (gathers_then g.C.Counter.seen c.args.bank.now c.gather.new.bank c.gather-2.new.bank c.args.here.now.items
     c.gather.new.here.items c.gather-2.new.here.items c.gather.new.batch c.gather-2.new.batch _

@@ -7,5 +7,5 @@ returns g c =
       left = (parts.0, parts.1);
       parting = parts.2;
       is = record { reader = c.part-reader.ensures.reader; writer = c.part-reader.ensures.writer; why = c.part-reader.ensures.why };
-      told = rw (c.number-number.ensures) at c.close.ensures;
+      made = rw (c.number-number.ensures) at c.close.ensures;
     }

@@ -32,12 +32,12 @@ gather_at-requires g c =
 -- the bank refused a call
 pub returns-in_err-gather_at : goal.returns-in_err-gather_at
 returns-in_err-gather_at g c =
-    let told = err_from_is_err_and c.from_residual.result c.from_residual.ensures.1 in record {
-      gathers = rw (told.1, told.2) (gathers_err (gathers_then g.C.Counter.seen c.args.bank.now c.loop-place.bank
+    let failed = err_from_is_err_and c.from_residual.result c.from_residual.ensures.1 in record {
+      gathers = rw (failed.1, failed.2) (gathers_err (gathers_then g.C.Counter.seen c.args.bank.now c.loop-place.bank
           c.gather_at.new.bank c.args.here.now.items c.loop-place.here.items c.gather_at.new.here.items c.loop-place.batch
           c.gather_at.new.batch _ c.loop-place.invariant.gathers c.in_err-gather_at.ensures.gathers));
-      places = rw told.1 tt;
-      looks = rw told.1 tt;
+      places = rw failed.1 tt;
+      looks = rw failed.1 tt;
       spares = g.met.C.Counter.spares_then c.args.bank.now c.loop-place.bank c.gather_at.new.bank
           c.loop-place.invariant.spares c.in_err-gather_at.ensures.spares;
     }

@@ -17,8 +17,9 @@ returns-in_err-found-clause-gathers g c =
     let here = c.args.here.now.items in
     let at = slice_get_read here (length here) c.args.place c.index_mut.result.now refl c.requires.within
     c.index_mut.ensures.value in
-    let told = err_from_is_err_and c.from_residual.result c.from_residual.ensures.1 in
-    rw (told.1, told.2) (gathers_err (gathers_at g.C.Counter.seen c.args.bank.now c.next_record.new.bank here c.args.place
+    let failed = err_from_is_err_and c.from_residual.result c.from_residual.ensures.1 in
+    rw (failed.1, failed.2)
+    (gathers_err (gathers_at g.C.Counter.seen c.args.bank.now c.next_record.new.bank here c.args.place
     c.index_mut.result.now c.next_record.new.self c.args.batch.now _ c.requires.others at
     c.in_err-found.ensures.answers
     (batch_still here (slice_set here c.args.place c.next_record.new.self) c.args.place c.next_record.new.self

@@ -9,7 +9,8 @@ decreases-clients g l = vec_len l.here
 abbrev pub invariant-clients : goal.invariant-clients
 invariant-clients g l = record {
   moved : (came : ℕ)
-      → HaveMoved (l.fn.here.items ≢ []) [] (record { told = g.D.Clients.calls l.fn.door; came = came; here = l.fn.here.items })
-      (record { told = g.D.Clients.calls l.door; came = came; here = l.here.items });
+      → HaveMoved (l.fn.here.items ≢ []) []
+      (record { calls = g.D.Clients.calls l.fn.door; came = came; here = l.fn.here.items })
+      (record { calls = g.D.Clients.calls l.door; came = came; here = l.here.items });
   some : l.here.items ≢ [] → l.fn.here.items ≢ [];
 }

@@ -36,9 +36,9 @@ returns-in_err-take_in-clause-serves g c =
     (with_items_is c.rounds.here c.go_on.new.here (c.go_on.auto.here ∙ c.deref_mut.ensures.len)) c.deref-in-rounds-2.ensures.value
     c.rounds.invariant.rounding c.wait.ensures c.go_on.ensures c.give_up.ensures c.take_in.ensures.come
     c.take_in.ensures.few in
-    let told = err_from_is_err_and c.from_residual.result c.from_residual.ensures.1 in
+    let failed = err_from_is_err_and c.from_residual.result c.from_residual.ensures.1 in
     let network : c.in_err-take_in.field-0.0 ≡ Network = cc (c.in_err-take_in.ensures.fault) in
-    rw (told.1, told.2, network)
+    rw (failed.1, failed.2, network)
     (rounds_end g.C.Counter.seen c.args.bank.now c.rounds.bank (Err Network) (refl, refl) tt tt refl s
     (λ same. inl (cut_off_by c.rounds.invariant.rounding (waited_grows (given_up_told (given_up (numbers c.deref.result.now) c.wait.new.readiness.items)) c.wait.ensures
     c.give_up.ensures)

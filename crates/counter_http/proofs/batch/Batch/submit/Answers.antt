@@ -1,4 +1,4 @@
-use Rattle.std.proofs.Common.{◌≡◌, ◌<◌, ◌∙◌, ℕ, List, [], ◌∷◌, ap, arith, eqb, false, length, refl, subst, sym}
+use Rattle.std.proofs.Common.{◌≡◌, ◌<◌, ◌∙◌, ℕ, Bool, List, [], ◌∷◌, ap, arith, eqb, false, length, refl, subst, sym}
 use Rattle.std.proofs.lemmas.{Bool.eqb-true, Bool.true≢false}
 use Rattle.counter_http.specs.together.Submitting.{AreGiven}
 use Rattle.counter_http.proofs.Submitted.{refused_all, spared_all, submitted_after, submitted_nothing}
@@ -9,8 +9,10 @@ some_of : (rs : List (List ℕ)) → eqb (length rs) 0 ≡ false → 0 < length 
 some_of [] e = absurd (true≢false e)
 some_of (r ∷ rs) e = omega arith
 
-not_none : {P : Type 0} (rs all : List (List ℕ)) → rs ≡ all → eqb (length rs) 0 ≡ false → length all ≡ 0 → P
-not_none rs all same e none = absurd (omega (arith, ap length same, some_of rs e, none))
+-- there is one, so that nothing is claimed where there is none
+not_none : {P : Type 0} {rs all : List (List ℕ)} {empty : Bool} → rs ≡ all → empty ≡ eqb (length rs) 0 → empty ≡ false
+    → length all ≡ 0 → P
+not_none {rs = rs} same is some none = absurd (omega (arith, ap length same, some_of rs (sym is ∙ some), none))
 
 -- there is no record
 pub returns-then-is_empty-clause-submits : goal.returns-then-is_empty-clause-submits
@@ -104,16 +106,14 @@ returns-then-is_empty-clause-spares g c = g.met.C.Counter.spares_itself c.args.b
 
 pub returns-in-Ok-clause-none : goal.returns-in-Ok-clause-none
 returns-in-Ok-clause-none g c =
-    not_none c.as_slice-records.result.now c.args.self.now.records.items c.as_slice-records.ensures.value
-    (sym c.is_empty.ensures ∙ c.if-is_empty.false)
+    not_none c.as_slice-records.ensures.value c.is_empty.ensures c.if-is_empty.false
 
 pub returns-in-Ok-clause-spares : goal.returns-in-Ok-clause-spares
 returns-in-Ok-clause-spares g c = c.in-Ok.ensures.spares
 
 pub returns-in-Err-Memory-clause-none : goal.returns-in-Err-Memory-clause-none
 returns-in-Err-Memory-clause-none g c =
-    not_none c.as_slice-records.result.now c.args.self.now.records.items c.as_slice-records.ensures.value
-    (sym c.is_empty.ensures ∙ c.if-is_empty.false)
+    not_none c.as_slice-records.ensures.value c.is_empty.ensures c.if-is_empty.false
 
 pub returns-in-Err-Memory-clause-spares : goal.returns-in-Err-Memory-clause-spares
 returns-in-Err-Memory-clause-spares g c =
@@ -122,8 +122,7 @@ returns-in-Err-Memory-clause-spares g c =
 
 pub returns-in-Err-clause-none : goal.returns-in-Err-clause-none
 returns-in-Err-clause-none g c =
-    not_none c.as_slice-records.result.now c.args.self.now.records.items c.as_slice-records.ensures.value
-    (sym c.is_empty.ensures ∙ c.if-is_empty.false)
+    not_none c.as_slice-records.ensures.value c.is_empty.ensures c.if-is_empty.false
 
 pub returns-in-Err-clause-spares : goal.returns-in-Err-clause-spares
 returns-in-Err-clause-spares g c = c.in-Err.ensures.spares

@@ -46,10 +46,10 @@ submit_one-requires-clause-gives g c =
 -- the bank refused one
 pub returns-in_err-submit_one-clause-submits : goal.returns-in_err-submit_one-clause-submits
 returns-in_err-submit_one-clause-submits g c =
-    let told = err_from_is_err_and c.from_residual.result c.from_residual.ensures.1 in
+    let failed = err_from_is_err_and c.from_residual.result c.from_residual.ensures.1 in
     let few : c.loop-i.i + 1 ≤ length c.args.self.now.records.items =
     omega (arith, ap length c.as_slice-bytes-items.ensures.value, c.loop-i-test.true) in
-    rw (told.1, told.2) (submitted_few (c.loop-i.i + 1) (length c.args.self.now.records.items) few
+    rw (failed.1, failed.2) (submitted_few (c.loop-i.i + 1) (length c.args.self.now.records.items) few
     (submitted_then g.C.Counter.seen (c.args.moment ∷ []) c.args.bank.now c.loop-i.bank c.submit_one.new.bank
     c.args.here.now.items c.loop-i.here.items c.submit_one.new.here.items c.loop-i.i 1 _ c.loop-i.invariant.did
     c.in_err-submit_one.ensures.submits (λ some. omega arith)))

@@ -1,4 +1,4 @@
-use Rattle.std.proofs.Common.{◌≡◌, ◌∙◌, refl, sym, ap, Bool, false, true, Option, Some, None, take, drop, Ok, inl}
+use Rattle.std.proofs.Common.{◌≡◌, ◌∙◌, refl, sym, ap, Bool, false, true, Option, Some, None, take, Ok, inl}
 use Rattle.std.proofs.lemmas.{Bool.true≢false}
 use Rattle.std.specs.Prelude.{is_some, not}
 use Rattle.counter_http.specs.{Next.IsHopeless, Next.IsUnfinished, Next.IsWhole, Next.asked, Tasks.IsTaskOf}
@@ -15,7 +15,6 @@ use Rattle.counter_http.proofs.AnsweredTurns.{answers_as, asks_as, reading_as, s
 use Rattle.counter_http.proofs.Asked.{answered_nothing, asked_none}
 use Rattle.counter_http.proofs.Fronts.{number_ended}
 use Rattle.counter_http.proofs.Looked.{read_gives, says_gives, within_front}
-use Rattle.counter_http.specs.believed.Messages.{message_text}
 use Rattle.counter_http.proofs.Moves.{ended_so, read_so, said_so}
 use Rattle.counter_http.proofs.Replies.{as_told, as_untold, head_of, hopeless_here, read_answered, record_of}
 use Rattle.counter_http.proofs.Replies.{says_answered, unfinished_here}
@@ -203,44 +202,19 @@ returns-in-Refused-clause-rests g c =
 -- ---- the message is within what was read
 
 pub say-requires : goal.say-requires
-say-requires g c =
-    let whole : IsWhole (take c.args.self.now.filled c.args.self.now.input.items) c.in-Message.message =
-    rw c.deref.ensures.value at c.in-Message.ensures in
-    within_front c.args.self.now.input.items c.args.self.now.filled c.in-Message.message.length
-    (message_text whole.message) (drop c.in-Message.message.length (take c.args.self.now.filled c.args.self.now.input.items))
-    whole.front whole.long
+say-requires g c = within_front c.deref.ensures.value c.in-Message.ensures
 
 pub say_figures-requires : goal.say_figures-requires
-say_figures-requires g c =
-    let whole : IsWhole (take c.args.self.now.filled c.args.self.now.input.items) c.in-Message.message =
-    rw c.deref.ensures.value at c.in-Message.ensures in
-    within_front c.args.self.now.input.items c.args.self.now.filled c.in-Message.message.length
-    (message_text whole.message) (drop c.in-Message.message.length (take c.args.self.now.filled c.args.self.now.input.items))
-    whole.front whole.long
+say_figures-requires g c = within_front c.deref.ensures.value c.in-Message.ensures
 
 pub answer_reading-requires : goal.answer_reading-requires
-answer_reading-requires g c =
-    let whole : IsWhole (take c.args.self.now.filled c.args.self.now.input.items) c.in-Message.message =
-    rw c.deref.ensures.value at c.in-Message.ensures in
-    within_front c.args.self.now.input.items c.args.self.now.filled c.in-Message.message.length
-    (message_text whole.message) (drop c.in-Message.message.length (take c.args.self.now.filled c.args.self.now.input.items))
-    whole.front whole.long
+answer_reading-requires g c = within_front c.deref.ensures.value c.in-Message.ensures
 
 pub answer_reading-requires-in-Branches : goal.answer_reading-requires-in-Branches
-answer_reading-requires-in-Branches g c =
-    let whole : IsWhole (take c.args.self.now.filled c.args.self.now.input.items) c.in-Message.message =
-    rw c.deref.ensures.value at c.in-Message.ensures in
-    within_front c.args.self.now.input.items c.args.self.now.filled c.in-Message.message.length
-    (message_text whole.message) (drop c.in-Message.message.length (take c.args.self.now.filled c.args.self.now.input.items))
-    whole.front whole.long
+answer_reading-requires-in-Branches g c = within_front c.deref.ensures.value c.in-Message.ensures
 
 pub answer_reading-requires-in-Entries : goal.answer_reading-requires-in-Entries
-answer_reading-requires-in-Entries g c =
-    let whole : IsWhole (take c.args.self.now.filled c.args.self.now.input.items) c.in-Message.message =
-    rw c.deref.ensures.value at c.in-Message.ensures in
-    within_front c.args.self.now.input.items c.args.self.now.filled c.in-Message.message.length
-    (message_text whole.message) (drop c.in-Message.message.length (take c.args.self.now.filled c.args.self.now.input.items))
-    whole.front whole.long
+answer_reading-requires-in-Entries g c = within_front c.deref.ensures.value c.in-Message.ensures
 
 -- ---- no record is given
 

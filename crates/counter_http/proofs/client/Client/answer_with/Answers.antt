@@ -14,7 +14,7 @@ returns-then-head g c =
     let old = c.args.self.now in
     record {
       same = record { number = refl; reader = refl; writer = refl };
-      told = told_onto c.tell.result old.output.items c.tell.new.writer.items _ old.written old.written_within
+      added = told_onto c.tell.result old.output.items c.tell.new.writer.items _ old.written old.written_within
           c.if-is_err.ensures.value c.tell.ensures.written;
       rest = ap (take (old.filled - c.args.head.length)) (with_items_is old.input c.move_to_front.new.buffer
           (c.move_to_front.auto.buffer ∙ c.deref_mut.ensures.len))
@@ -31,7 +31,7 @@ returns-else-head g c =
     let old = c.args.self.now in
     record {
       same = record { number = refl; reader = refl; writer = refl };
-      told = told_onto c.tell.result old.output.items c.tell.new.writer.items _ old.written old.written_within
+      added = told_onto c.tell.result old.output.items c.tell.new.writer.items _ old.written old.written_within
           c.if-is_err.ensures.value c.tell.ensures.written;
       rest = ap (take (old.filled - c.args.head.length)) (with_items_is old.input c.move_to_front.new.buffer
           (c.move_to_front.auto.buffer ∙ c.deref_mut.ensures.len))

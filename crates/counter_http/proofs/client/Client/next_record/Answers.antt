@@ -19,8 +19,8 @@ returns-then-untaken-gt-UNTAKEN-clause-answers g c = answered_as _ c.messages.in
 -- the bank refused a call
 pub returns-in_err-answer_front-clause-answers : goal.returns-in_err-answer_front-clause-answers
 returns-in_err-answer_front-clause-answers g c =
-    let told = err_from_is_err_and c.from_residual.result c.from_residual.ensures.1 in
-    rw (told.1, told.2) (answered_err (answered_then g.C.Counter.seen c.args.bank.now c.messages.bank
+    let failed = err_from_is_err_and c.from_residual.result c.from_residual.ensures.1 in
+    rw (failed.1, failed.2) (answered_err (answered_then g.C.Counter.seen c.args.bank.now c.messages.bank
     c.answer_front.new.bank c.args.self.now c.messages.self c.answer_front.new.self _ c.messages.invariant.answered
     c.in_err-answer_front.ensures.answers))
 
@@ -71,11 +71,11 @@ returns-then-untaken-gt-UNTAKEN-clause-spares g c = c.messages.invariant.spares
 
 pub returns-in_err-answer_front-clause-record : goal.returns-in_err-answer_front-clause-record
 returns-in_err-answer_front-clause-record g c =
-    let told = err_from_is_err_and c.from_residual.result c.from_residual.ensures.1 in rw told.1 tt
+    let failed = err_from_is_err_and c.from_residual.result c.from_residual.ensures.1 in rw failed.1 tt
 
 pub returns-in_err-answer_front-clause-rests : goal.returns-in_err-answer_front-clause-rests
 returns-in_err-answer_front-clause-rests g c =
-    let told = err_from_is_err_and c.from_residual.result c.from_residual.ensures.1 in rw told.1 tt
+    let failed = err_from_is_err_and c.from_residual.result c.from_residual.ensures.1 in rw failed.1 tt
 
 pub returns-in_err-answer_front-clause-spares : goal.returns-in_err-answer_front-clause-spares
 returns-in_err-answer_front-clause-spares g c =

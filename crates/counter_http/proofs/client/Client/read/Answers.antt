@@ -38,7 +38,7 @@ returns-in-Ok g c =
     has_read old.input.items fill.new.buffer old.filled (old.filled + c.in-Ok.n) c.in-Ok.n fill.result c.in-Ok.is
     c.in-Ok.ensures.fits old.filled_within (rw c.deref_mut.ensures.value at c.in-Ok.ensures.ok) refl in
     inr (inl (record {
-      told = fill.result;
+      answer = fill.result;
       bytes = read.bytes;
       made = made_read g.R.Source.remaining g.R.Source.calls g.R.Source.beside g.W.Sink.contents g.W.Sink.calls old _
           fill.new.reader fill.result read.bytes
@@ -66,7 +66,7 @@ returns-then-eq g c =
     let kept : take old.filled fill.new.buffer ≡ take old.filled old.input.items =
     (rw c.deref_mut.ensures.value at c.in-Err.ensures.err).1 in
     inr (inl (record {
-      told = fill.result;
+      answer = fill.result;
       bytes = [];
       made = made_read g.R.Source.remaining g.R.Source.calls g.R.Source.beside g.W.Sink.contents g.W.Sink.calls old _
           fill.new.reader fill.result []
@@ -92,7 +92,7 @@ returns-else-eq g c =
     (rw c.deref_mut.ensures.value at c.in-Err.ensures.err) refl in
     let none = none_failed _ _ fill.result c.in-Err.e read.bytes c.in-Err.is read.long read.got in
     inr (inr (inr (record {
-      told = fill.result;
+      answer = fill.result;
       made = made_read g.R.Source.remaining g.R.Source.calls g.R.Source.beside g.W.Sink.contents g.W.Sink.calls old _
           fill.new.reader fill.result []
           (none_if old.parting c.is_some.result c.is_some.ensures c.if-is_some.false) c.if-self.false
@@ -118,7 +118,7 @@ returns-then-self-eq0 g c =
     let none = none_came _ _ fill.result n read.bytes c.in-Ok-eq0.is zero read.long read.got in
     let empty : old.filled ≡ 0 = c.if-self-eq0.true in
     inr (inr (inl (record {
-      told = fill.result;
+      answer = fill.result;
       made = made_read g.R.Source.remaining g.R.Source.calls g.R.Source.beside g.W.Sink.contents g.W.Sink.calls old _
           fill.new.reader fill.result []
           (none_if old.parting c.is_some.result c.is_some.ensures c.if-is_some.false) c.if-self.false
@@ -145,7 +145,7 @@ returns-else-self-eq0 g c =
     let same = same_ended _ c.end_with.new.self c.end_with.ensures in
     let written = none_at_end old.output.items old.written c.if-not-is_written.ensures in
     inr (inr (inl (record {
-      told = fill.result;
+      answer = fill.result;
       made = made_read g.R.Source.remaining g.R.Source.calls g.R.Source.beside g.W.Sink.contents g.W.Sink.calls old
           c.end_with.new.self fill.new.reader fill.result []
           (none_if old.parting c.is_some.result c.is_some.ensures c.if-is_some.false) c.if-self.false

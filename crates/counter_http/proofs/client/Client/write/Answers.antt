@@ -27,7 +27,7 @@ returns-in-Ok-eq0 g c =
     inr (inr (record {
       count = c.in-Ok-eq0.field-0;
       contents = g.W.Sink.contents c.take.new.self;
-      told = g.W.Sink.calls c.take.new.self;
+      writes = g.W.Sink.calls c.take.new.self;
       ends = ends_by (known_ends g.R.Source.remaining g.R.Source.calls g.R.Source.beside g.W.Sink.contents g.W.Sink.calls)
           c.lose.ensures.reader c.lose.ensures.writer;
       wrote = took _ _ c.take.result c.in-Ok-eq0.field-0 _ _ left c.in-Ok-eq0.is c.take.ensures.bytes;
@@ -46,7 +46,7 @@ returns-then-eq g c =
     inr (inl (record {
       count = 0;
       contents = g.W.Sink.contents c.take.new.self;
-      told = g.W.Sink.calls c.take.new.self;
+      writes = g.W.Sink.calls c.take.new.self;
       ends = refl;
       wrote = kept _ _ c.take.result c.in-Err.e _ c.in-Err.is c.take.ensures.bytes;
       more = one_call _ c.take.ensures.tells;
@@ -67,7 +67,7 @@ returns-in-Err g c =
     inr (inr (record {
       count = 0;
       contents = g.W.Sink.contents c.take.new.self;
-      told = g.W.Sink.calls c.take.new.self;
+      writes = g.W.Sink.calls c.take.new.self;
       ends = ends_by (known_ends g.R.Source.remaining g.R.Source.calls g.R.Source.beside g.W.Sink.contents g.W.Sink.calls)
           lost.reader lost.writer;
       wrote = kept _ _ c.take.result c.in-Err.e _ c.in-Err.is c.take.ensures.bytes;
@@ -90,7 +90,7 @@ returns-then-not-is_written g c =
     inr (inl (record {
       count = n;
       contents = g.W.Sink.contents c.take.new.self;
-      told = g.W.Sink.calls c.take.new.self;
+      writes = g.W.Sink.calls c.take.new.self;
       ends = refl;
       wrote = took _ _ c.take.result n _ _ left c.in-Ok.is c.take.ensures.bytes;
       more = one_call _ c.take.ensures.tells;
@@ -114,7 +114,7 @@ returns-then-is_err g c =
     inr (inr (record {
       count = n;
       contents = g.W.Sink.contents c.send_on.new.self;
-      told = g.W.Sink.calls c.send_on.new.self;
+      writes = g.W.Sink.calls c.send_on.new.self;
       ends = ends_by (known_ends g.R.Source.remaining g.R.Source.calls g.R.Source.beside g.W.Sink.contents g.W.Sink.calls)
           lost.reader lost.writer;
       wrote = kept_more _ _ _ _ (took _ _ c.take.result n _ _ left c.in-Ok.is c.take.ensures.bytes)
@@ -135,7 +135,7 @@ returns g c =
     inr (inl (record {
       count = n;
       contents = g.W.Sink.contents c.send_on.new.self;
-      told = g.W.Sink.calls c.send_on.new.self;
+      writes = g.W.Sink.calls c.send_on.new.self;
       ends = refl;
       wrote = kept_more _ _ _ _ (took _ _ c.take.result n _ _ left c.in-Ok.is c.take.ensures.bytes)
           c.send_on.ensures.bytes;
