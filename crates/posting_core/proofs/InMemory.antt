@@ -1,6 +1,8 @@
 -- The rows of a bank in memory show a log, and what a call does to them shows the log with its command.
 use Rattle.std.proofs.Common.{◌≡◌, List, [], length, Option, Some, None, Result, Ok, Err, refl, sym, subst, ◌∙◌}
-use Rattle.std.specs.{Prelude.ℤ, Option.option_map}
+use Rattle.std.proofs.Common.{ℕ, ◌+◌, ◌≤◌, ◌<◌, IfOk, arith}
+use Rattle.std.specs.{Prelude.ℤ, Option.option_map, Result.IsErrAnd}
+use Rattle.std.proofs.lemmas.Result.{err_from_is_err_and}
 use Rattle.posting_rules.specs.declared.{rows.BranchRow.BranchRow, rows.TellerRow.TellerRow, fault.Fault.Fault}
 use Rattle.posting_rules.specs.declared.{rows.AccountRow.AccountRow, rows.HistoryRow.HistoryRow}
 use Rattle.posting_rules.specs.declared.{rows.RequestRow.RequestRow, rows.FloorRow.FloorRow}
@@ -119,3 +121,18 @@ spared_plain {X} old new cs result is same =
     subst (λ (r : Result X Fault). IsCounterCall plain_seen plain_tables plain_reason old new cs r) (sym is)
     (call_spared plain_seen plain_tables plain_reason old new cs (λ down. down) (λ honest. honest)
     (stays_plain old new same) tt same)
+
+-- a refused allocation becomes this fault
+pub memory_refused : {X : Type 0} (result : Result X Fault) → IsErrAnd result (λ fault. fault ≡ Memory)
+    → result ≡ Err Memory
+memory_refused result is = let p = err_from_is_err_and result is in rw (p.1, p.2) refl
+
+-- then there is no answer that could be wrong
+pub no_answer : {X : Type 0} (result : Result X Fault) (P : X → Type 0)
+    → IsErrAnd result (λ fault. fault ≡ Memory) → IfOk result P
+no_answer result P is = rw (memory_refused result is) tt
+
+-- ---- room
+
+pub room_for_one : (n m : ℕ) → n + 1 ≤ m → n < m
+room_for_one n m room = omega arith

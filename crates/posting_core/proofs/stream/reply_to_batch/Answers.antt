@@ -69,3 +69,36 @@ returns-clause-answers g c =
 
 pub returns-clause-calls : goal.returns-clause-calls
 returns-clause-calls g c = c.in-Err-write_out.ensures.failed
+
+pub returns-in-Ok-write_out-clause-up : goal.returns-in-Ok-write_out-clause-up
+returns-in-Ok-write_out-clause-up g c = c.in-Ok.ensures.call.up
+
+pub returns-in-Ok-write_out-clause-why : goal.returns-in-Ok-write_out-clause-why
+returns-in-Ok-write_out-clause-why g c = tt
+
+pub returns-in-Ok-write_out-clause-honest : goal.returns-in-Ok-write_out-clause-honest
+returns-in-Ok-write_out-clause-honest g c = c.in-Ok.ensures.call.honest
+
+pub returns-in-Ok-write_out-clause-spares : goal.returns-in-Ok-write_out-clause-spares
+returns-in-Ok-write_out-clause-spares g c = c.in-Ok.ensures.spares
+
+pub returns-in-Err-clause-up : goal.returns-in-Err-clause-up
+returns-in-Err-clause-up g c = tt
+
+pub returns-in-Err-clause-honest : goal.returns-in-Err-clause-honest
+returns-in-Err-clause-honest g c = c.in-Err.ensures.call.honest
+
+pub returns-in-Err-clause-spares : goal.returns-in-Err-clause-spares
+returns-in-Err-clause-spares g c = c.in-Err.ensures.spares
+
+pub returns-clause-up : goal.returns-clause-up
+returns-clause-up g c = c.in-Ok.ensures.call.up
+
+pub returns-clause-why : goal.returns-clause-why
+returns-clause-why g c = tt
+
+pub returns-clause-honest : goal.returns-clause-honest
+returns-clause-honest g c = c.in-Ok.ensures.call.honest
+
+pub returns-clause-spares : goal.returns-clause-spares
+returns-clause-spares g c = c.in-Ok.ensures.spares

@@ -7,3 +7,9 @@ returns-clause-ok g c =
     let within : c.args.filled ≤ length c.args.buffer.now = omega arith in
     fill_ok c.give_beside.result _ _ c.args.buffer.now c.give_beside.new.buffer c.args.filled _ within
     c.give_beside.ensures.bound c.give_beside.ensures.bytes
+
+pub returns-clause-tells : goal.returns-clause-tells
+returns-clause-tells g c = c.give_beside.ensures.tells
+
+pub returns-clause-beside : goal.returns-clause-beside
+returns-clause-beside g c = c.give_beside.ensures.beside

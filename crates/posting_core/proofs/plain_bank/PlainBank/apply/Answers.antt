@@ -1,6 +1,6 @@
 -- The rows of branches stay in their ranges.
 use Rattle.std.proofs.Common.{◌≡◌, ℕ, Bool, true, false, cond, eqb, List, length, get_or, sym, subst, ap, ◌∙◌, arith}
-use Rattle.std.proofs.Common.{rules}
+use Rattle.std.proofs.Common.{◌+◌, ◌≤◌, rules}
 use Rattle.std.specs.Prelude.{ℤ, All, map}
 use Rattle.std.proofs.lemmas.{Grind.common_steps, List.with_items_is, List.Elements.All-map}
 use Rattle.posting_rules.specs.{declared.rows.BranchRow.BranchRow, Branches.IsInRange, believed.Changes.row_changed}
@@ -53,3 +53,39 @@ returns-in-Posted-clause-tables c =
     rw c.in-Posted.is
     (last (posted_is (plain_tables bank) e c.in-Posted.teller c.in-Posted.branch bank.counted)
     (grind (arith, common_steps)))
+
+pub keep-requires-clause-room : goal.keep-requires-clause-room
+keep-requires-clause-room c = c.requires.requests
+
+pub keep-requires-clause-references : goal.keep-requires-clause-references
+keep-requires-clause-references c = c.requires.references
+
+pub put-requires : goal.put-requires
+put-requires c = c.requires.history
+
+pub keep-requires-in-Posted-clause-room : goal.keep-requires-in-Posted-clause-room
+keep-requires-in-Posted-clause-room c = c.requires.requests
+
+pub keep-requires-in-Posted-clause-references : goal.keep-requires-in-Posted-clause-references
+keep-requires-in-Posted-clause-references c = c.requires.references
+
+-- one row more
+one_longer : (n m : ℕ) → m ≡ n + 1 → m ≤ n + 1
+one_longer n m is = omega arith
+
+pub returns-in-Refused-clause-requests : goal.returns-in-Refused-clause-requests
+returns-in-Refused-clause-requests c = (one_longer _ _ c.keep.ensures.len, c.keep.ensures.capacity)
+
+pub returns-in-Refused-clause-references : goal.returns-in-Refused-clause-references
+returns-in-Refused-clause-references c = (c.keep.ensures.references_len, c.keep.ensures.references_capacity)
+
+pub returns-in-Posted-clause-requests : goal.returns-in-Posted-clause-requests
+returns-in-Posted-clause-requests c =
+    (one_longer _ _ c.keep-in-Posted.ensures.len, c.keep-in-Posted.ensures.capacity)
+
+pub returns-in-Posted-clause-history : goal.returns-in-Posted-clause-history
+returns-in-Posted-clause-history c = (one_longer _ _ c.put.ensures.len, c.put.ensures.capacity)
+
+pub returns-in-Posted-clause-references : goal.returns-in-Posted-clause-references
+returns-in-Posted-clause-references c =
+    (c.keep-in-Posted.ensures.references_len, c.keep-in-Posted.ensures.references_capacity)

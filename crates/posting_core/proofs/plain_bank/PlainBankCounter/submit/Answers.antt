@@ -3,6 +3,7 @@ use Rattle.posting_rules.specs.believed.{Commands.Post, Changes.reply_past, Chan
 use Rattle.posting_rules.proofs.Records.{past_shown, past_reply}
 use Rattle.posting_core.specs.Plain.{plain_tables}
 use Rattle.posting_core.proofs.InMemory.{answered_plain, after_plain, plain_shows, requests_as_before, spared_plain}
+use Rattle.posting_core.proofs.InMemory.{memory_refused, no_answer, room_for_one}
 use Rattle.posting_core.proofs.plain_bank.PlainBankCounter.submit.Goals as goal
 
 pub returns-clause-answer : goal.returns-clause-answer
@@ -28,10 +29,33 @@ returns-clause-call c =
     (λ log s. past_shown t log m bytes s))
 
 pub returns-in_err-reserve-clause-call : goal.returns-in_err-reserve-clause-call
-returns-in_err-reserve-clause-call c = spared_plain _ _ _ _ (search rules) (search rules)
+returns-in_err-reserve-clause-call c = spared_plain _ _ _ _ (memory_refused _ c.from_residual.ensures.1)
+    (rw c.reserve.ensures.items refl)
 
 pub returns-in_err-reserve-2-clause-call : goal.returns-in_err-reserve-2-clause-call
-returns-in_err-reserve-2-clause-call c = spared_plain _ _ _ _ (search rules) (search rules)
+returns-in_err-reserve-2-clause-call c =
+    spared_plain _ _ _ _ (memory_refused _ c.from_residual-in_err-reserve-2.ensures.1)
+    (rw (c.reserve.ensures.items, c.reserve-2.ensures.items) refl)
 
 pub returns-in_err-reserve-3-clause-call : goal.returns-in_err-reserve-3-clause-call
-returns-in_err-reserve-3-clause-call c = spared_plain _ _ _ _ (search rules) (search rules)
+returns-in_err-reserve-3-clause-call c =
+    spared_plain _ _ _ _ (memory_refused _ c.from_residual-in_err-reserve-3.ensures.1)
+    (rw (c.reserve.ensures.items, c.reserve-2.ensures.items, c.reserve-3.ensures.items) refl)
+
+pub returns-in_err-reserve-clause-answer : goal.returns-in_err-reserve-clause-answer
+returns-in_err-reserve-clause-answer c = no_answer _ _ c.from_residual.ensures.1
+
+pub returns-in_err-reserve-2-clause-answer : goal.returns-in_err-reserve-2-clause-answer
+returns-in_err-reserve-2-clause-answer c = no_answer _ _ c.from_residual-in_err-reserve-2.ensures.1
+
+pub returns-in_err-reserve-3-clause-answer : goal.returns-in_err-reserve-3-clause-answer
+returns-in_err-reserve-3-clause-answer c = no_answer _ _ c.from_residual-in_err-reserve-3.ensures.1
+
+pub submit_within_capacity-requires-clause-history : goal.submit_within_capacity-requires-clause-history
+submit_within_capacity-requires-clause-history c = room_for_one _ _ c.in_ok-reserve.ensures.ok
+
+pub submit_within_capacity-requires-clause-requests : goal.submit_within_capacity-requires-clause-requests
+submit_within_capacity-requires-clause-requests c = room_for_one _ _ c.in_ok-reserve-2.ensures.ok
+
+pub submit_within_capacity-requires-clause-references : goal.submit_within_capacity-requires-clause-references
+submit_within_capacity-requires-clause-references c = room_for_one _ _ c.in_ok-reserve-3.ensures.ok

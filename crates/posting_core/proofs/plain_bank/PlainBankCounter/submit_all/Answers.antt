@@ -1,9 +1,11 @@
-use Rattle.std.proofs.Common.{◌≡◌, [], ◌∷◌, ◌++◌, suc, length, refl, ap, ◌∙◌, List, ℕ, rules}
+use Rattle.std.proofs.Common.{◌≡◌, [], ◌∷◌, ◌++◌, suc, length, refl, ap, ◌∙◌, List, ℕ, ◌≤◌, sym, subst, arith}
 use Rattle.posting_rules.specs.believed.Changes.{replies_past_all, tables_past, tables_past_all}
 use Rattle.posting_rules.specs.believed.{Tables.Tables, Runs.posts}
 use Rattle.posting_rules.proofs.Records.{all_past, all_replies, are_posts}
 use Rattle.posting_core.specs.Plain.{plain_tables}
 use Rattle.posting_core.proofs.InMemory.{answered_plain, after_plain, plain_shows, requests_as_before, spared_plain}
+use Rattle.posting_core.proofs.InMemory.{memory_refused, no_answer}
+use Rattle.posting_rules.specs.declared.{rows.RequestRow.RequestRow, limits.TheConstants.MAX_DECIDED}
 use Rattle.posting_core.proofs.plain_bank.PlainBankCounter.submit_all.Goals as goal
 
 replies_are : (u t : Tables) (m : ℕ) (rs before all : List (List ℕ)) → all ≡ before ++ replies_past_all u m rs
@@ -31,16 +33,22 @@ returns-clause-call c =
     (λ log s. all_past t log m rs s))
 
 pub returns-in_err-reserve-clause-call : goal.returns-in_err-reserve-clause-call
-returns-in_err-reserve-clause-call c = spared_plain _ _ _ _ (search rules) refl
+returns-in_err-reserve-clause-call c = spared_plain _ _ _ _ (memory_refused _ c.from_residual.ensures.1) refl
 
 pub returns-in_err-reserve-2-clause-call : goal.returns-in_err-reserve-2-clause-call
-returns-in_err-reserve-2-clause-call c = spared_plain _ _ _ _ (search rules) (search rules)
+returns-in_err-reserve-2-clause-call c =
+    spared_plain _ _ _ _ (memory_refused _ c.from_residual-in_err-reserve-2.ensures.1)
+    (rw c.reserve-2.ensures.items refl)
 
 pub returns-in_err-reserve-3-clause-call : goal.returns-in_err-reserve-3-clause-call
-returns-in_err-reserve-3-clause-call c = spared_plain _ _ _ _ (search rules) (search rules)
+returns-in_err-reserve-3-clause-call c =
+    spared_plain _ _ _ _ (memory_refused _ c.from_residual-in_err-reserve-3.ensures.1)
+    (rw (c.reserve-2.ensures.items, c.reserve-3.ensures.items) refl)
 
 pub returns-in_err-reserve-4-clause-call : goal.returns-in_err-reserve-4-clause-call
-returns-in_err-reserve-4-clause-call c = spared_plain _ _ _ _ (search rules) (search rules)
+returns-in_err-reserve-4-clause-call c =
+    spared_plain _ _ _ _ (memory_refused _ c.from_residual-in_err-reserve-4.ensures.1)
+    (rw (c.reserve-2.ensures.items, c.reserve-3.ensures.items, c.reserve-4.ensures.items) refl)
 
 pub returns-clause-count : goal.returns-clause-count
 returns-clause-count c =
@@ -62,3 +70,59 @@ returns-clause-answer c h log s =
     replies_are _ t m rs _ _ c.submit_all_within_capacity.ensures.replies
     (c.reserve.ensures.items ∙ c.new-replies.ensures.items) same
     ∙ all_replies t log m rs (plain_shows c.args.self.now log s)
+
+pub returns-in_err-reserve-clause-count : goal.returns-in_err-reserve-clause-count
+returns-in_err-reserve-clause-count c = no_answer _ _ c.from_residual.ensures.1
+
+pub returns-in_err-reserve-clause-answer : goal.returns-in_err-reserve-clause-answer
+returns-in_err-reserve-clause-answer c = no_answer _ _ c.from_residual.ensures.1
+
+pub returns-in_err-reserve-2-clause-count : goal.returns-in_err-reserve-2-clause-count
+returns-in_err-reserve-2-clause-count c = no_answer _ _ c.from_residual-in_err-reserve-2.ensures.1
+
+pub returns-in_err-reserve-2-clause-answer : goal.returns-in_err-reserve-2-clause-answer
+returns-in_err-reserve-2-clause-answer c = no_answer _ _ c.from_residual-in_err-reserve-2.ensures.1
+
+pub returns-in_err-reserve-3-clause-count : goal.returns-in_err-reserve-3-clause-count
+returns-in_err-reserve-3-clause-count c = no_answer _ _ c.from_residual-in_err-reserve-3.ensures.1
+
+pub returns-in_err-reserve-3-clause-answer : goal.returns-in_err-reserve-3-clause-answer
+returns-in_err-reserve-3-clause-answer c = no_answer _ _ c.from_residual-in_err-reserve-3.ensures.1
+
+pub returns-in_err-reserve-4-clause-count : goal.returns-in_err-reserve-4-clause-count
+returns-in_err-reserve-4-clause-count c = no_answer _ _ c.from_residual-in_err-reserve-4.ensures.1
+
+pub returns-in_err-reserve-4-clause-answer : goal.returns-in_err-reserve-4-clause-answer
+returns-in_err-reserve-4-clause-answer c = no_answer _ _ c.from_residual-in_err-reserve-4.ensures.1
+
+pub submit_all_within_capacity-requires-clause-replies : goal.submit_all_within_capacity-requires-clause-replies
+submit_all_within_capacity-requires-clause-replies c = omega (arith, c.in_ok-reserve.ensures.ok)
+
+pub submit_all_within_capacity-requires-clause-history : goal.submit_all_within_capacity-requires-clause-history
+submit_all_within_capacity-requires-clause-history c = c.in_ok-reserve-2.ensures.ok
+
+pub submit_all_within_capacity-requires-clause-requests : goal.submit_all_within_capacity-requires-clause-requests
+submit_all_within_capacity-requires-clause-requests c = c.in_ok-reserve-3.ensures.ok
+
+pub submit_all_within_capacity-requires-clause-references : goal.submit_all_within_capacity-requires-clause-references
+submit_all_within_capacity-requires-clause-references c = c.in_ok-reserve-4.ensures.ok
+
+pub invariant_of-self : goal.invariant_of-self
+invariant_of-self c =
+    let bank = c.args.self.now in
+    record {
+      few = bank.few;
+      in_range = bank.in_range;
+      at_most_zero = bank.at_most_zero;
+      counted = rw c.reserve-2.ensures.items bank.counted;
+    }
+
+pub invariant_of-self-2 : goal.invariant_of-self-2
+invariant_of-self-2 c =
+    let bank = c.args.self.now in
+    record {
+      few = subst (λ (rs : List RequestRow). length rs ≤ MAX_DECIDED) (sym c.reserve-3.ensures.items) bank.few;
+      in_range = bank.in_range;
+      at_most_zero = bank.at_most_zero;
+      counted = rw (c.reserve-2.ensures.items, c.reserve-3.ensures.items, c.reserve-4.ensures.items) bank.counted;
+    }
