@@ -100,3 +100,24 @@ add_branch-requires-clause-accounts c = c.in_ok-reserve-3.ensures.ok
 
 pub add_branch-requires-clause-floors : goal.add_branch-requires-clause-floors
 add_branch-requires-clause-floors c = room_for_one _ _ c.in_ok-reserve-4.ensures.ok
+
+pub returns-then-eq-clause-spares : goal.returns-then-eq-clause-spares
+returns-then-eq-clause-spares c = tt
+
+pub returns-else-accounts-count-clause-spares : goal.returns-else-accounts-count-clause-spares
+returns-else-accounts-count-clause-spares c = tt
+
+pub returns-in_err-reserve-clause-spares : goal.returns-in_err-reserve-clause-spares
+returns-in_err-reserve-clause-spares c = tt
+
+pub returns-in_err-reserve-2-clause-spares : goal.returns-in_err-reserve-2-clause-spares
+returns-in_err-reserve-2-clause-spares c = tt
+
+pub returns-in_err-reserve-3-clause-spares : goal.returns-in_err-reserve-3-clause-spares
+returns-in_err-reserve-3-clause-spares c = tt
+
+pub returns-in_err-reserve-4-clause-spares : goal.returns-in_err-reserve-4-clause-spares
+returns-in_err-reserve-4-clause-spares c = tt
+
+pub returns-clause-spares : goal.returns-clause-spares
+returns-clause-spares c = tt

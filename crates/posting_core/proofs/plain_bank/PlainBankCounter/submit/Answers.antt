@@ -59,3 +59,15 @@ submit_within_capacity-requires-clause-requests c = room_for_one _ _ c.in_ok-res
 
 pub submit_within_capacity-requires-clause-references : goal.submit_within_capacity-requires-clause-references
 submit_within_capacity-requires-clause-references c = room_for_one _ _ c.in_ok-reserve-3.ensures.ok
+
+pub returns-in_err-reserve-clause-spares : goal.returns-in_err-reserve-clause-spares
+returns-in_err-reserve-clause-spares c = tt
+
+pub returns-in_err-reserve-2-clause-spares : goal.returns-in_err-reserve-2-clause-spares
+returns-in_err-reserve-2-clause-spares c = tt
+
+pub returns-in_err-reserve-3-clause-spares : goal.returns-in_err-reserve-3-clause-spares
+returns-in_err-reserve-3-clause-spares c = tt
+
+pub returns-clause-spares : goal.returns-clause-spares
+returns-clause-spares c = tt

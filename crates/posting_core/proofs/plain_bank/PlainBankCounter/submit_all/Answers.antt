@@ -126,3 +126,18 @@ invariant_of-self-2 c =
       at_most_zero = bank.at_most_zero;
       counted = rw (c.reserve-2.ensures.items, c.reserve-3.ensures.items, c.reserve-4.ensures.items) bank.counted;
     }
+
+pub returns-in_err-reserve-clause-spares : goal.returns-in_err-reserve-clause-spares
+returns-in_err-reserve-clause-spares c = tt
+
+pub returns-in_err-reserve-2-clause-spares : goal.returns-in_err-reserve-2-clause-spares
+returns-in_err-reserve-2-clause-spares c = tt
+
+pub returns-in_err-reserve-3-clause-spares : goal.returns-in_err-reserve-3-clause-spares
+returns-in_err-reserve-3-clause-spares c = tt
+
+pub returns-in_err-reserve-4-clause-spares : goal.returns-in_err-reserve-4-clause-spares
+returns-in_err-reserve-4-clause-spares c = tt
+
+pub returns-clause-spares : goal.returns-clause-spares
+returns-clause-spares c = tt

@@ -16,3 +16,9 @@ returns-clause-answer c h log s =
     given_some log c.args.after c.len-kept.result c.min-to.result c.in_ok-entries_between.field-0.items
     (kept ∙ shows.rows.decided) c.if-after-kept.false c.min-to.ensures
     (c.in_ok-entries_between.ensures log s.commands shows)
+
+pub returns-then-after-kept-clause-spares : goal.returns-then-after-kept-clause-spares
+returns-then-after-kept-clause-spares c = tt
+
+pub returns-clause-spares : goal.returns-clause-spares
+returns-clause-spares c = tt

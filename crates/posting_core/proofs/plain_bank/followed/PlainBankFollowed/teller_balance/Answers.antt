@@ -16,3 +16,6 @@ returns-clause-answer c h log s =
     c.deref.ensures.value
     ∙ ap (λ n. option_map balance_of_teller (row_at teller_key t.tellers n)) c.get.ensures.value
     ∙ teller_shown t log c.args.teller (plain_shows c.args.self.now log s)
+
+pub returns-clause-spares : goal.returns-clause-spares
+returns-clause-spares c = tt
