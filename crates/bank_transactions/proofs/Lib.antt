@@ -38,3 +38,4 @@ pub mod Tries
 pub mod Wrote
 pub mod NewBatch
 pub mod AfterLookUp
+pub mod Exits

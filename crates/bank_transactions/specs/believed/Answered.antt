@@ -11,7 +11,8 @@ use Rattle.bank_transactions.specs.believed.Stored.{RepliesToAllStored, RepliesT
 -- or change, and all that they leave of those tables: a record that is told to be posted was written.
 pub record AnswersAll (old new : Database) (moment : ℕ) (records replies : List (List ℕ)) : Type 0 where
   pub answers : RepliesToAllStored old new moment records replies
-  pub wrote : Runs (AddsForRecords old records) (LeadTo answers.tables (tables_past_all answers.tables moment records)) old new
+  pub wrote : Runs (AddsForRecords old records)
+      (LeadTo answers.tables (tables_past_all answers.tables moment records)) old new
 
 -- the same of one, whose reply is that of the case which applies
 pub record AnswersOne (old new : Database) (moment : ℕ) (bytes : List ℕ) (r : RequestFields) (reply : List ℕ)

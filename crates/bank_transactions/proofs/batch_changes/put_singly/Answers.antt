@@ -1,5 +1,5 @@
 -- One request more is put in.
-use Rattle.std.proofs.Common.{◌≡◌, ◌<◌, ◌+◌, ◌++◌, [], ◌∷◌, List, Err, Ok, take, length, rules, arith, ◌∙◌, subst}
+use Rattle.std.proofs.Common.{◌≡◌, ◌<◌, ◌+◌, ◌++◌, [], ◌∷◌, List, Ok, take, length, arith, ◌∙◌, subst}
 use Rattle.std.proofs.Common.{sym, ap}
 use Rattle.std.proofs.{lemmas.List.take_more, Math.Seq.take-length}
 use Rattle.sqlite.specs.{Held.state, State.HasCleanDisk}
@@ -13,11 +13,12 @@ use Rattle.bank_transactions.proofs.{Fitting.requests_apart, Remembered.followed
 use Rattle.bank_transactions.proofs.Remembered.{followed_put}
 use Rattle.bank_transactions.proofs.{Loops.make_more, Rows.request_added}
 use Rattle.bank_transactions.proofs.NewRequests.{news_none, news_then}
+use Rattle.bank_transactions.proofs.Exits.{handed_on, survives_itself}
 use Rattle.bank_transactions.proofs.batch_changes.put_singly.Goals as goal
 
 pub loop-row-init : goal.loop-row-init
 loop-row-init g c = record {
-  puts = writes_for (writes_none (search rules)) (λ t so. (so, requests_in_turn.none t));
+  puts = writes_for (writes_none (survives_itself _)) (λ t so. (so, requests_in_turn.none t));
   unknown = λ clean live. news_none _;
   follows = λ memory. followed_none g.S.Store c.args.tx.now memory;
 }
@@ -48,15 +49,19 @@ loop-row-preserved g c =
           (followed_put g.S.Store c.loop-row.tx c.add_request.new.tx bank.request requests_apart (Ok c.in_ok-add_request.field-0) one.lies memory);
     }
 
-pub returns-in_err-add_request-clause-puts : goal.returns-in_err-add_request-clause-puts
-returns-in_err-add_request-clause-puts g c =
-    let same : c.from_residual.result ≡ Err c.in_err-add_request.field-0.0 = search rules in
+pub returns-in_err-add_request : goal.returns-in_err-add_request
+returns-in_err-add_request g c =
+    let same = handed_on c.from_residual.result c.from_residual.ensures.1 in
     let xs = c.args.rows.now in
     let i = c.loop-row.row-index in
     let x = c.row-item.result in
     let lt : i < length xs = omega arith in
-    rw same (writes_err (make_more requests_put MayAddRequests requests_in_turn (adds_each _ _) xs i x lt
-    c.row-item.is c.loop-row.invariant.puts (request_added x c.in_err-add_request.ensures.adds)) (λ t so. so))
+    rw same (record {
+      puts = writes_err (make_more requests_put MayAddRequests requests_in_turn (adds_each _ _) xs i x lt
+          c.row-item.is c.loop-row.invariant.puts (request_added x c.in_err-add_request.ensures.adds)) (λ t so. so);
+      unknown = tt;
+      follows = λ memory. tt;
+    })
 
 pub returns-clause-puts : goal.returns-clause-puts
 returns-clause-puts g c =

@@ -1,16 +1,21 @@
 -- The requests of a batch are written, and then the rest.
-use Rattle.std.proofs.Common.{◌≡◌, Err, rules, arith}
 use Rattle.posting_batch.specs.View.{view}
 use Rattle.bank_transactions.proofs.{Chained.does_err, Remembered.counts_after, Remembered.followed_then}
 use Rattle.bank_transactions.proofs.Together.{all_written, requests_first}
 use Rattle.bank_transactions.proofs.Together.{all_ran, requests_ran}
+use Rattle.bank_transactions.proofs.Exits.{clean_at, handed_on}
 use Rattle.bank_transactions.proofs.batch_changes.write.Goals as goal
 
-pub returns-in_err-put_requests-clause-does : goal.returns-in_err-put_requests-clause-does
-returns-in_err-put_requests-clause-does g c =
-    let same : c.from_residual.result ≡ Err c.in_err-put_requests.field-0.0 = search rules in
-    rw same (does_err
-    (requests_first (view c.args.overlay.now) c.deref.ensures c.in_err-put_requests.ensures.puts) (λ t so. so))
+pub returns-in_err-put_requests : goal.returns-in_err-put_requests
+returns-in_err-put_requests g c =
+    let same = handed_on c.from_residual.result c.from_residual.ensures.1 in
+    rw same (record {
+      does = does_err
+          (requests_first (view c.args.overlay.now) c.deref.ensures c.in_err-put_requests.ensures.puts) (λ t so. so);
+      ran = tt;
+      counts = tt;
+      follows = tt;
+    })
 
 pub returns-clause-does : goal.returns-clause-does
 returns-clause-does g c =
@@ -35,5 +40,5 @@ returns-clause-follows g c =
     let m = c.args.memory.now in
     followed_then c.write_after.new.tx m m c.write_after.new.memory
     (requests_first (view c.args.overlay.now) c.deref.ensures c.in_ok-put_requests.ensures.puts)
-    (λ clean. omega (arith, c.write_after.ensures.does.says.survives.clean, clean)) (c.in_ok-put_requests.ensures.follows m)
+    (clean_at c.write_after.ensures.does.says.survives) (c.in_ok-put_requests.ensures.follows m)
     c.write_after.result c.write_after.ensures.follows

@@ -1,5 +1,5 @@
 -- A batch that is filled, judged and written.
-use Rattle.std.proofs.Common.{◌≡◌, ◌∙◌, Err, rules, arith, length, refl, inl, inr}
+use Rattle.std.proofs.Common.{◌∙◌, arith, length, refl, inl, inr}
 use Rattle.std.proofs.Math.Logic.{∥∥₁_map}
 use Rattle.sqlite.specs.{State.HasCleanDisk, Held.state}
 use Rattle.posting_batch.specs.View.{view}
@@ -10,31 +10,51 @@ use Rattle.bank_transactions.proofs.{LookUps.does_fail, LookUps.does_look, Remem
 use Rattle.bank_transactions.proofs.JudgedSlots.{answered_idle, answered_not, answered_written, counts_none}
 use Rattle.bank_transactions.proofs.JudgedSlots.{fills, judging_all}
 use Rattle.bank_transactions.proofs.batches.answer_batch.Goals.{then-judged-before+in_ok-write, else-judged-before}
+use Rattle.bank_transactions.proofs.Exits.{clean_at, handed_on}
 use Rattle.bank_transactions.proofs.batches.answer_batch.Goals as goal
 
-pub returns-in_err-fill-clause-says : goal.returns-in_err-fill-clause-says
-returns-in_err-fill-clause-says g c records made =
-    let same : c.from_residual.result ≡ Err c.in_err-fill.field-0.0 = search rules in
-    rw same (acts_read (does_fail c.in_err-fill.ensures.says))
+pub fill-requires : goal.fill-requires
+fill-requires g c = c.requires
 
-pub returns-in_err-write-clause-says : goal.returns-in_err-write-clause-says
-returns-in_err-write-clause-says g c records made =
+pub returns-in_err-fill : goal.returns-in_err-fill
+returns-in_err-fill g c =
+    let failed = c.in_err-fill.ensures.says in
+    rw (handed_on c.from_residual.result c.from_residual.ensures.1) (record {
+      same_reference = failed.says.same_reference;
+      says = λ records made. acts_read (does_fail failed);
+      count = tt;
+      idle = tt;
+      stored = tt;
+      wrote = tt;
+      remembers = tt;
+    })
+
+pub returns-in_err-write : goal.returns-in_err-write
+returns-in_err-write g c =
     let j = c.judge-judged.ensures in
-    let same : c.from_residual-in_err-write.result ≡ Err c.in_err-write.field-0.0 = search rules in
-    let so = judging_all c.args.batch _ records
-    c.args.moment (view c.judge-judged.result.overlay) c.judge-judged.result.replies.items made refl
-    j.judged j.rising j.idle in
     let fill = c.in_ok-fill.ensures in
-    rw same (answered_not so (does_look (fills (length records) (view c.fill.new.overlay) (view c.args.batch.overlay) fill.says fill.same (λ clean.
-    fill.stored clean (homes_made c.args.batch records made)))) (does_adds (λ clean.
-    let before : HasCleanDisk (state g.S.Store c.fill.new.tx.conn.now) = omega
-    (arith, c.in_err-write.ensures.does.says.survives.clean, clean) in
-    adds_looked_up c.args.batch records (view c.fill.new.overlay) (view c.judge-judged.result.overlay) _ made
-    fill.same
-    (λ rows has. (fill.stored before (homes_made c.args.batch records made) rows has).decided) j.next j.again.keys
-    (new_unkept _ c.args.batch _ records c.args.moment (view c.judge-judged.result.overlay)
-    c.judge-judged.result.replies.items made refl fill.same (fill.shown before) j.judged))
-    c.in_err-write.ensures.does))
+    let failed = c.in_err-write.ensures.does in
+    rw (handed_on c.from_residual-in_err-write.result c.from_residual-in_err-write.ensures.1) (record {
+      same_reference = failed.says.same_reference ∙ fill.says.says.same_reference;
+      says = λ records made.
+          let so = judging_all c.args.batch _ records
+          c.args.moment (view c.judge-judged.result.overlay) c.judge-judged.result.replies.items made refl
+          j.judged j.rising j.idle in
+          answered_not so (does_look (fills (length records) (view c.fill.new.overlay) (view c.args.batch.overlay)
+          fill.says fill.same (λ clean. fill.stored clean (homes_made c.args.batch records made)))) (does_adds (λ clean.
+          let before = clean_at failed.says.survives clean in
+          adds_looked_up c.args.batch records (view c.fill.new.overlay) (view c.judge-judged.result.overlay) _ made
+          fill.same
+          (λ rows has. (fill.stored before (homes_made c.args.batch records made) rows has).decided) j.next j.again.keys
+          (new_unkept _ c.args.batch _ records c.args.moment (view c.judge-judged.result.overlay)
+          c.judge-judged.result.replies.items made refl fill.same (fill.shown before) j.judged))
+          failed);
+      count = tt;
+      idle = tt;
+      stored = tt;
+      wrote = tt;
+      remembers = tt;
+    })
 
 pub returns-clause-says : goal.returns-clause-says
 returns-clause-says g c records made =
@@ -48,8 +68,7 @@ returns-clause-says g c records made =
     rw c.into_replies.ensures (elim c.if-judged-before.branch [
       | then-judged-before+in_ok-write w ↦
           rw w.tx-is (answered_written so (does_look reads) (does_adds (λ clean.
-          let before : HasCleanDisk (state g.S.Store c.fill.new.tx.conn.now) = omega
-          (arith, w.in_ok-write.ensures.does.says.survives.clean, clean) in
+          let before = clean_at w.in_ok-write.ensures.does.says.survives clean in
           adds_looked_up c.args.batch records (view c.fill.new.overlay) (view c.judge-judged.result.overlay) _
           made c.in_ok-fill.ensures.same
           (λ rows has. (c.in_ok-fill.ensures.stored before (homes_made c.args.batch records made) rows has).decided)
@@ -74,8 +93,7 @@ returns-clause-idle g c clean records made t shows so none =
     let first = does_look {Adds = λ text values. ⊥} reads in
     elim c.if-judged-before.branch [
       | then-judged-before+in_ok-write w ↦
-          let before : HasCleanDisk (state g.S.Store c.fill.new.tx.conn.now) = omega
-          (arith, w.in_ok-write.ensures.does.says.survives.clean, rw w.tx-is at clean) in
+          let before = clean_at w.in_ok-write.ensures.does.says.survives (rw w.tx-is at clean) in
           let answers = reads.says.answers before t shows so in
           absurd (w.if-judged-before.true (counts_none it first t so answers none))
       | else-judged-before w ↦
@@ -92,7 +110,7 @@ returns-clause-stored g c clean records made =
     let before : HasCleanDisk (state g.S.Store c.fill.new.tx.conn.now) =
     elim c.if-judged-before.branch [
       | then-judged-before+in_ok-write w ↦
-          omega (arith, w.in_ok-write.ensures.does.says.survives.clean, rw w.tx-is at clean)
+          clean_at w.in_ok-write.ensures.does.says.survives (rw w.tx-is at clean)
       | else-judged-before w ↦ rw w.tx-is at clean
     ] in
     rw c.into_replies.ensures (in_turn_looked_up _ _ c.args.batch _ records c.args.moment
@@ -111,7 +129,7 @@ returns-clause-wrote g c clean live records made =
     let before : HasCleanDisk (state g.S.Store c.fill.new.tx.conn.now) =
     elim c.if-judged-before.branch [
       | then-judged-before+in_ok-write w ↦
-          omega (arith, w.in_ok-write.ensures.does.says.survives.clean, rw w.tx-is at clean)
+          clean_at w.in_ok-write.ensures.does.says.survives (rw w.tx-is at clean)
       | else-judged-before w ↦ rw w.tx-is at clean
     ] in
     let stays = (fill.says.says.leaves before).0 in
@@ -132,9 +150,8 @@ returns-clause-wrote g c clean live records made =
       | else-judged-before w ↦ inl (j.idle (omega (arith, w.if-judged-before.false)), rw w.tx-is stays.now)
     ]))
 
-pub returns-in_err-write-clause-same_reference : goal.returns-in_err-write-clause-same_reference
-returns-in_err-write-clause-same_reference g c =
-    c.in_err-write.ensures.does.says.same_reference ∙ c.in_ok-fill.ensures.says.says.same_reference
+pub returns-clause-count : goal.returns-clause-count
+returns-clause-count g c = rw c.into_replies.ensures c.judge-judged.ensures.count
 
 pub returns-clause-same_reference : goal.returns-clause-same_reference
 returns-clause-same_reference g c =

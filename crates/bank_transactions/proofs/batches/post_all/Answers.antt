@@ -1,11 +1,12 @@
 -- A try that was given up, and then the batch with its look-ups.
-use Rattle.std.proofs.Common.{◌≡◌, List, arith, length, subst}
+use Rattle.std.proofs.Common.{◌≡◌, List, length, subst}
 use Rattle.std.specs.Prelude.{IfOk}
 use Rattle.sqlite.specs.Held.{state}
 use Rattle.posting_batch.specs.View.{IsMadeOf}
 use Rattle.bank_transactions.specs.believed.Answered.{AnswersAll}
 use Rattle.bank_transactions.proofs.Tries.{faults_undone, idle_again, stored_again, transacts_again}
 use Rattle.bank_transactions.proofs.Remembered.{still_fits}
+use Rattle.bank_transactions.proofs.Exits.{clean_at, handed_on}
 use Rattle.bank_transactions.proofs.batches.post_all.Goals as goal
 
 pub post_looked_up-requires-clause-remembers : goal.post_looked_up-requires-clause-remembers
@@ -23,8 +24,46 @@ post_looked_up-requires-in-Again-clause-remembers g c =
     still_fits g.S.Store c.try_new.new.conn c.try_new.new.memory c.expect_repeat.new.self c.expect_repeat.ensures.fits
     c.in_ok-replies.ensures.remembers
 
-pub returns-then-not-is_tried-clause-stored : goal.returns-then-not-is_tried-clause-stored
-returns-then-not-is_tried-clause-stored g c = c.post_looked_up.ensures.wrote
+pub post_looked_up-requires-in-Again-clause-mode : goal.post_looked_up-requires-in-Again-clause-mode
+post_looked_up-requires-in-Again-clause-mode g c = (rw c.in-Again.is at c.in_ok-replies.ensures.again).1.mode
+
+pub returns-then-not-is_tried : goal.returns-then-not-is_tried
+returns-then-not-is_tried g c =
+    let it = c.post_looked_up.ensures in record {
+      says = it.says;
+      count = it.count;
+      idle = it.idle;
+      stored = it.wrote;
+      undone = it.undone;
+      remembers = it.remembers;
+    }
+
+pub returns-in_err-replies : goal.returns-in_err-replies
+returns-in_err-replies g c =
+    let failed = c.in_err-replies.ensures in
+    rw (handed_on c.from_residual.result c.from_residual.ensures.1) (record {
+      says = failed.says;
+      count = tt;
+      idle = tt;
+      stored = tt;
+      undone = failed.undone;
+      remembers = tt;
+    })
+
+pub returns-in-Answered : goal.returns-in-Answered
+returns-in-Answered g c =
+    let tried = c.in_ok-replies.ensures in record {
+      says = rw c.in-Answered.is at tried.says;
+      count = rw c.in-Answered.is at tried.count;
+      idle = λ clean records made t shows so none.
+          absurd ((rw c.in-Answered.is at tried.busy) clean records made t shows so none);
+      stored = rw c.in-Answered.is at tried.stored;
+      undone = rw c.in-Answered.is at tried.undone;
+      remembers = tried.remembers;
+    }
+
+pub returns-in-Again-clause-remembers : goal.returns-in-Again-clause-remembers
+returns-in-Again-clause-remembers g c = c.post_looked_up-in-Again.ensures.remembers
 
 pub returns-in-Again-clause-says : goal.returns-in-Again-clause-says
 returns-in-Again-clause-says g c records made =
@@ -44,8 +83,8 @@ returns-in-Again-clause-idle g c =
     let again = rw c.in-Again.is at c.in_ok-replies.ensures.again in
     idle_again g.S.Store c.args.conn.now c.try_new.new.conn c.post_looked_up-in-Again.new.conn again.1
     (IsMadeOf c.args.batch) (IsMadeOf c.in-Again.batch) again.0.made
-    (λ records made clean. let does = c.post_looked_up-in-Again.ensures.says records made in
-    omega (arith, does.survives.clean, clean)) c.args.moment c.post_looked_up-in-Again.result
+    (λ records made. clean_at (c.post_looked_up-in-Again.ensures.says records made).survives) c.args.moment
+    c.post_looked_up-in-Again.result
     c.post_looked_up-in-Again.ensures.idle
 
 pub returns-in-Again-clause-stored : goal.returns-in-Again-clause-stored
@@ -53,8 +92,7 @@ returns-in-Again-clause-stored g c =
     let again = rw c.in-Again.is at c.in_ok-replies.ensures.again in
     stored_again g.S.Store c.args.conn.now c.try_new.new.conn c.post_looked_up-in-Again.new.conn again.1
     (IsMadeOf c.args.batch) (IsMadeOf c.in-Again.batch) again.0.made
-    (λ records made clean. let does = c.post_looked_up-in-Again.ensures.says records made in
-    omega (arith, does.survives.clean, clean))
+    (λ records made. clean_at (c.post_looked_up-in-Again.ensures.says records made).survives)
     (λ db records replies. AnswersAll db (state g.S.Store c.post_looked_up-in-Again.new.conn).now c.args.moment records
     replies.items) c.post_looked_up-in-Again.result c.post_looked_up-in-Again.ensures.wrote
 
@@ -63,6 +101,5 @@ returns-in-Again-clause-undone g c records made =
     let again = rw c.in-Again.is at c.in_ok-replies.ensures.again in
     faults_undone g.S.Store c.args.conn.now c.try_new.new.conn c.post_looked_up-in-Again.new.conn again.1
     (IsMadeOf c.args.batch) (IsMadeOf c.in-Again.batch) again.0.made
-    (λ records made clean. let does = c.post_looked_up-in-Again.ensures.says records made in
-    omega (arith, does.survives.clean, clean)) _ records made
+    (λ records made. clean_at (c.post_looked_up-in-Again.ensures.says records made).survives) _ records made
     (c.post_looked_up-in-Again.ensures.undone records (again.0.made records made))

@@ -102,15 +102,24 @@ unchanged_by : (old new : State) (table : Table) (is_understood : Bool) → Tell
 unchanged_by old new table true answers = answers.1
 unchanged_by old new table false answers = answers.1
 
-pub returns-in-Ok-Again-clause-remembers : goal.returns-in-Ok-Again-clause-remembers
-returns-in-Ok-Again-clause-remembers g c =
+pub returns-in-Ok-Again : goal.returns-in-Ok-Again
+returns-in-Ok-Again g c =
     let back : c.rollback.new.self.0 ≡ c.conn-1.given.0 = search rules in
     let left = rw back at c.rollback.ensures.survives in
     let more = c.probe_table.ensures.survives in
-    recalls_undone g.S.Store c.args.conn.now c.begin-tx.result c.answer_new-tried.new.tx c.probe_table.new.conn
-    c.answer_new-tried.new.memory c.begin-tx.ensures.begun
-    (as_before g.S.Store c.args.conn.now c.begin-tx.result c.answer_new-tried.new.tx c.conn-1.given.0
+    let before = as_before g.S.Store c.args.conn.now c.begin-tx.result c.answer_new-tried.new.tx c.conn-1.given.0
     c.probe_table.new.conn c.begin-tx.ensures.begun c.begin-tx.ensures.settled c.in-Ok-Again.ensures.quiet
     (rw back at c.rollback.ensures.undone) left (c.probe_table.ensures.mode (rw back at c.rollback.ensures.ended)) more
-    (λ clean. unchanged_by _ _ _ c.in_ok-probe_table.field-0 (c.in_ok-probe_table.ensures.answers clean)))
-    (λ clean. omega (arith, left.clean, more.clean, clean)) (rw c.in-Ok-Again.field-0-is at c.in-Ok-Again.ensures.recalls)
+    (λ clean. unchanged_by _ _ _ c.in_ok-probe_table.field-0 (c.in_ok-probe_table.ensures.answers clean)) in
+    record {
+      says = tt;
+      count = tt;
+      busy = tt;
+      stored = tt;
+      undone = tt;
+      again = (rw c.in-Ok-Again.field-0-is at c.in-Ok-Again.ensures.again, before);
+      remembers = recalls_undone g.S.Store c.args.conn.now c.begin-tx.result c.answer_new-tried.new.tx
+          c.probe_table.new.conn c.answer_new-tried.new.memory c.begin-tx.ensures.begun before
+          (λ clean. omega (arith, left.clean, more.clean, clean))
+          (rw c.in-Ok-Again.field-0-is at c.in-Ok-Again.ensures.recalls);
+    }

@@ -1,16 +1,17 @@
 -- What a balance and a floor tell.
-use Rattle.std.proofs.Common.{◌≡◌, ◌≤◌, ◌≤ℤ◌, ℕ, ℤ, true, Option, Some, None, Ok, Err, rules, refl, sym, ap, subst}
+use Rattle.std.proofs.Common.{◌≡◌, ◌≤◌, ◌≤ℤ◌, ℕ, ℤ, true, Option, Some, None, Ok, rules, refl, sym, ap, subst}
 use Rattle.std.proofs.Common.{◌∙◌, arith}
 use Rattle.std.specs.Prelude.{int_lt}
 use Rattle.std.proofs.lemmas.Int.{ints}
 use Rattle.message_records.specs.declared.limits.TheConstants.{MAX_ACCOUNT}
-use Rattle.sqlite.specs.{Effect.Database, Held.state, State.HasCleanDisk}
+use Rattle.sqlite.specs.{Effect.Database, Held.state}
 use Rattle.posting_rules.specs.believed.{Numbering.branch_of_account, LookUps.account_balance_in, LookUps.floor_in}
 use Rattle.posting_rules.specs.declared.fault.Rule.TheVariants.{Balance}
 use Rattle.store_rows.specs.believed.{Readings.read_balance, Rules.row_under, Stored.FindsStored}
 use Rattle.bank_transactions.specs.{Floors.falls_below, believed.Stored.IsStoredFloor}
 use Rattle.bank_transactions.proofs.{Broken.below_broken, FittingAccounts.is_above}
 use Rattle.bank_transactions.proofs.LookUps.{reads_broken, reads_but, reads_pair, reads_so}
+use Rattle.bank_transactions.proofs.Exits.{clean_at, handed_on}
 use Rattle.bank_transactions.proofs.floors.balance_and_floor.Goals as goal
 
 -- there are both, and the balance is below the floor
@@ -23,15 +24,21 @@ both_there (Some z) (Some lowest) below = (z, lowest, refl, refl, below)
 not_above : (balance lowest : ℤ) → int_lt balance lowest ≡ true → lowest ≤ℤ balance → ⊥
 not_above balance lowest below above = grind (arith, ints)
 
-pub returns-in_err-balance-clause-says : goal.returns-in_err-balance-clause-says
-returns-in_err-balance-clause-says g c =
-    let same : c.from_residual.result ≡ Err c.in_err-balance.field-0.0 = search rules in
-    rw same (record { says = c.in_err-balance.ensures.says.says })
+pub returns-in_err-balance : goal.returns-in_err-balance
+returns-in_err-balance g c =
+    let same = handed_on c.from_residual.result c.from_residual.ensures.1 in
+    rw same (record {
+      says = record { says = c.in_err-balance.ensures.says.says };
+      stored = tt;
+    })
 
-pub returns-in_err-floor-clause-says : goal.returns-in_err-floor-clause-says
-returns-in_err-floor-clause-says g c =
-    let same : c.from_residual-in_err-floor.result ≡ Err c.in_err-floor.field-0.0 = search rules in
-    rw same (reads_but c.in_ok-balance.ensures.says c.in_err-floor.ensures.says)
+pub returns-in_err-floor : goal.returns-in_err-floor
+returns-in_err-floor g c =
+    let same = handed_on c.from_residual-in_err-floor.result c.from_residual-in_err-floor.ensures.1 in
+    rw same (record {
+      says = reads_but c.in_ok-balance.ensures.says c.in_err-floor.ensures.says;
+      stored = tt;
+    })
 
 pub returns-clause-says : goal.returns-clause-says
 returns-clause-says g c =
@@ -39,8 +46,8 @@ returns-clause-says g c =
     reads_so (reads_pair c.in_ok-balance.ensures.says c.in_ok-floor.ensures.says)
     (λ t sound. (sound, λ answers. answers ∙ ap (λ k. (account_balance_in t c.args.account, floor_in t k)) key))
 
-pub returns-then-is_below-clause-says : goal.returns-then-is_below-clause-says
-returns-then-is_below-clause-says g c =
+pub returns-then-is_below : goal.returns-then-is_below
+returns-then-is_below g c =
     let n = c.args.account in
     let one = c.in_ok-balance.ensures in
     let two = c.in_ok-floor.ensures in
@@ -50,22 +57,23 @@ returns-then-is_below-clause-says g c =
     let some : 1 ≤ n = search rules in
     let most : n ≤ MAX_ACCOUNT = search rules in
     let db = (state g.S.Store c.args.tx.now.conn.now).now in
-    reads_broken Balance (reads_pair one.says two.says) (λ clean.
-    let before : HasCleanDisk (state g.S.Store c.open_balance.new.tx.conn.now) =
-    omega (arith, two.says.says.survives.clean, clean) in
-    below_broken db n it.0 it.1 some most
-    (λ rows has. subst (λ (b : Option ℤ). FindsStored (row_under rows.accounts n) read_balance (Ok b))
-    it.2 ((one.stored before).found rows has))
-    (subst (IsStoredFloor db (branch_of_account n)) it.3
-    (subst (λ (k : ℕ). IsStoredFloor db k c.in_ok-floor.floor) key
-    (subst (λ (d : Database). IsStoredFloor d c.branch_of_account.result c.in_ok-floor.floor)
-    (one.says.says.leaves before).0.now (two.stored clean))))
-    (not_above it.0 it.1 it.4))
+    record {
+      says = reads_broken Balance (reads_pair one.says two.says) (λ clean.
+          let before = clean_at two.says.says.survives clean in
+          below_broken db n it.0 it.1 some most
+          (λ rows has. subst (λ (b : Option ℤ). FindsStored (row_under rows.accounts n) read_balance (Ok b))
+          it.2 ((one.stored before).found rows has))
+          (subst (IsStoredFloor db (branch_of_account n)) it.3
+          (subst (λ (k : ℕ). IsStoredFloor db k c.in_ok-floor.floor) key
+          (subst (λ (d : Database). IsStoredFloor d c.branch_of_account.result c.in_ok-floor.floor)
+          (one.says.says.leaves before).0.now (two.stored clean))))
+          (not_above it.0 it.1 it.4));
+      stored = tt;
+    }
 
 pub returns-clause-stored : goal.returns-clause-stored
 returns-clause-stored g c clean =
-    let before : HasCleanDisk (state g.S.Store c.open_balance.new.tx.conn.now) =
-    omega (arith, c.in_ok-floor.ensures.says.says.survives.clean, clean) in
+    let before = clean_at c.in_ok-floor.ensures.says.says.survives clean in
     let still = (c.in_ok-balance.ensures.says.says.leaves before).0.now in
     let stored = c.in_ok-balance.ensures.stored before in
     let floor = subst (λ (k : ℕ). IsStoredFloor (state g.S.Store c.args.tx.now.conn.now).now k c.in_ok-floor.floor)

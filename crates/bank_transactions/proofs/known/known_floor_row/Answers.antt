@@ -1,5 +1,5 @@
 -- What is remembered is what a look-up would find.
-use Rattle.std.proofs.Common.{Ok, rules, subst}
+use Rattle.std.proofs.Common.{Err, Ok, subst}
 use Rattle.std.specs.Prelude.{IfSome}
 use Rattle.store_rows.specs.{Lying.FloorLies, believed.Rules.row_under}
 use Rattle.store_rows.specs.believed.Readings.{read_floor}
@@ -7,12 +7,13 @@ use Rattle.store_rows.specs.believed.BankTables as bank
 use Rattle.store_rows.proofs.LyingFound.{finds_floor}
 use Rattle.bank_transactions.proofs.{ReadsInTurn.recalls, Remembered.looks_known, Remembered.noted_look}
 use Rattle.bank_transactions.proofs.Fitting.{leaves_same}
+use Rattle.bank_transactions.proofs.Exits.{handed_on, survives_itself}
 use Rattle.bank_transactions.proofs.known.known_floor_row.Goals as goal
 
 pub returns-in-Some-clause-recalls : goal.returns-in-Some-clause-recalls
 returns-in-Some-clause-recalls g c =
     looks_known c.args.memory.now (λ rows. row_under rows.floors c.args.branch) read_floor c.in-Some.row (λ db found. FloorLies c.args.branch db found)
-    (search rules)
+    (survives_itself _)
     (λ db fits. subst (λ o. IfSome o (FloorLies c.args.branch db)) c.in-Some.is (c.floor_row.ensures.lies db fits))
     (λ db rows has lies. finds_floor db rows has c.args.branch c.in-Some.row lies) c.requires
 
@@ -24,3 +25,20 @@ pub returns-clause-remembers : goal.returns-clause-remembers
 returns-clause-remembers g c =
     noted_look c.in_ok-row.row c.args.memory.now c.note_floor.new.self (λ db found. FloorLies c.args.branch db found) c.in_ok-row.ensures.looks_up c.in_ok-row.ensures.lies
     (λ db file. c.note_floor.ensures.fits db db (leaves_same bank.floor c.args.branch db file)) c.requires
+
+pub returns-in_err-row-clause-recalls : goal.returns-in_err-row-clause-recalls
+returns-in_err-row-clause-recalls g c =
+    rw (handed_on c.from_residual.result c.from_residual.ensures.1) (recalls g.S.Store c.args.tx.now c.find_floor.new.tx
+    (λ rows. row_under rows.floors c.args.branch) read_floor (Err c.in_err-row.field-0.0) c.in_err-row.ensures.looks_up)
+
+pub returns-in_err-row-clause-within : goal.returns-in_err-row-clause-within
+returns-in_err-row-clause-within g c = rw (handed_on c.from_residual.result c.from_residual.ensures.1) tt
+
+pub returns-in_err-row-clause-noted : goal.returns-in_err-row-clause-noted
+returns-in_err-row-clause-noted g c = rw (handed_on c.from_residual.result c.from_residual.ensures.1) tt
+
+pub returns-in_err-row-clause-remembers : goal.returns-in_err-row-clause-remembers
+returns-in_err-row-clause-remembers g c = rw (handed_on c.from_residual.result c.from_residual.ensures.1) tt
+
+pub returns-in-Some-clause-remembers : goal.returns-in-Some-clause-remembers
+returns-in-Some-clause-remembers g c = c.requires

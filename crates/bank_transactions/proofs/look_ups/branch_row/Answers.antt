@@ -1,5 +1,5 @@
 -- The row that was found is the branch's, or it is of no bank's table.
-use Rattle.std.proofs.Common.{◌≡◌, ℕ, Option, Some, None, Bool, false, true, Ok, Err, pos, rules, sym, ◌∙◌}
+use Rattle.std.proofs.Common.{◌≡◌, ℕ, Option, Some, None, Bool, false, true, Ok, pos, sym, ◌∙◌}
 use Rattle.std.specs.Prelude.{IfSome}
 use Rattle.posting_rules.specs.declared.{fault.Rule.TheVariants.Value, rows.BranchRow.BranchRow}
 use Rattle.sql_meanings.specs.believed.Entries.{has_key}
@@ -8,6 +8,7 @@ use Rattle.store_rows.specs.believed.Stored.{FindsStored}
 use Rattle.bank_transactions.proofs.{Broken.branch_broken, LookUps.reads_broken, OwnRows.its_number}
 use Rattle.bank_transactions.proofs.ReadsInTurn.{recall_failed, recall_tells}
 use Rattle.bank_transactions.proofs.SoundRows.{branch_found}
+use Rattle.bank_transactions.proofs.Exits.{handed_on}
 use Rattle.bank_transactions.proofs.look_ups.branch_row.Goals as goal
 
 -- a bank's table has no other row there
@@ -18,7 +19,7 @@ its_row rows n (Some b) finds = its_number rows n b finds
 
 pub returns-in_err-row-clause-says : goal.returns-in_err-row-clause-says
 returns-in_err-row-clause-says g c =
-    let same : c.from_residual.result ≡ Err c.in_err-row.field-0.0 = search rules in
+    let same = handed_on c.from_residual.result c.from_residual.ensures.1 in
     rw same (recall_failed (λ rows. row_under rows.branches c.args.branch) read_branch
     (branch_broken _ (has_key (pos c.args.branch)) _) c.in_err-row.ensures.recalls)
 
@@ -39,6 +40,12 @@ pub returns-then-not-is_its-clause-stored : goal.returns-then-not-is_its-clause-
 returns-then-not-is_its-clause-stored g c clean rows has =
     absurd (no_bank c.args.branch c.in_ok-row.row c.is_its.result c.is_its.ensures.1 c.if-not-is_its.true
     rows (c.in_ok-row.ensures.recalls.answers clean rows has))
+
+pub returns-then-not-is_its-clause-own : goal.returns-then-not-is_its-clause-own
+returns-then-not-is_its-clause-own g c = tt
+
+pub returns-then-not-is_its-clause-remembers : goal.returns-then-not-is_its-clause-remembers
+returns-then-not-is_its-clause-remembers g c = tt
 
 pub returns-clause-says : goal.returns-clause-says
 returns-clause-says g c =

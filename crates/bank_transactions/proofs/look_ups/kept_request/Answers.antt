@@ -1,7 +1,7 @@
 -- What the row of a kept request tells, and the row of its reference.
-use Rattle.std.proofs.Common.{◌≡◌, ℕ, pos, find, List, Option, Ok, Err, Some, rules, arith, refl, sym, ap, subst, ◌∙◌}
+use Rattle.std.proofs.Common.{◌≡◌, ℕ, pos, find, List, Option, Ok, Some, refl, sym, ap, subst, ◌∙◌}
 use Rattle.std.specs.Prelude.{option_map}
-use Rattle.sqlite.specs.{Effect.Database, Held.state, State.HasCleanDisk}
+use Rattle.sqlite.specs.{Effect.Database, Held.state}
 use Rattle.posting_rules.specs.believed.{Kept.KeptFields, Kept.kept_with, LookUps.kept_of_row}
 use Rattle.posting_rules.specs.declared.rows.RequestRow.{RequestRow}
 use Rattle.sql_meanings.specs.believed.Entries.{has_two}
@@ -12,13 +12,18 @@ use Rattle.bank_transactions.specs.believed.Stored.{HoldsKept, HoldsReference, S
 use Rattle.bank_transactions.proofs.{Broken.request_broken, SoundRows.request_found}
 use Rattle.bank_transactions.proofs.LookUps.{looked_at, reads_both, reads_but}
 use Rattle.bank_transactions.proofs.ReadsInTurn.{find_failed, find_tells}
+use Rattle.bank_transactions.proofs.Exits.{clean_at, handed_on}
 use Rattle.bank_transactions.proofs.look_ups.kept_request.Goals as goal
 
-pub returns-in_err-row-clause-says : goal.returns-in_err-row-clause-says
-returns-in_err-row-clause-says g c =
-    let same : c.from_residual.result ≡ Err c.in_err-row.field-0.0 = search rules in
-    rw same (find_failed (λ rows. find (has_two (pos c.args.teller) (pos c.args.number)) rows.requests) read_request
-    (request_broken _ c.args.teller c.args.number _) c.in_err-row.ensures.says)
+pub returns-in_err-row : goal.returns-in_err-row
+returns-in_err-row g c =
+    let same = handed_on c.from_residual.result c.from_residual.ensures.1 in
+    rw same (record {
+      says = find_failed (λ rows. find (has_two (pos c.args.teller) (pos c.args.number)) rows.requests) read_request
+          (request_broken _ c.args.teller c.args.number _) c.in_err-row.ensures.says;
+      stored = tt;
+      shown = tt;
+    })
 
 pub returns-in_default-clause-says : goal.returns-in_default-clause-says
 returns-in_default-clause-says g c =
@@ -27,10 +32,14 @@ returns-in_default-clause-says g c =
     (λ t sound finds. ap (option_map (kept_of_row t.references))
     (sym c.in_default.is ∙ request_found t c.args.teller c.args.number sound _ finds))
 
-pub returns-in_err-reference-clause-says : goal.returns-in_err-reference-clause-says
-returns-in_err-reference-clause-says g c =
-    let same : c.from_residual-in_err-reference.result ≡ Err c.in_err-reference.field-0.0 = search rules in
-    rw same (reads_but (looked_at c.in_ok-row.ensures.says) c.in_err-reference.ensures.says)
+pub returns-in_err-reference : goal.returns-in_err-reference
+returns-in_err-reference g c =
+    let same = handed_on c.from_residual-in_err-reference.result c.from_residual-in_err-reference.ensures.1 in
+    rw same (record {
+      says = reads_but (looked_at c.in_ok-row.ensures.says) c.in_err-reference.ensures.says;
+      stored = tt;
+      shown = tt;
+    })
 
 pub returns-clause-says : goal.returns-clause-says
 returns-clause-says g c =
@@ -51,8 +60,7 @@ kept_held rows teller number row reference found held = (found.0, row, found.1, 
 
 pub returns-clause-stored : goal.returns-clause-stored
 returns-clause-stored g c clean rows has =
-    let mid : HasCleanDisk (state g.S.Store c.find_request.new.tx.conn.now) =
-    omega (arith, c.in_ok-reference.ensures.says.says.survives.clean, clean) in
+    let mid = clean_at c.in_ok-reference.ensures.says.says.survives clean in
     let found = rw c.in-Some.is at ((c.in_ok-row.ensures.says.answers mid rows has).0) in
     let there = subst (λ (db : Database). HoldsBank db rows) (sym (c.in_ok-row.ensures.says.leaves mid).0.now_is) has in
     subst (λ (kept : KeptFields). HoldsKept rows c.args.teller c.args.number (Some kept))
@@ -74,8 +82,7 @@ kept_shown old mid teller number row reference same first second =
 
 pub returns-clause-shown : goal.returns-clause-shown
 returns-clause-shown g c clean =
-    let mid : HasCleanDisk (state g.S.Store c.find_request.new.tx.conn.now) =
-    omega (arith, c.in_ok-reference.ensures.says.says.survives.clean, clean) in
+    let mid = clean_at c.in_ok-reference.ensures.says.says.survives clean in
     let old = (state g.S.Store c.args.tx.now.conn.now).now in
     subst (λ (kept : KeptFields). ShowsKept old c.args.teller c.args.number (Some kept))
     (sym c.kept_with.ensures)

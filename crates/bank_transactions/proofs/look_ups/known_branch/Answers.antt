@@ -10,11 +10,13 @@ use Rattle.std.proofs.lemmas.Result.{IfOk-weaker}
 use Rattle.bank_transactions.specs.{Doing.Reads, Filling.IsRowOf}
 use Rattle.bank_transactions.proofs.LookUps.{reads_none}
 use Rattle.bank_transactions.proofs.SoundRows.{no_branch_beyond}
+use Rattle.bank_transactions.proofs.Exits.{survives_itself}
 use Rattle.bank_transactions.proofs.look_ups.known_branch.Goals as goal
 
 pub returns-in-None-clause-says : goal.returns-in-None-clause-says
 returns-in-None-clause-says g c =
-    reads_none (search rules) (λ t sound. no_branch_beyond t c.args.number sound (sym c.new.ensures ∙ c.in-None.is))
+    reads_none (survives_itself _) (λ t sound. no_branch_beyond t c.args.number sound (sym c.new.ensures ∙
+    c.in-None.is))
 
 pub returns-in-Some-clause-says : goal.returns-in-Some-clause-says
 returns-in-Some-clause-says g c =

@@ -1,6 +1,6 @@
 -- What the balance of an account tells.
-use Rattle.std.proofs.Common.{◌≡◌, ◌≤◌, ℕ, Ok, Err, rules, sym, subst, arith}
-use Rattle.sqlite.specs.{Effect.Database, Held.state, State.HasCleanDisk}
+use Rattle.std.proofs.Common.{◌≤◌, ℕ, Ok, rules, sym, subst}
+use Rattle.sqlite.specs.{Effect.Database, Held.state}
 use Rattle.store_rows.specs.believed.{Readings.read_branch, Rules.HoldsBank, Rules.branch_under, Stored.FindsStored}
 use Rattle.message_records.specs.declared.limits.TheConstants.{MAX_ACCOUNT}
 use Rattle.posting_rules.specs.declared.fault.Rule.TheVariants as broken
@@ -10,12 +10,16 @@ use Rattle.bank_transactions.proofs.LookUps.{looked_at, reads_both, reads_broken
 use Rattle.bank_transactions.proofs.ReadsInTurn.{balance_failed, find_tells}
 use Rattle.bank_transactions.proofs.SoundRows.{member_found}
 use Rattle.store_rows.specs.declared.holders.Member.TheVariants.{Account}
+use Rattle.bank_transactions.proofs.Exits.{clean_at, handed_on}
 use Rattle.bank_transactions.proofs.look_ups.open_balance.Goals as goal
 
-pub returns-in_err-balance-clause-says : goal.returns-in_err-balance-clause-says
-returns-in_err-balance-clause-says g c =
-    let same : c.from_residual.result ≡ Err c.in_err-balance.field-0.0 = search rules in
-    rw same (balance_failed (Account c.args.account) c.in_err-balance.ensures.looks_up)
+pub returns-in_err-balance : goal.returns-in_err-balance
+returns-in_err-balance g c =
+    let same = handed_on c.from_residual.result c.from_residual.ensures.1 in
+    rw same (record {
+      says = balance_failed (Account c.args.account) c.in_err-balance.ensures.looks_up;
+      stored = tt;
+    })
 
 pub returns-then-is_some-is_open-clause-says : goal.returns-then-is_some-is_open-clause-says
 returns-then-is_some-is_open-clause-says g c =
@@ -25,8 +29,7 @@ returns-then-is_some-is_open-clause-says g c =
     reads_broken broken.Account (reads_pair (find_tells (entry_under (Account n)) read_balance c.in_ok-balance.balance
     c.in_ok-balance.ensures.looks_up (λ t sound finds. member_found (Account n) t sound c.in_ok-balance.balance finds))
     c.in_ok-branch.ensures.says) (λ clean rows has keeps.
-    let mid : HasCleanDisk (state g.S.Store c.balance_of.new.tx.conn.now) =
-    omega (arith, c.in_ok-branch.ensures.says.says.survives.clean, clean) in
+    let mid = clean_at c.in_ok-branch.ensures.says.says.survives clean in
     let there : HoldsBank (state g.S.Store c.balance_of.new.tx.conn.now).now rows =
     subst (λ (db : Database). HoldsBank db rows) (sym (c.in_ok-balance.ensures.looks_up.leaves mid).0.now_is) has in
     let branch =
@@ -46,15 +49,17 @@ returns-clause-says g c =
 pub returns-then-is_some-is_open-clause-stored : goal.returns-then-is_some-is_open-clause-stored
 returns-then-is_some-is_open-clause-stored g c = tt
 
-pub returns-in_err-branch-clause-says : goal.returns-in_err-branch-clause-says
-returns-in_err-branch-clause-says g c =
-    let same : c.from_residual-in_err-branch.result ≡ Err c.in_err-branch.field-0.0 = search rules in
-    rw same (reads_but (looked_at c.in_ok-balance.ensures.looks_up) c.in_err-branch.ensures.says)
+pub returns-in_err-branch : goal.returns-in_err-branch
+returns-in_err-branch g c =
+    let same = handed_on c.from_residual-in_err-branch.result c.from_residual-in_err-branch.ensures.1 in
+    rw same (record {
+      says = reads_but (looked_at c.in_ok-balance.ensures.looks_up) c.in_err-branch.ensures.says;
+      stored = tt;
+    })
 
 pub returns-clause-stored : goal.returns-clause-stored
 returns-clause-stored g c clean =
-    let mid : HasCleanDisk (state g.S.Store c.balance_of.new.tx.conn.now) =
-    omega (arith, c.in_ok-branch.ensures.says.says.survives.clean, clean) in
+    let mid = clean_at c.in_ok-branch.ensures.says.says.survives clean in
     let looked = c.in_ok-balance.ensures.looks_up.answers mid in
     let still = (c.in_ok-balance.ensures.looks_up.leaves mid).0.now_is in
     record {

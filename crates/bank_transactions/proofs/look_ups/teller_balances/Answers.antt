@@ -1,7 +1,7 @@
 -- What the balance of a teller tells.
-use Rattle.std.proofs.Common.{◌≡◌, ◌≤◌, ℕ, ℤ, Option, Some, None, Ok, Err, rules, refl, sym, subst, arith}
+use Rattle.std.proofs.Common.{◌≡◌, ◌≤◌, ℕ, ℤ, Option, Some, None, Ok, rules, refl, sym, subst}
 use Rattle.std.specs.Prelude.{is_some, option_map}
-use Rattle.sqlite.specs.{Effect.Database, Held.state, State.HasCleanDisk}
+use Rattle.sqlite.specs.Effect.{Database}
 use Rattle.posting_rules.specs.believed.{LookUps.balance_of_branch, LookUps.both_of, Numbering.branch_of_teller}
 use Rattle.posting_rules.specs.declared.rows.BranchRow.{BranchRow}
 use Rattle.store_rows.specs.believed.{Readings.read_balance, Stored.FindsStored}
@@ -13,6 +13,7 @@ use Rattle.bank_transactions.proofs.{HeldRows.both_held, HeldRows.teller_held, L
 use Rattle.bank_transactions.proofs.ReadsInTurn.{balance_failed, one_alone, teller_alone, teller_told}
 use Rattle.bank_transactions.proofs.look_ups.teller_balances.Goals.{in_default-via-in-Some+in_default}
 use Rattle.bank_transactions.proofs.look_ups.teller_balances.Goals.{in_default-via-in-None+in_default}
+use Rattle.bank_transactions.proofs.Exits.{clean_at, handed_on}
 use Rattle.bank_transactions.proofs.look_ups.teller_balances.Goals as goal
 
 -- what was found of a teller, and then of the branch of its number, in a database that stayed as it was
@@ -37,10 +38,13 @@ module _ (old mid : Database) (n number : ℕ) (is : number ≡ branch_of_teller
       held : (rows : StoredRows) → HoldsBank old rows → HoldsTellerRow rows n x
       held rows has = teller_held rows n x row (teller rows has) (there rows has) alike
 
-pub returns-in_err-balance-clause-says : goal.returns-in_err-balance-clause-says
-returns-in_err-balance-clause-says g c =
-    let same : c.from_residual.result ≡ Err c.in_err-balance.field-0.0 = search rules in
-    rw same (balance_failed (member.Teller c.args.teller) c.in_err-balance.ensures.looks_up)
+pub returns-in_err-balance : goal.returns-in_err-balance
+returns-in_err-balance g c =
+    let same = handed_on c.from_residual.result c.from_residual.ensures.1 in
+    rw same (record {
+      says = balance_failed (member.Teller c.args.teller) c.in_err-balance.ensures.looks_up;
+      stored = tt;
+    })
 
 pub returns-in-Some-Some-clause-says : goal.returns-in-Some-Some-clause-says
 returns-in-Some-Some-clause-says g c =
@@ -54,28 +58,34 @@ returns-in-None-None-clause-says g c =
     (teller_told c.args.teller c.branch_of_teller.result c.in_ok-balance.balance c.branch_of_teller.ensures c.in_ok-balance.ensures.looks_up
     c.in_ok-branch.ensures.says)
 
-pub returns-in_default-clause-says : goal.returns-in_default-clause-says
-returns-in_default-clause-says g c =
+pub returns-in_default : goal.returns-in_default
+returns-in_default g c =
     let above : 1 ≤ c.args.teller = search rules in
     let most : c.args.teller ≤ MAX_TELLER = search rules in
-    teller_alone c.args.teller c.branch_of_teller.result c.in_ok-balance.balance c.branch_of_teller.ensures c.in_ok-balance.ensures.looks_up
-    c.in_ok-branch.ensures.says above most c.in_ok-branch.ensures.stored (λ alike.
-    elim c.in_default.branch [
-      | in_default-via-in-Some+in_default w ↦ one_alone _ _ _ w.in_default.is-0 w.in_default.is-1 alike
-      | in_default-via-in-None+in_default w ↦ one_alone _ _ _ w.in_default.is-1 w.in_default.is-0 (sym alike)
-    ])
+    record {
+      says = teller_alone c.args.teller c.branch_of_teller.result c.in_ok-balance.balance c.branch_of_teller.ensures
+          c.in_ok-balance.ensures.looks_up
+          c.in_ok-branch.ensures.says above most c.in_ok-branch.ensures.stored (λ alike.
+          elim c.in_default.branch [
+            | in_default-via-in-Some+in_default w ↦ one_alone _ _ _ w.in_default.is-0 w.in_default.is-1 alike
+            | in_default-via-in-None+in_default w ↦ one_alone _ _ _ w.in_default.is-1 w.in_default.is-0 (sym alike)
+          ]);
+      stored = tt;
+    }
 
-pub returns-in_err-branch-clause-says : goal.returns-in_err-branch-clause-says
-returns-in_err-branch-clause-says g c =
-    let same : c.from_residual-in_err-branch.result ≡ Err c.in_err-branch.field-0.0 = search rules in
-    rw same (reads_but (looked_at c.in_ok-balance.ensures.looks_up) c.in_err-branch.ensures.says)
+pub returns-in_err-branch : goal.returns-in_err-branch
+returns-in_err-branch g c =
+    let same = handed_on c.from_residual-in_err-branch.result c.from_residual-in_err-branch.ensures.1 in
+    rw same (record {
+      says = reads_but (looked_at c.in_ok-balance.ensures.looks_up) c.in_err-branch.ensures.says;
+      stored = tt;
+    })
 
 -- ---- of the stored rows
 
 pub returns-in-Some-Some-clause-stored : goal.returns-in-Some-Some-clause-stored
 returns-in-Some-Some-clause-stored g c clean =
-    let mid : HasCleanDisk (state g.S.Store c.balance_of.new.tx.conn.now) =
-    omega (arith, c.in_ok-branch.ensures.says.says.survives.clean, clean) in
+    let mid = clean_at c.in_ok-branch.ensures.says.says.survives clean in
     let teller = rw c.in-Some-Some.is-0 at (c.in_ok-balance.ensures.looks_up.answers mid) in
     let branch = rw c.in-Some-Some.is-1 at (c.in_ok-branch.ensures.stored clean) in
     stored _ _ c.args.teller c.branch_of_teller.result c.branch_of_teller.ensures
@@ -84,8 +94,7 @@ returns-in-Some-Some-clause-stored g c clean =
 
 pub returns-in-None-None-clause-stored : goal.returns-in-None-None-clause-stored
 returns-in-None-None-clause-stored g c clean =
-    let mid : HasCleanDisk (state g.S.Store c.balance_of.new.tx.conn.now) =
-    omega (arith, c.in_ok-branch.ensures.says.says.survives.clean, clean) in
+    let mid = clean_at c.in_ok-branch.ensures.says.says.survives clean in
     let teller = rw c.in-None-None.is-0 at (c.in_ok-balance.ensures.looks_up.answers mid) in
     let branch = rw c.in-None-None.is-1 at (c.in_ok-branch.ensures.stored clean) in
     stored _ _ c.args.teller c.branch_of_teller.result c.branch_of_teller.ensures

@@ -1,5 +1,5 @@
 -- A branch, then its tellers, then its accounts.
-use Rattle.std.proofs.Common.{◌≡◌, ◌+◌, ◌<◌, ℕ, ℤ, None, Ok, Err, Result, false, rules, refl, ap, subst, inl}
+use Rattle.std.proofs.Common.{◌≡◌, ◌+◌, ◌<◌, ℕ, ℤ, None, Ok, Result, false, refl, ap, subst, inl}
 use Rattle.std.proofs.Common.{inr}
 use Rattle.std.specs.Prelude.{is_some, pos}
 use Rattle.sqlite.specs.declared.transaction.Transaction.{Transaction}
@@ -18,6 +18,7 @@ use Rattle.bank_transactions.proofs.Chained.{does_adds, does_then, does_err, doe
 use Rattle.bank_transactions.proofs.OpeningRows.{opened_is, next_teller, next_account}
 use Rattle.bank_transactions.proofs.Statements.{does_add}
 use Rattle.bank_transactions.proofs.Left.{leaves_add, leaves_err, leaves_for, leaves_then}
+use Rattle.bank_transactions.proofs.Exits.{handed_on}
 use Rattle.bank_transactions.proofs.new_branch.add_branch_with_rows.Goals as goal
 
 -- a branch that isn't open
@@ -61,7 +62,7 @@ module _ (b count : ℕ) where
 
 pub returns-in_err-add_branch-clause-does : goal.returns-in_err-add_branch-clause-does
 returns-in_err-add_branch-clause-does g c =
-    let same : c.from_residual.result ≡ Err c.in_err-add_branch.field-0.0 = search rules in
+    let same = handed_on c.from_residual.result c.from_residual.ensures.1 in
     rw same (does_err (put c.args.branch c.args.count c.zero.result c.zero.ensures
     c.in_err-add_branch.ensures) (λ t new. new))
 
@@ -69,7 +70,7 @@ pub returns-in_err-add_rows-clause-does : goal.returns-in_err-add_rows-clause-do
 returns-in_err-add_rows-clause-does g c =
     let b = c.args.branch in
     let teller = c.first_teller-teller in
-    let same : c.from_residual-in_err-add_rows.result ≡ Err c.in_err-add_rows.field-0.0 = search rules in
+    let same = handed_on c.from_residual-in_err-add_rows.result c.from_residual-in_err-add_rows.ensures.1 in
     let first = put b c.args.count c.zero.result c.zero.ensures c.in_ok-add_branch.ensures in
     rw same (does_err (staff b c.args.count teller.result teller.ensures.value first
     c.in_err-add_rows.ensures.does) (λ t new. new))
@@ -98,12 +99,12 @@ returns-clause-does g c =
 
 pub returns-in_err-add_branch-clause-leaves : goal.returns-in_err-add_branch-clause-leaves
 returns-in_err-add_branch-clause-leaves g c =
-    let same : c.from_residual.result ≡ Err c.in_err-add_branch.field-0.0 = search rules in
+    let same = handed_on c.from_residual.result c.from_residual.ensures.1 in
     rw same leaves_err
 
 pub returns-in_err-add_rows-clause-leaves : goal.returns-in_err-add_rows-clause-leaves
 returns-in_err-add_rows-clause-leaves g c =
-    let same : c.from_residual-in_err-add_rows.result ≡ Err c.in_err-add_rows.field-0.0 = search rules in
+    let same = handed_on c.from_residual-in_err-add_rows.result c.from_residual-in_err-add_rows.ensures.1 in
     rw same leaves_err
 
 module _ (b count : ℕ) {S : Type 0} {g : Ghosts S} {x y : Transaction S} where

@@ -1,16 +1,21 @@
 -- The row of the floor, where there is one.
-use Rattle.std.proofs.Common.{◌≡◌, None, ap, rules, refl}
+use Rattle.std.proofs.Common.{◌≡◌, None, ap, refl}
 use Rattle.std.specs.Prelude.{is_some, Some}
 use Rattle.posting_rules.specs.believed.{Changes.with_floor, Tables.row_at, Tables.floor_key}
 use Rattle.posting_rules.proofs.ChangesByKey.{no_floor_more}
 use Rattle.store_rows.specs.believed.{BankTables.floor, SeveralRows.given, View.floor_entry, Inserts.floor_insert}
 use Rattle.bank_transactions.proofs.{Chained.does_for, Chained.does_none, Statements.does_add}
 use Rattle.bank_transactions.proofs.Left.{leaves_add, leaves_for, leaves_none}
+use Rattle.bank_transactions.proofs.Exits.{survives_itself}
 use Rattle.bank_transactions.proofs.new_branch.add_its_floor.Goals as goal
 
 pub returns-in_default-clause-does : goal.returns-in_default-clause-does
 returns-in_default-clause-does g c =
-    rw c.in_default.is (does_for (does_none (search rules)) (λ t free. (free, no_floor_more c.args.branch t, refl)))
+    rw c.in_default.is (does_for (does_none (survives_itself _)) (λ t free. (
+      free,
+      no_floor_more c.args.branch t,
+      refl,
+    )))
 
 pub returns-clause-does : goal.returns-clause-does
 returns-clause-does g c =

@@ -1,13 +1,14 @@
 -- One row more.
-use Rattle.std.proofs.Common.{◌≡◌, ◌+◌, ◌<◌, ℕ, add-one, Err, Ok, false, rules, sym, subst, arith}
+use Rattle.std.proofs.Common.{◌≡◌, ◌+◌, ◌<◌, ℕ, add-one, Ok, false, sym, subst, arith}
 use Rattle.bank_transactions.specs.{believed.Additions.AddsRange, Doing.Does, Doing.Leaves}
 use Rattle.bank_transactions.specs.NewRows.{is_taken, with_new_rows}
 use Rattle.bank_transactions.proofs.Chained.{does_adds, does_none, does_then, does_err}
 use Rattle.bank_transactions.proofs.Left.{leaves_err, leaves_none, leaves_then}
+use Rattle.bank_transactions.proofs.Exits.{handed_on, survives_itself}
 use Rattle.bank_transactions.proofs.new_branch.add_rows.Goals as goal
 
 pub loop-place-init : goal.loop-place-init
-loop-place-init g c = record { does = does_none (search rules); leaves = leaves_none }
+loop-place-init g c = record { does = does_none (survives_itself _); leaves = leaves_none }
 
 pub loop-place-preserved : goal.loop-place-preserved
 loop-place-preserved g c =
@@ -35,7 +36,7 @@ loop-place-preserved g c =
 pub returns-in_err-add_new-clause-does : goal.returns-in_err-add_new-clause-does
 returns-in_err-add_new-clause-does g c =
     let lt : c.loop-place.place < c.args.count = omega arith in
-    let same : c.from_residual.result ≡ Err c.in_err-add_new.field-0.0 = search rules in
+    let same = handed_on c.from_residual.result c.from_residual.ensures.1 in
     rw same (does_err
     (does_then c.loop-place.invariant.does
     (does_adds (λ clean text values own. (c.loop-place.place, lt, own)) c.in_err-add_new.ensures.does)
@@ -44,5 +45,12 @@ returns-in_err-add_new-clause-does g c =
 
 pub returns-in_err-add_new-clause-leaves : goal.returns-in_err-add_new-clause-leaves
 returns-in_err-add_new-clause-leaves g c =
-    let same : c.from_residual.result ≡ Err c.in_err-add_new.field-0.0 = search rules in
+    let same = handed_on c.from_residual.result c.from_residual.ensures.1 in
     rw same leaves_err
+
+pub returns : goal.returns
+returns g c =
+    let at_end : c.loop-place.place ≡ c.args.count = omega arith in record {
+      does = rw at_end at c.loop-place.invariant.does;
+      leaves = rw at_end at c.loop-place.invariant.leaves;
+    }

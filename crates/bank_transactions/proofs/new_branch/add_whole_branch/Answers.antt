@@ -1,5 +1,5 @@
 -- A branch with its rows, then its floor.
-use Rattle.std.proofs.Common.{◌≡◌, ℕ, ℤ, List, Option, Err, None, rules, refl, inl, inr}
+use Rattle.std.proofs.Common.{ℕ, ℤ, List, Option, None, refl, inl, inr}
 use Rattle.sqlite.specs.Order.{Row}
 use Rattle.bank_transactions.specs.believed.Additions.{AddsBranch}
 use Rattle.posting_rules.specs.believed.{Commands.opened_with, Tables.Tables}
@@ -7,6 +7,7 @@ use Rattle.bank_transactions.specs.believed.Openings.{HasRoomToOpen}
 use Rattle.bank_transactions.proofs.OpeningRows.{floor_apart}
 use Rattle.bank_transactions.proofs.Chained.{does_adds, does_err, does_for, does_then}
 use Rattle.bank_transactions.proofs.Left.{leaves_err, leaves_then}
+use Rattle.bank_transactions.proofs.Exits.{handed_on}
 use Rattle.bank_transactions.proofs.new_branch.add_whole_branch.Goals as goal
 
 -- where there is room with a floor there is without one
@@ -24,7 +25,7 @@ with_its_floor b count floor text values (inr (inr (inr none))) = absurd (let is
 
 pub returns-in_err-add_branch_with_rows-clause-does : goal.returns-in_err-add_branch_with_rows-clause-does
 returns-in_err-add_branch_with_rows-clause-does g c =
-    let same : c.from_residual.result ≡ Err c.in_err-add_branch_with_rows.field-0.0 = search rules in
+    let same = handed_on c.from_residual.result c.from_residual.ensures.1 in
     rw same (does_err (does_adds (λ clean. with_its_floor c.args.branch c.args.count c.args.floor)
     c.in_err-add_branch_with_rows.ensures.does) (λ t new. (without_floor _ _ _ t new.0, new.1)))
 
@@ -41,7 +42,7 @@ returns-clause-does g c =
 
 pub returns-in_err-add_branch_with_rows-clause-leaves : goal.returns-in_err-add_branch_with_rows-clause-leaves
 returns-in_err-add_branch_with_rows-clause-leaves g c =
-    let same : c.from_residual.result ≡ Err c.in_err-add_branch_with_rows.field-0.0 = search rules in
+    let same = handed_on c.from_residual.result c.from_residual.ensures.1 in
     rw same leaves_err
 
 pub returns-clause-leaves : goal.returns-clause-leaves

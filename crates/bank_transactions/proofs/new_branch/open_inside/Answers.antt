@@ -17,6 +17,7 @@ use Rattle.sqlite.specs.declared.transaction.Transaction.{Transaction}
 use Rattle.sqlite_trees.specs.declared.store.Store.{Ghosts}
 use Rattle.sqlite.specs.{Effect.Database, Held.state, State.HasCleanDisk}
 use Rattle.store_rows.specs.believed.View.{Shows}
+use Rattle.bank_transactions.proofs.Exits.{clean_at, handed_on}
 use Rattle.bank_transactions.proofs.new_branch.open_inside.Goals as goal
 
 -- a branch that is open stays as it is
@@ -46,10 +47,13 @@ looked {g = g} {old = old} b terms opening low high reads stored = finds_so read
     it.is ∙ ap (λ (f : Option Terms). opening_for f terms)
     (shown_terms (state g old.conn.now).now t b low high it.first shows it.stored))
 
-pub returns-in_err-opening-clause-acts : goal.returns-in_err-opening-clause-acts
-returns-in_err-opening-clause-acts g c =
-    let same : c.from_residual.result ≡ Err c.in_err-opening.field-0.0 = search rules in
-    rw same (acts_read (does_fail c.in_err-opening.ensures.says))
+pub returns-in_err-opening : goal.returns-in_err-opening
+returns-in_err-opening g c =
+    let same = handed_on c.from_residual.result c.from_residual.ensures.1 in
+    rw same (record {
+      acts = acts_read (does_fail c.in_err-opening.ensures.says);
+      stored = tt;
+    })
 
 pub returns-in_default-clause-acts : goal.returns-in_default-clause-acts
 returns-in_default-clause-acts g c =
@@ -66,18 +70,22 @@ returns-in_default-clause-acts g c =
       ),
     )))
 
-pub returns-in_err-add_whole_branch-in-Opened-clause-acts : goal.returns-in_err-add_whole_branch-in-Opened-clause-acts
-returns-in_err-add_whole_branch-in-Opened-clause-acts g c =
+pub returns-in_err-add_whole_branch-in-Opened : goal.returns-in_err-add_whole_branch-in-Opened
+returns-in_err-add_whole_branch-in-Opened g c =
     let b = c.args.branch in
     let terms = opened_with c.args.count c.args.floor in
     let same : c.from_residual-in_err-add_whole_branch-in-Opened.result
     ≡ Err c.in_err-add_whole_branch-in-Opened.field-0.0 = search rules in
-    rw same (acts_wrote (does_but (does_look (looked b terms _ c.in_ok-opening.ensures.above (omega arith) c.in_ok-opening.ensures.says
-    c.in_ok-opening.ensures.stored))
-    c.in_err-add_whole_branch-in-Opened.ensures.does
-    (λ t ready found.
-    let at = not_there t b terms (row_at branch_key t.branches b) (sym c.in-Opened.is ∙ found) in
-    (ready at, at))))
+    rw same (record {
+      acts = acts_wrote (does_but (does_look (looked b terms _ c.in_ok-opening.ensures.above (omega arith)
+          c.in_ok-opening.ensures.says
+          c.in_ok-opening.ensures.stored))
+          c.in_err-add_whole_branch-in-Opened.ensures.does
+          (λ t ready found.
+          let at = not_there t b terms (row_at branch_key t.branches b) (sym c.in-Opened.is ∙ found) in
+          (ready at, at)));
+      stored = tt;
+    })
 
 pub returns-in_ok-add_whole_branch-in-Opened-clause-acts : goal.returns-in_ok-add_whole_branch-in-Opened-clause-acts
 returns-in_ok-add_whole_branch-in-Opened-clause-acts g c =
@@ -102,8 +110,7 @@ returns-in_default-clause-stored g c clean live = record {
 pub returns-in_ok-add_whole_branch-in-Opened-clause-stored : goal.returns-in_ok-add_whole_branch-in-Opened-clause-stored
 returns-in_ok-add_whole_branch-in-Opened-clause-stored g c clean live =
     let added = c.in_ok-add_whole_branch-in-Opened.ensures in
-    let mid : HasCleanDisk (state g.S.Store c.opening_of.new.tx.conn.now) =
-    omega (arith, added.does.says.survives.clean, clean) in
+    let mid = clean_at added.does.says.survives clean in
     let looked = (c.in_ok-opening.ensures.says.says.leaves mid).0 in
     record {
       answers = rw c.in-Opened.is at (c.in_ok-opening.ensures.stored mid);

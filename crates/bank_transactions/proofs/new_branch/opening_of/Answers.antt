@@ -1,13 +1,14 @@
 -- What a branch was opened with, if it was.
-use Rattle.std.proofs.Common.{◌≡◌, ℕ, ℤ, None, Option, Some, Ok, Err, rules, refl, sym, ap, ◌∙◌, arith, subst}
+use Rattle.std.proofs.Common.{◌≡◌, ℕ, ℤ, None, Option, Some, Ok, refl, sym, ap, ◌∙◌, subst}
 use Rattle.posting_rules.specs.believed.Commands.{Terms, opened_with}
 use Rattle.posting_rules.specs.{believed.Counter.opening_for, believed.LookUps.floor_in, believed.LookUps.terms_in}
 use Rattle.posting_rules.specs.{declared.counter.Opening.TheVariants.Opened, declared.rows.BranchRow.BranchRow}
 use Rattle.posting_rules.specs.believed.Tables.{Tables, row_at, branch_key}
 use Rattle.bank_transactions.proofs.LookUps.{reads_both, reads_but}
-use Rattle.sqlite.specs.{Effect.Database, Held.state, State.HasCleanDisk}
+use Rattle.sqlite.specs.Effect.{Database}
 use Rattle.store_rows.specs.believed.{Readings.read_branch, Rules.StoredRows, Rules.branch_under, Stored.FindsStored}
 use Rattle.bank_transactions.specs.believed.Stored.{HoldsFloor, HoldsTerms, IsStoredFloor}
+use Rattle.bank_transactions.proofs.Exits.{clean_at, handed_on}
 use Rattle.bank_transactions.proofs.new_branch.opening_of.Goals as goal
 
 not_open : (t : Tables) (b : ℕ) (terms : Terms) → row_at branch_key t.branches b ≡ None
@@ -20,12 +21,12 @@ open_so t b terms row is = rw is refl
 
 pub returns-in_err-row-clause-says : goal.returns-in_err-row-clause-says
 returns-in_err-row-clause-says g c =
-    let same : c.from_residual.result ≡ Err c.in_err-row.field-0.0 = search rules in
+    let same = handed_on c.from_residual.result c.from_residual.ensures.1 in
     rw same (record { says = c.in_err-row.ensures.says.says })
 
 pub returns-in_err-first-clause-says : goal.returns-in_err-first-clause-says
 returns-in_err-first-clause-says g c =
-    let same : c.from_residual-in_err-first.result ≡ Err c.in_err-first.field-0.0 = search rules in
+    let same = handed_on c.from_residual-in_err-first.result c.from_residual-in_err-first.ensures.1 in
     rw same (reads_but c.in_ok-row.ensures.says c.in_err-first.ensures.says)
 
 pub returns-clause-says : goal.returns-clause-says
@@ -50,8 +51,7 @@ terms_held rows b n m row floor one two finds holds =
 
 pub returns-clause-stored : goal.returns-clause-stored
 returns-clause-stored g c clean =
-    let mid : HasCleanDisk (state g.S.Store c.branch_at.new.tx.conn.now) =
-    omega (arith, c.in_ok-first.ensures.says.says.survives.clean, clean) in
+    let mid = clean_at c.in_ok-first.ensures.says.says.survives clean in
     let still = (c.in_ok-row.ensures.says.says.leaves mid).0.now in
     let found = rw c.in-Some.is at (c.in_ok-row.ensures.stored mid) in
     let floor = subst (λ (d : Database). IsStoredFloor d c.get-2.result c.in_ok-first.first) still

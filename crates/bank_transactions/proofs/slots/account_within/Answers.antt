@@ -1,5 +1,5 @@
 -- What the balance of an account tells.
-use Rattle.std.proofs.Common.{◌≡◌, Err, rules, arith}
+use Rattle.std.proofs.Common.{rules}
 use Rattle.store_rows.specs.declared.holders.Member.TheVariants.{Account}
 use Rattle.bank_transactions.proofs.{LookUps.recalled_at, LookUps.reads_after, ReadsInTurn.recall_failed}
 use Rattle.bank_transactions.proofs.{Broken.member_broken, Remembered.keeps_reading}
@@ -9,12 +9,18 @@ use Rattle.sqlite.specs.{Held.state, State.HasCleanDisk}
 use Rattle.posting_rules.specs.believed.Numbering.{branch_of_account}
 use Rattle.bank_transactions.specs.{Filling.HoldsBranch, believed.Stored.HoldsAccount, believed.Stored.HoldsFloor}
 use Rattle.bank_transactions.proofs.HeldRows.{held_before, account_held}
+use Rattle.bank_transactions.proofs.Exits.{clean_at, handed_on}
 use Rattle.bank_transactions.proofs.slots.account_within.Goals as goal
 
-pub returns-in_err-balance-clause-says : goal.returns-in_err-balance-clause-says
-returns-in_err-balance-clause-says g c =
-    let same : c.from_residual.result ≡ Err c.in_err-balance.field-0.0 = search rules in
-    rw same (recall_failed (entry_under (Account c.args.account)) read_balance (member_broken _ (Account c.args.account) _) c.in_err-balance.ensures.recalls)
+pub returns-in_err-balance : goal.returns-in_err-balance
+returns-in_err-balance g c =
+    let same = handed_on c.from_residual.result c.from_residual.ensures.1 in
+    rw same (record {
+      says = recall_failed (entry_under (Account c.args.account)) read_balance (member_broken _ (Account
+          c.args.account) _) c.in_err-balance.ensures.recalls;
+      stored = tt;
+      remembers = tt;
+    })
 
 pub returns-clause-says : goal.returns-clause-says
 returns-clause-says g c =
@@ -33,8 +39,7 @@ returns-then-is_some-is_open-clause-stored g c =
     (λ rows. HoldsBranch rows (branch_of_account c.args.account) c.args.branch
     × HoldsFloor rows (branch_of_account c.args.account) c.args.floor) _ _ c.account_beside.result
     (λ clean.
-    let mid : HasCleanDisk (state g.S.Store c.known_balance.new.tx.conn.now) =
-    omega (arith, c.account_beside.ensures.says.says.survives.clean, clean) in
+    let mid = clean_at c.account_beside.ensures.says.says.survives clean in
     (c.in_ok-balance.ensures.recalls.leaves mid).now)
     c.account_beside.ensures.stored
 
@@ -47,3 +52,9 @@ returns-clause-stored g c clean rows has beside =
 
 pub returns-then-is_some-is_open-clause-remembers : goal.returns-then-is_some-is_open-clause-remembers
 returns-then-is_some-is_open-clause-remembers g c = keeps_reading c.known_balance.new.memory c.account_beside.result c.account_beside.ensures.says c.in_ok-balance.ensures.remembers
+
+pub known_balance-requires : goal.known_balance-requires
+known_balance-requires g c = c.requires
+
+pub returns-clause-remembers : goal.returns-clause-remembers
+returns-clause-remembers g c = c.in_ok-balance.ensures.remembers

@@ -1,7 +1,7 @@
 -- What is kept of requests is filled after the rest.
-use Rattle.std.proofs.Common.{◌≡◌, Err, List, map, rules, arith, sym, ap, subst, ◌∙◌}
+use Rattle.std.proofs.Common.{List, map, sym, ap, subst, ◌∙◌}
 use Rattle.std.specs.List.{AllByRecursion}
-use Rattle.sqlite.specs.{Effect.Database, Held.state, State.HasCleanDisk}
+use Rattle.sqlite.specs.{Effect.Database, Held.state}
 use Rattle.smallvec.specs.SmallVec.{SmallVec, with_items}
 use Rattle.posting_batch.specs.{declared.slots.RequestSlot.RequestSlot, View.view}
 use Rattle.store_rows.specs.believed.Rules.{HoldsBank}
@@ -9,17 +9,38 @@ use Rattle.bank_transactions.specs.Filling.{RequestHeld, RequestShown, emptied_r
 use Rattle.bank_transactions.proofs.HeldSlots.{put_back}
 use Rattle.bank_transactions.proofs.{LookUps.reads_but, LookUps.reads_so}
 use Rattle.bank_transactions.proofs.FilledBatch.{emptied_kept, kept_after, nothing_asked, with_kept}
+use Rattle.bank_transactions.proofs.Exits.{clean_at, handed_on}
 use Rattle.bank_transactions.proofs.slots.fill.Goals as goal
 
-pub returns-in_err-fill_known-clause-says : goal.returns-in_err-fill_known-clause-says
-returns-in_err-fill_known-clause-says g c =
-    let same : c.from_residual.result ≡ Err c.in_err-fill_known.field-0.0 = search rules in
-    rw same (record { says = c.in_err-fill_known.ensures.says.says })
+pub returns-in_err-fill_known : goal.returns-in_err-fill_known
+returns-in_err-fill_known g c =
+    let rows = c.in_err-fill_known.ensures.new_rows in
+    let same = handed_on c.from_residual.result c.from_residual.ensures.1 in
+    rw same (record {
+      new_rows = (rows.0, rows.1, rows.2);
+      says = record { says = c.in_err-fill_known.ensures.says.says };
+      same = tt;
+      stored = tt;
+      shown = tt;
+      remembers = tt;
+    })
 
-pub returns-in_err-fill_all-clause-says : goal.returns-in_err-fill_all-clause-says
-returns-in_err-fill_all-clause-says g c =
-    let same : c.from_residual-in_err-fill_all.result ≡ Err c.in_err-fill_all.field-0.0 = search rules in
-    rw same (reads_but c.in_ok-fill_known.ensures.says c.in_err-fill_all.ensures.says)
+pub returns-in_err-fill_all : goal.returns-in_err-fill_all
+returns-in_err-fill_all g c =
+    let rows = c.in_ok-fill_known.ensures.new_rows in
+    let same = handed_on c.from_residual-in_err-fill_all.result c.from_residual-in_err-fill_all.ensures.1 in
+    rw same (record {
+      new_rows = (rows.0, rows.1, rows.2);
+      says = reads_but c.in_ok-fill_known.ensures.says c.in_err-fill_all.ensures.says;
+      same = tt;
+      stored = tt;
+      shown = tt;
+      remembers = tt;
+    })
+
+pub returns-clause-new_rows : goal.returns-clause-new_rows
+returns-clause-new_rows g c =
+    let rows = c.in_ok-fill_known.ensures.new_rows in (rows.0, rows.1, rows.2)
 
 pub returns-clause-says : goal.returns-clause-says
 returns-clause-says g c =
@@ -48,8 +69,7 @@ returns-clause-stored g c clean homes rows has =
     let kv = c.fill_known.new.overlay.kept in
     let one = c.in_ok-fill_known.ensures in
     let two = c.in_ok-fill_all.ensures in
-    let before : HasCleanDisk (state g.S.Store c.fill_known.new.tx.conn.now) =
-    omega (arith, two.says.says.survives.clean, clean) in
+    let before = clean_at two.says.says.survives clean in
     let first = one.stored before homes rows has in
     let has1 = subst (λ (db : Database). HoldsBank db rows) (sym (one.says.says.leaves before).0.now) has in
     record {
@@ -68,8 +88,7 @@ returns-clause-shown g c clean =
     let kv = c.fill_known.new.overlay.kept in
     let one = c.in_ok-fill_known.ensures in
     let two = c.in_ok-fill_all.ensures in
-    let before : HasCleanDisk (state g.S.Store c.fill_known.new.tx.conn.now) =
-    omega (arith, two.says.says.survives.clean, clean) in
+    let before = clean_at two.says.says.survives clean in
     let shown = subst (λ (db : Database). AllByRecursion (RequestShown db) c.fill_all.new.slots)
     (one.says.says.leaves before).0.now (two.shown clean) in
     record {
@@ -78,3 +97,14 @@ returns-clause-shown g c clean =
           (RequestShown (state g.S.Store c.args.tx.now.conn.now).now) slots)
           (sym (put_back kv _ c.fill_all.new.slots c.deref_mut.ensures.value c.fill_all.auto.slots)) shown;
     }
+
+-- ---- what is remembered
+
+pub fill_known-requires : goal.fill_known-requires
+fill_known-requires g c = c.requires
+
+pub fill_all-requires : goal.fill_all-requires
+fill_all-requires g c = c.in_ok-fill_known.ensures.remembers
+
+pub returns-clause-remembers : goal.returns-clause-remembers
+returns-clause-remembers g c = c.in_ok-fill_all.ensures.remembers

@@ -1,17 +1,18 @@
 -- One slot more is filled.
-use Rattle.std.proofs.Common.{◌<◌, Err, ◌≡◌, ◌+◌, add-one, length, rules, arith, refl, sym, subst, ◌∙◌}
-use Rattle.sqlite.specs.{Effect.Database, Held.state, State.HasCleanDisk}
+use Rattle.std.proofs.Common.{◌<◌, ◌≡◌, ◌+◌, add-one, length, arith, refl, sym, subst, ◌∙◌}
+use Rattle.sqlite.specs.{Effect.Database, Held.state}
 use Rattle.std.specs.Prelude.{⊤}
 use Rattle.store_rows.specs.believed.Rules.{HoldsBank}
 use Rattle.bank_transactions.proofs.FilledBatch.{nothing_asked}
 use Rattle.bank_transactions.proofs.LookUps.{reads_none, reads_but, reads_so}
 use Rattle.bank_transactions.proofs.Loops.{fill_more, all_filled, next_is}
 use Rattle.bank_transactions.proofs.Partly.{all_bare, all_held, partly_next, partly_none}
+use Rattle.bank_transactions.proofs.Exits.{clean_at, handed_on, survives_itself}
 use Rattle.bank_transactions.proofs.slots.fill_all.Goals as goal
 
 pub loop-slot-init : goal.loop-slot-init
 loop-slot-init g c = record {
-  says = reads_none (search rules) (λ t so. refl);
+  says = reads_none (survives_itself _) (λ t so. refl);
   same = partly_none _ c.args.slots.now;
   stored = λ clean rows has. partly_none _ c.args.slots.now;
   shown = λ clean. partly_none _ c.args.slots.now;
@@ -35,25 +36,29 @@ loop-slot-preserved g c =
       same = partly_next _ xs ys i (i + 1) x y (add-one i) lt one.same so_far.same;
       stored =
           λ clean rows has.
-          let mid : HasCleanDisk (state g.S.Store c.loop-slot.tx.conn.now) =
-          omega (arith, one.says.says.survives.clean, clean) in
+          let mid = clean_at one.says.says.survives clean in
           let there = subst (λ (db : Database). HoldsBank db rows) (sym (so_far.says.says.leaves mid).0.now) has in
           partly_next _ xs ys i (i + 1) x y (add-one i) lt (one.stored clean rows there)
           (so_far.stored mid rows has);
       shown =
           λ clean.
-          let mid : HasCleanDisk (state g.S.Store c.loop-slot.tx.conn.now) =
-          omega (arith, one.says.says.survives.clean, clean) in
+          let mid = clean_at one.says.says.survives clean in
           let here : g.T.Slot.Shown (state g.S.Store c.args.tx.now.conn.now).now y =
           subst (λ (db : Database). g.T.Slot.Shown db y) (so_far.says.says.leaves mid).0.now (one.shown clean) in
           partly_next _ xs ys i (i + 1) x y (add-one i) lt (λ _. here) (so_far.shown mid);
       remembers = one.remembers;
     }
 
-pub returns-in_err-slot-clause-says : goal.returns-in_err-slot-clause-says
-returns-in_err-slot-clause-says g c =
-    let same : c.from_residual.result ≡ Err c.in_err-slot.field-0.0 = search rules in
-    rw same (reads_but c.loop-slot.invariant.says c.in_err-slot.ensures.says)
+pub returns-in_err-slot : goal.returns-in_err-slot
+returns-in_err-slot g c =
+    let same = handed_on c.from_residual.result c.from_residual.ensures.1 in
+    rw same (record {
+      says = reads_but c.loop-slot.invariant.says c.in_err-slot.ensures.says;
+      same = tt;
+      stored = tt;
+      shown = tt;
+      remembers = tt;
+    })
 
 pub returns-clause-says : goal.returns-clause-says
 returns-clause-says g c =
@@ -79,3 +84,11 @@ returns-clause-shown g c clean =
     let at_end : c.loop-slot.slot-index ≡ length c.args.slots.now = omega arith in
     all_held (λ _. ⊤) (g.T.Slot.Shown (state g.S.Store c.args.tx.now.conn.now).now) c.args.slots.now
     c.loop-slot.slots c.loop-slot.slot-index at_end (c.loop-slot.invariant.shown clean) (nothing_asked c.args.slots.now)
+
+-- ---- what is remembered
+
+pub fill-requires : goal.fill-requires
+fill-requires g c = c.loop-slot.invariant.remembers
+
+pub returns-clause-remembers : goal.returns-clause-remembers
+returns-clause-remembers g c = c.loop-slot.invariant.remembers

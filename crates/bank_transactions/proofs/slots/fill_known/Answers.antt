@@ -1,7 +1,7 @@
 -- The parts of a batch that are filled one after another, but for its requests.
-use Rattle.std.proofs.Common.{◌≡◌, Err, List, map, rules, arith, sym, ap, subst, ◌∙◌}
+use Rattle.std.proofs.Common.{List, map, sym, ap, refl, subst, ◌∙◌}
 use Rattle.std.specs.List.{AllByRecursion}
-use Rattle.sqlite.specs.{Effect.Database, Held.state, State.HasCleanDisk}
+use Rattle.sqlite.specs.Effect.{Database}
 use Rattle.posting_rules.specs.believed.Numbering.{branch_of_account, branch_of_teller}
 use Rattle.posting_batch.specs.{declared.slots.AccountSlot.AccountSlot, declared.slots.BranchSlot.BranchSlot}
 use Rattle.posting_batch.specs.{declared.slots.FloorSlot.FloorSlot, declared.slots.TellerSlot.TellerSlot, View.view}
@@ -14,32 +14,75 @@ use Rattle.sqlite_trees.proofs.ListLemmas.{all_both}
 use Rattle.bank_transactions.proofs.{LookUps.reads_but, LookUps.reads_so}
 use Rattle.bank_transactions.proofs.FilledBatch.{accounts_in, branches_in, count_in, floors_in, nothing_asked}
 use Rattle.bank_transactions.proofs.FilledBatch.{emptied_known, same_known, tellers_in}
+use Rattle.bank_transactions.proofs.Exits.{clean_at, handed_on, reads_fail}
 use Rattle.bank_transactions.proofs.slots.fill_known.Goals as goal
 
-pub returns-in_err-fill_all-clause-says : goal.returns-in_err-fill_all-clause-says
-returns-in_err-fill_all-clause-says g c =
-    let same : c.from_residual-in_err-fill_all.result ≡ Err c.in_err-fill_all.field-0.0 = search rules in
-    let s1 = count_in {g = g.S.Store} (view c.args.overlay.now) _ c.in_ok-overlay.ensures.says in
-    rw same (reads_but s1 c.in_err-fill_all.ensures.says)
+pub known_decided-requires : goal.known_decided-requires
+known_decided-requires g c = c.requires
 
-pub returns-in_err-fill_all-2-clause-says : goal.returns-in_err-fill_all-2-clause-says
-returns-in_err-fill_all-2-clause-says g c =
-    let same : c.from_residual-in_err-fill_all-2.result ≡ Err c.in_err-fill_all-2.field-0.0 = search rules in
+pub fill_all-requires : goal.fill_all-requires
+fill_all-requires g c = c.in_ok-overlay.ensures.remembers
+
+pub fill_all-requires-2 : goal.fill_all-requires-2
+fill_all-requires-2 g c = c.in_ok-fill_all.ensures.remembers
+
+pub fill_all-requires-3 : goal.fill_all-requires-3
+fill_all-requires-3 g c = c.in_ok-fill_all-2.ensures.remembers
+
+pub fill_all-requires-4 : goal.fill_all-requires-4
+fill_all-requires-4 g c = c.in_ok-fill_all-3.ensures.remembers
+
+pub returns-in_err-overlay : goal.returns-in_err-overlay
+returns-in_err-overlay g c = rw (handed_on c.from_residual.result c.from_residual.ensures.1) (record {
+  new_rows = (refl, refl, refl, refl);
+  says = reads_fail c.in_err-overlay.ensures.says;
+  same = tt;
+  stored = tt;
+  own = tt;
+  remembers = tt;
+})
+
+pub returns-in_err-fill_all : goal.returns-in_err-fill_all
+returns-in_err-fill_all g c =
+    let s1 = count_in {g = g.S.Store} (view c.args.overlay.now) _ c.in_ok-overlay.ensures.says in
+    rw (handed_on c.from_residual-in_err-fill_all.result c.from_residual-in_err-fill_all.ensures.1) (record {
+      new_rows = (refl, refl, refl, refl);
+      says = reads_but s1 c.in_err-fill_all.ensures.says;
+      same = tt;
+      stored = tt;
+      own = tt;
+      remembers = tt;
+    })
+
+pub returns-in_err-fill_all-2 : goal.returns-in_err-fill_all-2
+returns-in_err-fill_all-2 g c =
     let s1 = count_in {g = g.S.Store} (view c.args.overlay.now) _ c.in_ok-overlay.ensures.says in
     let s2 = branches_in s1 c.deref_mut.ensures.value c.in_ok-fill_all.ensures.says in
-    rw same (reads_but s2 c.in_err-fill_all-2.ensures.says)
+    rw (handed_on c.from_residual-in_err-fill_all-2.result c.from_residual-in_err-fill_all-2.ensures.1) (record {
+      new_rows = (refl, refl, refl, refl);
+      says = reads_but s2 c.in_err-fill_all-2.ensures.says;
+      same = tt;
+      stored = tt;
+      own = tt;
+      remembers = tt;
+    })
 
-pub returns-in_err-fill_all-3-clause-says : goal.returns-in_err-fill_all-3-clause-says
-returns-in_err-fill_all-3-clause-says g c =
-    let same : c.from_residual-in_err-fill_all-3.result ≡ Err c.in_err-fill_all-3.field-0.0 = search rules in
+pub returns-in_err-fill_all-3 : goal.returns-in_err-fill_all-3
+returns-in_err-fill_all-3 g c =
     let s1 = count_in {g = g.S.Store} (view c.args.overlay.now) _ c.in_ok-overlay.ensures.says in
     let s2 = branches_in s1 c.deref_mut.ensures.value c.in_ok-fill_all.ensures.says in
     let s3 = floors_in s2 c.deref_mut-2.ensures.value c.in_ok-fill_all-2.ensures.says in
-    rw same (reads_but s3 c.in_err-fill_all-3.ensures.says)
+    rw (handed_on c.from_residual-in_err-fill_all-3.result c.from_residual-in_err-fill_all-3.ensures.1) (record {
+      new_rows = (refl, refl, refl, refl);
+      says = reads_but s3 c.in_err-fill_all-3.ensures.says;
+      same = tt;
+      stored = tt;
+      own = tt;
+      remembers = tt;
+    })
 
-pub returns-in_err-fill_all-4-clause-says : goal.returns-in_err-fill_all-4-clause-says
-returns-in_err-fill_all-4-clause-says g c =
-    let same : c.from_residual-in_err-fill_all-4.result ≡ Err c.in_err-fill_all-4.field-0.0 = search rules in
+pub returns-in_err-fill_all-4 : goal.returns-in_err-fill_all-4
+returns-in_err-fill_all-4 g c =
     let bs = put_back c.args.overlay.now.branches _ c.fill_all.new.slots c.deref_mut.ensures.value
     c.fill_all.auto.slots in
     let s1 = count_in {g = g.S.Store} (view c.args.overlay.now) _ c.in_ok-overlay.ensures.says in
@@ -47,7 +90,14 @@ returns-in_err-fill_all-4-clause-says g c =
     let s3 = floors_in s2 c.deref_mut-2.ensures.value c.in_ok-fill_all-2.ensures.says in
     let s4 = tellers_in s3
     (c.deref.ensures ∙ bs) c.deref_mut-3.ensures.value c.in_ok-fill_all-3.ensures.says in
-    rw same (reads_but s4 c.in_err-fill_all-4.ensures.says)
+    rw (handed_on c.from_residual-in_err-fill_all-4.result c.from_residual-in_err-fill_all-4.ensures.1) (record {
+      new_rows = (refl, refl, refl, refl);
+      says = reads_but s4 c.in_err-fill_all-4.ensures.says;
+      same = tt;
+      stored = tt;
+      own = tt;
+      remembers = tt;
+    })
 
 pub returns-clause-says : goal.returns-clause-says
 returns-clause-says g c =
@@ -73,6 +123,12 @@ returns-clause-says g c =
     (put_back tv _ c.fill_all-3.new.slots c.deref_mut-3.ensures.value c.fill_all-3.auto.slots)
     (put_back av _ c.fill_all-4.new.slots c.deref_mut-4.ensures.value c.fill_all-4.auto.slots) in
     reads_so s5 (λ t so. (so, λ e. held ∙ e))
+
+pub returns-clause-new_rows : goal.returns-clause-new_rows
+returns-clause-new_rows g c = (refl, refl, refl, refl)
+
+pub returns-clause-remembers : goal.returns-clause-remembers
+returns-clause-remembers g c = c.in_ok-fill_all-4.ensures.remembers
 
 -- ---- of whatever rows a file holds
 
@@ -110,14 +166,10 @@ returns-clause-stored g c clean homes rows has =
     let two = c.in_ok-fill_all-2.ensures in
     let three = c.in_ok-fill_all-3.ensures in
     let four = c.in_ok-fill_all-4.ensures in
-    let clean3 : HasCleanDisk (state g.S.Store c.fill_all-3.new.tx.conn.now) =
-    omega (arith, four.says.says.survives.clean, clean) in
-    let clean2 : HasCleanDisk (state g.S.Store c.fill_all-2.new.tx.conn.now) =
-    omega (arith, three.says.says.survives.clean, clean3) in
-    let clean1 : HasCleanDisk (state g.S.Store c.fill_all.new.tx.conn.now) =
-    omega (arith, two.says.says.survives.clean, clean2) in
-    let clean0 : HasCleanDisk (state g.S.Store c.known_decided.new.tx.conn.now) =
-    omega (arith, one.says.says.survives.clean, clean1) in
+    let clean3 = clean_at four.says.says.survives clean in
+    let clean2 = clean_at three.says.says.survives clean3 in
+    let clean1 = clean_at two.says.says.survives clean2 in
+    let clean0 = clean_at one.says.says.survives clean1 in
     let has0 = subst (λ (db : Database). HoldsBank db rows) (sym (zero.says.says.leaves clean0).0.now) has in
     let has1 = subst (λ (db : Database). HoldsBank db rows) (sym (one.says.says.leaves clean1).0.now) has0 in
     let has2 = subst (λ (db : Database). HoldsBank db rows) (sym (two.says.says.leaves clean2).0.now) has1 in
@@ -153,12 +205,8 @@ pub returns-clause-own : goal.returns-clause-own
 returns-clause-own g c clean =
     let bv = c.args.overlay.now.branches in
     let one = c.in_ok-fill_all.ensures in
-    let clean1 : HasCleanDisk (state g.S.Store c.fill_all.new.tx.conn.now) = omega (
-      arith,
-      c.in_ok-fill_all-2.ensures.says.says.survives.clean,
-      c.in_ok-fill_all-3.ensures.says.says.survives.clean,
-      c.in_ok-fill_all-4.ensures.says.says.survives.clean,
-      clean,
-    ) in
+    let clean3 = clean_at c.in_ok-fill_all-4.ensures.says.says.survives clean in
+    let clean2 = clean_at c.in_ok-fill_all-3.ensures.says.says.survives clean3 in
+    let clean1 = clean_at c.in_ok-fill_all-2.ensures.says.says.survives clean2 in
     subst (λ (slots : List BranchSlot). AllByRecursion HasOwnRow slots)
     (sym (put_back bv _ c.fill_all.new.slots c.deref_mut.ensures.value c.fill_all.auto.slots)) (one.shown clean1)

@@ -6,6 +6,7 @@ use Rattle.posting_rules.specs.{declared.rows.BranchRow.BranchRow, declared.rows
 use Rattle.posting_rules.specs.believed.LookUps.{balance_of_branch, balance_of_teller, both_of, teller_balances_in}
 use Rattle.posting_rules.specs.believed.Tables.{Tables, row_at, branch_key, teller_key}
 use Rattle.bank_transactions.proofs.{LookUps.reads_so, SoundRows.teller_some}
+use Rattle.bank_transactions.proofs.Exits.{handed_on, reads_fail}
 use Rattle.bank_transactions.proofs.slots.teller_beside.Goals as goal
 
 not_one : (a : Option TellerRow) (b : Option BranchRow) → (IsSome a → is_some a ≡ is_some b)
@@ -25,3 +26,16 @@ pub returns-in-None-clause-says : goal.returns-in-None-clause-says
 returns-in-None-clause-says g c =
     reads_so c.in_ok-balance.ensures.says
     (λ t sound. (sound, λ answers. no_balance t c.args.teller sound (sym c.in-None.is ∙ answers)))
+
+pub returns-in_err-balance : goal.returns-in_err-balance
+returns-in_err-balance g c = rw (handed_on c.from_residual.result c.from_residual.ensures.1) (record {
+  says = reads_fail c.in_err-balance.ensures.says;
+  stored = tt;
+})
+
+-- ---- of the stored rows
+
+pub returns-in-None-clause-stored : goal.returns-in-None-clause-stored
+returns-in-None-clause-stored g c clean rows has =
+    let it = rw c.in-None.is at (c.in_ok-balance.ensures.stored clean) in
+    record { found = it.found rows has; fits = it.fits rows has }

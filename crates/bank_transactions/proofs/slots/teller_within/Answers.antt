@@ -1,5 +1,5 @@
 -- What the balance of a teller tells.
-use Rattle.std.proofs.Common.{◌≡◌, Err, rules, arith}
+use Rattle.std.proofs.Common.{rules}
 use Rattle.store_rows.specs.declared.holders.Member.TheVariants.{Teller}
 use Rattle.bank_transactions.proofs.{LookUps.recalled_at, LookUps.reads_after, ReadsInTurn.recall_failed}
 use Rattle.bank_transactions.proofs.{Broken.member_broken, Remembered.keeps_reading}
@@ -9,12 +9,18 @@ use Rattle.sqlite.specs.{Held.state, State.HasCleanDisk}
 use Rattle.posting_rules.specs.believed.Numbering.{branch_of_teller}
 use Rattle.bank_transactions.specs.{Filling.HoldsBranch, Stored.HoldsTellerRow}
 use Rattle.bank_transactions.proofs.HeldRows.{held_before, teller_held}
+use Rattle.bank_transactions.proofs.Exits.{clean_at, handed_on}
 use Rattle.bank_transactions.proofs.slots.teller_within.Goals as goal
 
-pub returns-in_err-balance-clause-says : goal.returns-in_err-balance-clause-says
-returns-in_err-balance-clause-says g c =
-    let same : c.from_residual.result ≡ Err c.in_err-balance.field-0.0 = search rules in
-    rw same (recall_failed (entry_under (Teller c.args.teller)) read_balance (member_broken _ (Teller c.args.teller) _) c.in_err-balance.ensures.recalls)
+pub returns-in_err-balance : goal.returns-in_err-balance
+returns-in_err-balance g c =
+    let same = handed_on c.from_residual.result c.from_residual.ensures.1 in
+    rw same (record {
+      says = recall_failed (entry_under (Teller c.args.teller)) read_balance (member_broken _ (Teller c.args.teller) _)
+          c.in_err-balance.ensures.recalls;
+      stored = tt;
+      remembers = tt;
+    })
 
 pub returns-clause-says : goal.returns-clause-says
 returns-clause-says g c =
@@ -31,8 +37,7 @@ returns-then-is_some-clause-stored g c =
     (λ rows balance. HoldsTellerRow rows c.args.teller balance)
     (λ rows. HoldsBranch rows (branch_of_teller c.args.teller) c.args.branch) _ _ c.teller_beside.result
     (λ clean.
-    let mid : HasCleanDisk (state g.S.Store c.known_balance.new.tx.conn.now) =
-    omega (arith, c.teller_beside.ensures.says.says.survives.clean, clean) in
+    let mid = clean_at c.teller_beside.ensures.says.says.survives clean in
     (c.in_ok-balance.ensures.recalls.leaves mid).now)
     c.teller_beside.ensures.stored
 
@@ -45,3 +50,9 @@ returns-clause-stored g c clean rows has branch =
 
 pub returns-then-is_some-clause-remembers : goal.returns-then-is_some-clause-remembers
 returns-then-is_some-clause-remembers g c = keeps_reading c.known_balance.new.memory c.teller_beside.result c.teller_beside.ensures.says c.in_ok-balance.ensures.remembers
+
+pub known_balance-requires : goal.known_balance-requires
+known_balance-requires g c = c.requires
+
+pub returns-clause-remembers : goal.returns-clause-remembers
+returns-clause-remembers g c = c.in_ok-balance.ensures.remembers

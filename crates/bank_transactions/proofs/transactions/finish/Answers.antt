@@ -1,10 +1,11 @@
 -- How a transaction ends.
-use Rattle.std.proofs.Common.{◌≡◌, Err, refl, rules}
+use Rattle.std.proofs.Common.{refl}
+use Rattle.bank_transactions.proofs.Exits.{handed_on}
 use Rattle.bank_transactions.proofs.transactions.finish.Goals as goal
 
 pub returns-in_err-answer : goal.returns-in_err-answer
 returns-in_err-answer g c =
-    let same : c.from_residual.result ≡ Err c.in_err-answer.field-0.0 = search rules in
+    let same = handed_on c.from_residual.result c.from_residual.ensures.1 in
     rw (same, c.in_err-answer.was) record {
       mode = c.drop-tx.ensures.ended;
       given = tt;

@@ -1,5 +1,5 @@
 -- The changed balance of one slot, whose number may be none of branches.
-use Rattle.std.proofs.Common.{◌≡◌, ℕ, Some, None, Option, rules, sym, subst, ◌∙◌}
+use Rattle.std.proofs.Common.{◌≡◌, ℕ, Some, None, Option, sym, subst, ◌∙◌}
 use Rattle.std.specs.Prelude.{ℤ, IfSome}
 use Rattle.message_records.specs.{believed.Ranges.whole_within, declared.limits.TheConstants.MAX_BRANCH}
 use Rattle.posting_rules.specs.believed.Tables.{Tables}
@@ -10,6 +10,7 @@ use Rattle.bank_transactions.specs.{Running.Writes, Writing.by_change, believed.
 use Rattle.bank_transactions.proofs.Running.{writes_adds, writes_for, writes_none}
 use Rattle.bank_transactions.proofs.{Remembered.followed_none, Rows.branch_made, Rows.one_changed}
 use Rattle.bank_transactions.proofs.SoundRows.{same_number}
+use Rattle.bank_transactions.proofs.Exits.{survives_itself}
 use Rattle.bank_transactions.proofs.batch_changes.BranchSlotChange.make.Goals as goal
 
 -- a slot whose number is none of branches changes nothing, where it may be written
@@ -34,7 +35,7 @@ returns-in-Some-clause-writes g c =
 pub returns-in-None-clause-writes : goal.returns-in-None-clause-writes
 returns-in-None-clause-writes g c =
     let s = c.args.self.now in
-    writes_for (writes_none (search rules)) (λ t may. (
+    writes_for (writes_none (survives_itself _)) (λ t may. (
       may,
       not_changed s.changed s.branch t _ (λ z. with_balance (Branch s.branch) z t)
           (sym c.new.ensures ∙ c.in-None.is) may.1.0 (branch_made s t),

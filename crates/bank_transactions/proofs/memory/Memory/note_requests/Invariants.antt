@@ -1,5 +1,4 @@
 -- What is remembered of rows stays.
-use Rattle.std.proofs.Common.{◌≡◌}
 use Rattle.sqlite.specs.Effect.{Database}
 use Rattle.bank_transactions.specs.Memory.{Fits}
 use Rattle.bank_transactions.proofs.memory.Memory.note_requests.Given as goal
