@@ -78,6 +78,10 @@ some_there xs some none = let h = rw none at some in cc
 pub full_there : {X : Type 0} (n : ℕ) (xs : List X) → 0 < n → nat_eq (length xs) n ≡ true → xs ≡ [] → ⊥
 full_there n xs room full none = let h = rw none at full in grind (arith, nat_tests)
 
+-- one more has room, where they aren't full
+pub room_there : (n most : ℕ) → n ≤ most → nat_eq n most ≡ false → n < most
+room_there n most fits more = grind (arith, nat_tests)
+
 -- no rows are shown of those that are to come where there are none
 pub no_more : (es : List Entry) (found : List Row) → length found ≤ 0 → found ≡ map given (take AHEAD es) → es ≡ []
 no_more [] found low is = refl

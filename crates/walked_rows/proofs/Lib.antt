@@ -1,4 +1,5 @@
 -- What the walks read.
+pub mod Answering
 pub mod Came
 pub mod Causes
 pub mod EntryShown

@@ -1,11 +1,31 @@
 -- What is gathered, row by row. What is returned follows from the invariant; a search takes long to see it.
-use Rattle.std.proofs.Common.{◌<◌, ◌≤◌, ◌+◌, None, length, get_or, sym, ap, subst, ◌∙◌, arith, w64, to_z, lit<, refl}
+use Rattle.std.proofs.Common.{◌<◌, ◌≤◌, ◌+◌, ◌++◌, None, Some, map, length, get_or, sym, ap, subst, ◌∙◌, arith, w64, to_z, lit<, refl}
 use Rattle.std.proofs.lemmas.Int.{to_z-of_z}
-use Rattle.walked_rows.specs.{Rows.entry_key, Rows.rows_from, declared.ahead.TheConstants.AHEAD}
+use Rattle.walked_rows.specs.{Rising.RisesFrom, Rows.entry_key, Rows.rows_from, declared.ahead.TheConstants.AHEAD}
 use Rattle.walked_rows.proofs.Gathering.{after_key, full_there, gathers_on, gathers_none, no_more, none_there}
-use Rattle.walked_rows.proofs.{Causes.next_rows, Gathering.some_there}
-use Rattle.walked_rows.proofs.Rises.{le_from, one_more, rest_after}
+use Rattle.walked_rows.proofs.{Causes.next_rows, Gathering.room_there, Gathering.some_there}
+use Rattle.walked_rows.proofs.Rises.{le_from, le_itself, one_more, rest_after}
 use Rattle.walked_rows.proofs.ahead.gather.Goals as goal
+
+pub loop-row-init : goal.loop-row-init
+loop-row-init g c =
+    let from = c.args.from in
+    let same = to_z-of_z w64 from c.ranges.from in
+    let entry = g.R.StoredRow.kind.entry in
+    let none = c.clear.ensures in
+    rw same record {
+      count = ap length none;
+      rises = subst (λ l. RisesFrom from (map (λ r. entry_key (entry r)) l) (Some from)) (sym none) (le_itself from);
+      answers = λ rows rise wide is. ap (λ l. map entry l ++ rows_from from rows) (sym none);
+    }
+
+pub push-requires : goal.push-requires
+push-requires g c =
+    omega (
+      arith,
+      room_there (length c.loop-row.rows.items) AHEAD c.if-is_full.ensures.fits
+          (sym c.if-is_full.ensures.value),
+    )
 
 pub loop-row-preserved : goal.loop-row-preserved
 loop-row-preserved g c =

@@ -1,14 +1,36 @@
 -- Rows are joined one by one. What is returned follows from the invariant; a search takes long to see it.
-use Rattle.std.proofs.Common.{◌≡◌, ◌≤ℤ◌, ◌<◌, ◌+◌, ◌++◌, suc, ◌∷◌, map, drop, length, get_or, refl, sym, ap, subst}
+use Rattle.std.proofs.Common.{◌≡◌, ◌≤ℤ◌, ◌<◌, ◌+◌, ◌++◌, suc, ◌∷◌, Some, map, drop, length, get_or, refl, sym, ap, subst}
 use Rattle.std.proofs.Common.{◌∙◌, rules, arith, w64, to_z}
 use Rattle.std.proofs.{Math.Seq.drop-cons, lemmas.Int.ints, lemmas.Int.to_z-of_z}
 use Rattle.store_rows.proofs.Lookups.{as_integer}
 use Rattle.walked_rows.specs.Pairs.{ComesBefore, pair_of, paired, row_under}
-use Rattle.walked_rows.specs.{Rising.RisesFrom, Rows.entry_key, Rows.rows_after}
-use Rattle.walked_rows.proofs.{Gathering.after_key, Rises.one_more, Rises.rest_after}
+use Rattle.walked_rows.specs.{Rising.RisesFrom, Rows.entry_key, Rows.rows_after, Rows.rows_from}
+use Rattle.walked_rows.proofs.{Gathering.after_key, Rises.le_itself, Rises.one_more, Rises.rest_after}
 use Rattle.walked_rows.specs.Referring.{pair_beside}
 use Rattle.walked_rows.proofs.Joining.{beside_is, joins_on, none_left}
 use Rattle.walked_rows.proofs.joined.join.Goals as goal
+
+pub loop-row-init : goal.loop-row-init
+loop-row-init g c =
+    let start = c.args.start in
+    let same = to_z-of_z w64 start c.ranges.start in
+    let none = c.clear.ensures in
+    let entry = g.R.StoredRow.kind.entry in
+    let other = g.O.StoredRow.kind.entry in
+    rw same record {
+      count = ap length none;
+      low = le_itself start;
+      ahead = c.requires.rises;
+      rises = subst (λ l. RisesFrom start (map (λ j. entry_key (entry j.stored)) l) (Some start)) (sym none)
+          (le_itself start);
+      answers = λ base others rise own_is others_are.
+          (own_is, ap (λ l. map (pair_of entry other) l ++ paired others (rows_from start base)) (sym none));
+    }
+
+pub push-requires : goal.push-requires
+push-requires g c =
+    let low : c.loop-row.row-index < length c.args.own.now = search rules in
+    omega (arith, low, c.loop-row.invariant.count, c.requires.few)
 
 pub loop-row-preserved : goal.loop-row-preserved
 loop-row-preserved g c =

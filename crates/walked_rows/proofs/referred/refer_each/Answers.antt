@@ -1,19 +1,19 @@
 -- One row more.
-use Rattle.std.proofs.Common.{◌≡◌, ◌≤◌, ◌<◌, ◌+◌, ◌+ℤ◌, ◌≤ℤ◌, ◌++◌, ℕ, suc, pos, List, [], ◌∷◌, map, drop, length}
+use Rattle.std.proofs.Common.{◌≡◌, ◌≤◌, ◌<◌, ◌+◌, ◌+ℤ◌, ◌≤ℤ◌, ◌++◌, ℕ, suc, pos, List, [], ◌∷◌, map, drop, length, inr, refl}
 use Rattle.std.proofs.Common.{get_or, option_map, Some, sym, ap, subst, ◌∙◌, rules, arith, w64, to_z}
 use Rattle.std.proofs.{Math.Seq.drop-cons, lemmas.Int.to_z-of_z}
 use Rattle.sqlite.specs.Held.{state}
 use Rattle.sql_meanings.specs.StatementAnswers.{IsStoreError}
 use Rattle.store_rows.specs.believed.BankTables.{reference as reference_table}
 use Rattle.store_rows.specs.View.{HoldsRows}
-use Rattle.walked_rows.specs.{Pairs.row_under, References.text_entry, Rising.RisesFrom}
+use Rattle.walked_rows.specs.{Pairs.row_under, References.text_entry, Referring.referred_all, Rising.RisesFrom}
 use Rattle.walked_rows.specs.Rows.{entry_key, rows_after, rows_from}
-use Rattle.walked_rows.proofs.{Gathering.after_key, Gathering.none_there, Joining.none_left}
+use Rattle.walked_rows.proofs.{Gathering.after_key, Gathering.none_there, Gathering.some_there, Joining.none_left}
 use Rattle.walked_rows.proofs.{Referring.referred_after, Referring.refers_none, Referring.refers_on}
-use Rattle.walked_rows.proofs.{Rises.one_more, Rises.rest_after}
+use Rattle.walked_rows.proofs.{Rises.le_itself, Rises.one_more, Rises.rest_after}
 use Rattle.walked_rows.proofs.Leaving.{clean_between, fails_too, if_any, same_any, reads_any, reads_on, shows_same}
 use Rattle.store_rows.specs.declared.fault.TableFault.TheVariants.{Sqlite}
-use Rattle.walked_rows.proofs.{Causes.cause_on, Leaving.store_on}
+use Rattle.walked_rows.proofs.{Causes.cause_on, Causes.nothing_called, Leaving.store_on}
 use Rattle.walked_rows.proofs.referred.refer_each.Goals as goal
 
 -- those to come begin with the row
@@ -158,3 +158,73 @@ returns-clause-rises g c =
     (rw same at c.loop-row.invariant.rises)
     (subst (λ l. RisesFrom next (map (λ o. entry_key (g.R.Referred.entry (g.R.Referred.own o))) l) c.args.rest) left
     c.loop-row.invariant.ahead)
+
+pub loop-row-init : goal.loop-row-init
+loop-row-init g c =
+    let same = to_z-of_z w64 c.args.from c.ranges.from in
+    let none = c.clear.ensures in
+    let from = c.args.from in
+    rw same record {
+      count = ap length none;
+      ahead = c.requires.rises;
+      rises = subst (λ l. RisesFrom from (map g.R.Referred.key l) (Some from)) (sym none) (le_itself from);
+      reads = record {
+        same = λ clean. inr refl;
+        err = λ clean. tt;
+        mode = λ outside. outside;
+        survives = nothing_called (state g.S.Store c.args.conn.now);
+      };
+      answers = λ view back base others rise clean has own_is. (
+        own_is,
+        ap (λ l. map g.R.Referred.item l
+            ++ referred_all g.R.Referred.joined view others (rows_from from base)) (sym none),
+      );
+    }
+
+pub push-requires : goal.push-requires
+push-requires g c =
+    let low : c.loop-row.row-index < length c.args.own.now = search rules in
+    omega (arith, low, c.loop-row.invariant.count, c.requires.few)
+
+pub returns-in-Err-Sqlite-clause-ended : goal.returns-in-Err-Sqlite-clause-ended
+returns-in-Err-Sqlite-clause-ended g c = tt
+
+pub returns-in-Err-Sqlite-clause-rises : goal.returns-in-Err-Sqlite-clause-rises
+returns-in-Err-Sqlite-clause-rises g c = tt
+
+pub returns-then-is_empty-clause-ended : goal.returns-then-is_empty-clause-ended
+returns-then-is_empty-clause-ended g c = tt
+
+pub returns-then-is_empty-clause-rises : goal.returns-then-is_empty-clause-rises
+returns-then-is_empty-clause-rises g c = tt
+
+pub returns-then-is_empty-clause-cause : goal.returns-then-is_empty-clause-cause
+returns-then-is_empty-clause-cause g c clean = tt
+
+pub returns-in-Err-Damaged-clause-answers : goal.returns-in-Err-Damaged-clause-answers
+returns-in-Err-Damaged-clause-answers g c clean view back base others rise has own_is =
+    let same = to_z-of_z w64 c.args.from c.ranges.from in
+    let so_far = c.loop-row.invariant in
+    let before = clean_between g.S.Store c.loop-row.conn c.reference_under.new.conn
+    c.in-Err-Damaged.ensures.reads.survives clean in
+    ((rw same at (so_far.answers view back base others rise before has)) own_is).1
+
+pub returns-in-Err-Damaged-clause-ended : goal.returns-in-Err-Damaged-clause-ended
+returns-in-Err-Damaged-clause-ended g c none =
+    absurd (some_there c.loop-row.rows.items (sym c.if-is_empty.ensures) none)
+
+pub returns-in-Err-Damaged-clause-rises : goal.returns-in-Err-Damaged-clause-rises
+returns-in-Err-Damaged-clause-rises g c =
+    let same = to_z-of_z w64 c.args.from c.ranges.from in
+    rw same at c.loop-row.invariant.rises
+
+pub returns-in-Err-Damaged-clause-cause : goal.returns-in-Err-Damaged-clause-cause
+returns-in-Err-Damaged-clause-cause g c clean = tt
+
+pub returns-clause-ended : goal.returns-clause-ended
+returns-clause-ended g c none =
+    let left = none_left c.loop-row.row-index c.args.own.now c.loop-row-test.false in
+    c.requires.ended (sym (ap (λ n. drop n c.args.own.now) (sym c.loop-row.invariant.count ∙ ap length none)) ∙ left)
+
+pub returns-clause-cause : goal.returns-clause-cause
+returns-clause-cause g c clean = tt
