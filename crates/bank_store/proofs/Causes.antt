@@ -1,5 +1,5 @@
 -- Why the store is told to have failed, as a bank is looked for or made.
-use Rattle.std.proofs.Common.{refl, Bool, Option, Err, Result, List, ℕ, inl, inr, arith}
+use Rattle.std.proofs.Common.{refl, Bool, Option, Ok, Err, Result, List, ℕ, ℤ, inl, inr, arith}
 use Rattle.std.specs.Prelude.{IfErr, IsTrue}
 use Rattle.std.proofs.lemmas.Bool.{cases_Bool}
 use Rattle.sqlite.specs.{Table.Table, Tree.Trees, State.State, State.HasCleanDisk, State.Survives, Held.Held}
@@ -11,7 +11,8 @@ use Rattle.store_rows.specs.{declared.fault.TableFault.TableFault, declared.meta
 use Rattle.store_rows.specs.declared.fault.TableFault.TheVariants.{Sqlite, Damaged as Broken}
 use Rattle.bank_transactions.specs.believed.Causes.{IsBefore}
 use Rattle.bank_transactions.proofs.Blamed.{comes, commit_fails, failed_here, failed_within, same_moment, then_moment}
-use Rattle.bank_store.specs.{MetaRow.ChecksMeta, OpenFaults.of_the_store, OpenFaults.unmade_by, OpenFaults.unread_by}
+use Rattle.bank_store.specs.{MetaRow.ChecksCount, MetaRow.ChecksMeta, OpenFaults.of_the_store, OpenFaults.unmade_by}
+use Rattle.bank_store.specs.OpenFaults.{unread_by}
 use Rattle.bank_store.specs.StoreFaults.{CallFailed, IsOpenCall, KnowsCause, KnowsWhyUnmade, LooksIn, MakingFailed}
 use Rattle.posting_rules.specs.declared.open_fault.OpenFault.{OpenFault}
 use Rattle.posting_rules.specs.declared.open_fault.OpenFault.TheVariants.{Store}
@@ -106,6 +107,11 @@ module _ {S : Type 0} (g : Ghosts S) (old new : Held S) where
       → IfErr r (KnowsCause g old new)
   checks_known stored (Err Store) checks = absurd checks
   checks_known stored other checks = tt
+
+  pub count_known : (decided : ℤ) (r : Result (Unit {0}) OpenFault) → ChecksCount decided r
+      → IfErr r (KnowsCause g old new)
+  count_known decided (Ok done) checks = tt
+  count_known decided (Err fault) checks = rw checks.0 tt
 
 -- ---- one call after another
 

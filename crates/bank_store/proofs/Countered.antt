@@ -14,7 +14,7 @@ use Rattle.posting_rules.specs.declared.limits.TheConstants.{MAX_ACCOUNTS}
 use Rattle.posting_rules.proofs.ChangesByKey.{sound_tables}
 use Rattle.bank_transactions.specs.believed.Openings.{IsReadyToOpen}
 use Rattle.bank_transactions.proofs.OpeningRows.{room_sound}
-use Rattle.posting_rules.specs.believed.Counter.{ShowsLog, ShowsPrefix, Takes, IsCutShort, IsDamaged, Refuses}
+use Rattle.posting_rules.specs.believed.Counter.{Seen, ShowsLog, ShowsPrefix, Takes, IsCutShort, IsDamaged, Refuses}
 use Rattle.posting_rules.specs.believed.Counter.{TellsDamage}
 use Rattle.posting_rules.specs.believed.Tables.{Tables, AreTablesOf as Show}
 use Rattle.posting_rules.proofs.{Calls.IsChange, Sequence.commands_after, Undamaged.undamaged}
@@ -106,6 +106,10 @@ module _ {S X : Type 0} {So : Tables → Type 0} {after : Tables → Tables} {wa
         )
       ]
 
+-- what there was is left of a call that tried nothing
+pub none_or_all_untried : (seen : Seen) (cs : List Command) → LeavesNoneOrAll seen seen cs
+none_or_all_untried seen cs = λ clean log at trees may. let it = at.survives trees may in (it.0, it.1, inl it.2)
+
 -- the same after a fault that brought the bank down
 pub none_or_all_down : {S X : Type 0} {So : Tables → Type 0} {after : Tables → Tables} {wanted : Tables → X}
     {Met : Damage S} {Adds : Additions} (g : Ghosts S) (old mid new : Held S)
@@ -151,6 +155,25 @@ takes {S} {X} {So} {after} {wanted} {g} {old} {new} {x} {Met} {Adds} holds cs is
                   log at.shows.shows,
             );
       };
+    }
+
+-- a call that tried nothing, as its commands change no tables
+pub takes_untried : (seen : Seen) (cs : List Command) → IsChange (λ t. t) cs → AreCommands cs → Takes seen seen cs
+takes_untried seen cs is are = record {
+  shows = λ clean log s. shown log s;
+  stands = λ clean log at. record {
+    shows = shown log at.shows;
+    up = at.up;
+    survives = λ trees may. let it = at.survives trees may in (it.0, it.1, is it.0 log it.2);
+  };
+}
+  where
+    shown : (log : List Command) → ShowsLog seen log → ShowsLog seen (followed_by log cs)
+    shown log s = record {
+      commands = commands_after log cs s.commands are;
+      tables = s.tables;
+      are = s.are;
+      shows = is s.tables log s.shows;
     }
 
 -- the rows that it has break a rule

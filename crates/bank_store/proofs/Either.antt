@@ -1,6 +1,6 @@
 -- What a crash leaves of a call that was refused, on tables of a log or not.
-use Rattle.std.proofs.Common.{◌≡◌, ℕ, List, Option, Some, None, Result, Err, refl, sym, subst, ◌∙◌, inl, inr}
-use Rattle.std.specs.Prelude.{◌⊎◌, IfErr}
+use Rattle.std.proofs.Common.{◌≡◌, ℕ, List, Option, Some, None, Result, refl, ◌∙◌, inl, inr}
+use Rattle.std.specs.Prelude.{◌⊎◌}
 use Rattle.sqlite.specs.{Held.Held, Held.state, State.Survives}
 use Rattle.sqlite_trees.specs.declared.store.Store.{Ghosts}
 use Rattle.sqlite.proofs.StateLemmas.{survives_then}
@@ -58,22 +58,13 @@ either_opened g old new t b terms either = λ clean before trees may.
 -- ---- a call that tried nothing
 
 module _ {S : Type 0} (g : Ghosts S) (bank : Bank S g) where
-  records_untried : (moment : ℕ) (records : List (List ℕ)) (fault : Fault) → (fault ≡ Down) ⊎ (fault ≡ Memory)
+  pub untried_records : (moment : ℕ) (records : List (List ℕ)) (fault : Fault) → (fault ≡ Down) ⊎ (fault ≡ Memory)
       → RefusesRecords g moment records bank bank fault
-  records_untried moment records fault (inl is) =
+  untried_records moment records fault (inl is) =
       rw is (record { damage = tt; left = λ t shows so. either_same g bank t _ })
-  records_untried moment records fault (inr is) =
+  untried_records moment records fault (inr is) =
       rw is (record { damage = tt; left = λ t shows so. either_same g bank t _ })
 
-  pub untried_records : {X : Type 0} (moment : ℕ) (records : List (List ℕ)) (result : Result X Fault) (fault : Fault)
-      → result ≡ Err fault → (fault ≡ Down) ⊎ (fault ≡ Memory)
-      → IfErr result (RefusesRecords g moment records bank bank)
-  untried_records {X} moment records result fault is tells =
-      subst (λ (r : Result X Fault). IfErr r (RefusesRecords g moment records bank bank)) (sym is)
-      (records_untried moment records fault tells)
-
-  pub untried_opening : {X : Type 0} (b : ℕ) (terms : Terms) (result : Result X Fault) (fault : Fault)
-      → result ≡ Err fault → fault ≡ Down → IfErr result (RefusesOpening g b terms bank bank)
-  untried_opening {X} b terms result fault is tells =
-      subst (λ (r : Result X Fault). IfErr r (RefusesOpening g b terms bank bank)) (sym is)
-      (rw tells (record { damage = tt; left = λ t shows so. either_same g bank t _ }))
+  pub untried_opening : (b : ℕ) (terms : Terms) (fault : Fault) → fault ≡ Down
+      → RefusesOpening g b terms bank bank fault
+  untried_opening b terms fault is = rw is (record { damage = tt; left = λ t shows so. either_same g bank t _ })

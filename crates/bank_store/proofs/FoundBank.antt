@@ -153,6 +153,18 @@ module _ (old mid : State) (same : IsAsBefore old mid) where
   pub missed_at : (new : State) (fault : OpenFault) → SeeksTables mid new (Err fault) → SeeksBank old new (Err fault)
   missed_at new fault missed = (misses_at fault missed.0, reads_at new fault missed.1)
 
+-- where `meta` isn't there, it has no version
+pub no_version : (old : State) (p : Presence) → IsPresent old.now (probe_of table.Meta ∷ []) p → p ≢ Whole
+    → HasNoOtherVersion old
+no_version old Absent lacks other = λ n rows has is. lacks.0.1 has.sound has.holds.defined
+no_version old Partial some other = λ n rows has is.
+    let lacks : Lacks old.now (probe_of table.Meta) = elim some.1.1 [
+      | inl it ↦ subst (Lacks old.now) it some.1.2
+      | inr none ↦ absurd none
+    ] in
+    lacks.1 has.sound has.holds.defined
+no_version old Whole there other = absurd (other refl)
+
 -- the row of `meta` has another version
 pub other_read : (old mid new : State) (m : StoredMeta) (version : ℤ) → IsReadable old.now (probe_of table.Meta)
     → IsAsBefore old mid → ((rows : List Entry) → HoldsRows mid.now bank.meta rows → Some m ≡ meta_in rows)

@@ -1,15 +1,19 @@
 -- What was read of kept requests, and why they weren't read.
-use Rattle.std.proofs.Common.{◌≡◌, ◌++◌, ◌∷◌, ℕ, ℤ, pos, List, [], Option, Some, None, Ok, Err, Result, sym, append_assoc, refl, ap, inl, inr, ◌∙◌}
-use Rattle.std.specs.Prelude.{IfErr, IfOk, MatchResult}
-use Rattle.sqlite.specs.{Held.Held, Held.state, declared.error.Error.Error}
+use Rattle.std.proofs.Common.{◌≡◌, ◌++◌, ◌∷◌, ℕ, ℤ, pos, List, [], Option, Some, None, Ok, Err, Result, true, sym}
+use Rattle.std.proofs.Common.{append_assoc, arith, refl, ap, subst, inl, inr, ◌∙◌}
+use Rattle.std.specs.Prelude.{IfErr, IfOk, MatchResult, OnOk}
+use Rattle.std.proofs.lemmas.Result.{IfOk-weaker}
+use Rattle.sqlite.specs.{Effect.Database, Held.Held, Held.state, State.HasCleanDisk, declared.error.Error.Error}
+use Rattle.sqlite.specs.declared.transaction.Transaction.{Transaction}
 use Rattle.sqlite_trees.specs.declared.store.Store.{Ghosts}
-use Rattle.posting_rules.specs.declared.fault.Rule.TheVariants.{Request}
+use Rattle.posting_rules.specs.{believed.Tables.Tables, declared.fault.Rule.TheVariants.Request}
 use Rattle.store_rows.specs.believed.Rules.{IsBroken, StoredRows}
 use Rattle.store_rows.specs.declared.metas.StoredMeta.{StoredMeta}
 use Rattle.store_rows.specs.declared.fault.TableFault.{TableFault, TheVariants.Sqlite, TheVariants.Damaged}
 use Rattle.bank_transactions.specs.Causes.{Blames, IsFirstBroken}
 use Rattle.bank_transactions.specs.believed.Stored.{HoldsDecided}
-use Rattle.bank_transactions.proofs.Blamed.{comes, same_moment}
+use Rattle.bank_transactions.specs.Doing.{ChangesNothing, Ends, EndsBy, Reads}
+use Rattle.bank_transactions.proofs.{Blamed.comes, Blamed.same_moment, Transacted.of_given}
 use Rattle.walked_rows.specs.{Broken.HasBroken, Causes.HasItsCause, Requests.IsNoRequest, Rows.items_from}
 use Rattle.walked_rows.specs.KeptRows.{BreaksKept, HoldsKept, KeptItem, kept_key}
 use Rattle.walked_rows.specs.StepOutcomes.{BreaksFirst}
@@ -64,3 +68,41 @@ decided_once rows m n one two =
 
     pos_same : (a b : ℕ) → pos a ≡ pos b → a ≡ b
     pos_same a b is = cc
+
+-- ---- a transaction that only reads, and ended with an answer
+
+module _ {S X : Type 0} {answer result : Result X TableFault} (g : Ghosts S) (old : Held S) (begun last : Transaction S)
+    (end new : Held S) (is : begun.conn.now ≡ record old { in_transaction = true })
+    (ends : Ends g last.conn.now end answer result) (same : end ≡ new) where
+  last_clean : HasCleanDisk (state g end) → HasCleanDisk (state g last.conn.now)
+  last_clean clean = omega (arith, ends.survives.clean, clean)
+
+  end_clean : HasCleanDisk (state g new) → HasCleanDisk (state g end)
+  end_clean = subst (λ (h : Held S). HasCleanDisk (state g h)) (sym same)
+
+  -- what was read of the database that it began with is so of the one before
+  pub read_before : (Holds : X → Database → Type 0)
+      → IfOk answer (λ x. HasCleanDisk (state g last.conn.now) → Holds x (state g begun.conn.now).now)
+      → IfOk result (λ x. HasCleanDisk (state g new) → Holds x (state g old).now)
+  read_before Holds it =
+      IfOk-weaker result Begun (λ x. HasCleanDisk (state g new) → Holds x (state g old).now)
+      (λ x holds clean. subst (λ (h : Held S). Holds x (state g h).now) is (holds (last_clean (end_clean clean))))
+      (of_given Begun answer result ends.given it)
+    where
+      Begun : X → Type 0
+      Begun x = HasCleanDisk (state g last.conn.now) → Holds x (state g begun.conn.now).now
+
+  -- and that is as it was
+  pub read_leaves : {w : Tables → X} → Reads g begun last w answer
+      → OnOk result (HasCleanDisk (state g new) → (state g new).now ≡ (state g old).now)
+  read_leaves reads =
+      subst (λ (h : Held S). OnOk result (HasCleanDisk (state g h) → (state g h).now ≡ (state g old).now)) same
+      (go answer result ends.given (λ clean. (reads.says.leaves (last_clean clean)).0) ends.answers)
+    where
+      go : (a r : Result X TableFault) → IfOk r (λ x. a ≡ Ok x)
+          → (HasCleanDisk (state g end) → ChangesNothing (state g begun.conn.now) (state g last.conn.now) a)
+          → (HasCleanDisk (state g end) → EndsBy (state g last.conn.now) (state g end) a r)
+          → OnOk r (HasCleanDisk (state g end) → (state g end).now ≡ (state g old).now)
+      go (Ok x) (Ok y) given stays by = λ clean. (by clean).0 ∙ (stays clean).now ∙ ap (λ (h : Held S). (state g h).now) is
+      go (Err e) (Ok y) given stays by = absurd (let it = given in cc)
+      go a (Err e) given stays by = tt

@@ -1,7 +1,8 @@
 -- What a call leaves of the tables of other products.
 use Rattle.std.proofs.Common.{◌∙◌, Bool, true, false, Option, Ok, Err, refl, arith, inl, inr}
 use Rattle.std.specs.Prelude.{IsSome}
-use Rattle.sqlite.specs.{State.State, State.HasCleanDisk, State.Survives, Held.Held, Held.state, Table.Table}
+use Rattle.sqlite.specs.{State.State, State.HasCleanDisk, State.IsUnchanged, State.Survives, Held.Held, Held.state}
+use Rattle.sqlite.specs.Table.{Table}
 use Rattle.sqlite.proofs.StateLemmas.{survives_then}
 use Rattle.sqlite_trees.specs.declared.store.Store.{Ghosts}
 use Rattle.posting_rules.specs.declared.fault.Fault.{Fault}
@@ -10,7 +11,7 @@ use Rattle.sql_meanings.proofs.Sparing.{spares_same}
 use Rattle.store_rows.specs.believed.Sparing.{bank_names}
 use Rattle.store_rows.specs.declared.fault.TableFault.{TableFault, TheVariants.Sqlite, TheVariants.Damaged}
 use Rattle.bank_transactions.specs.{believed.Doing.LeavesOthers, Doing.SparesTheirs, Undone.UndoesFaults}
-use Rattle.bank_store.specs.{Connections.IsAsBefore, Down.GoesDown, believed.BankSparing.SparesOtherTables}
+use Rattle.bank_store.specs.{Down.GoesDown, believed.BankSparing.SparesOtherTables}
 use Rattle.bank_store.specs.{Walks.IsUntouchedIfOpen, declared.bank.Bank.Bank, SparedTables.spared_itself}
 use Rattle.bank_store.specs.believed.Seen.{bank_seen, connection_of, database_of, file_of}
 use Rattle.bank_store.specs.Seen.{fault_of}
@@ -52,6 +53,6 @@ spares_down g old new mid e refused up spares undone went quiet none = record {
 
 -- a probe that was answered changed nothing
 pub probe_unchanged : (old new : State) (table : Table) (there : Bool) → TellsProbe old new table (Ok there)
-    → IsAsBefore old new
-probe_unchanged old new table true answers = answers.1.0
-probe_unchanged old new table false answers = answers.1.0
+    → IsUnchanged old new
+probe_unchanged old new table true answers = answers.1
+probe_unchanged old new table false answers = answers.1

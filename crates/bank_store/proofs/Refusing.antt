@@ -104,6 +104,10 @@ of_wider Store P Q wide is = tt
 of_wider Down P Q wide is = tt
 of_wider (Broken rule) P Q wide is = wide rule is
 
+-- a bank that was down tells of none
+pub of_down : (P : Rule → Type 0) (refused : Fault) → refused ≡ Down → OfDamage refused P
+of_down P refused is = rw is tt
+
 -- of records: both are so of it, and tables that are ready for them break none
 pub breaks : {S : Type 0} (g : Ghosts S) (records : List (List ℕ)) (old new : Bank S g) (refused : Fault)
     → OfDamage refused (WasBrokenOrMet g (AddsForRecords (database_of g old) records) old new)

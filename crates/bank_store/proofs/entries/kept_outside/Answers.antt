@@ -1,15 +1,29 @@
 -- What was read outside a transaction, and why it wasn't.
 use Rattle.std.proofs.{Common.w64, lemmas.Int.to_z-of_z}
+use Rattle.sqlite.specs.Held.{state}
 use Rattle.bank_store.proofs.KeptRead.{ok_part, read_blames}
+use Rattle.bank_store.proofs.StepsKeep.{read_still, read_undone}
 use Rattle.bank_store.proofs.entries.kept_outside.Goals as goal
 
-pub returns-clause-answers : goal.returns-clause-answers
-returns-clause-answers g c clean all has =
-    let same = to_z-of_z w64 c.args.from c.ranges.from in
-    ok_part _ _ c.read_kept.result (rw same at (c.read_kept.ensures.answers clean all has))
+pub note_settled-requires : goal.note_settled-requires
+note_settled-requires g c = c.requires
 
-pub returns-clause-cause : goal.returns-clause-cause
-returns-clause-cause g c clean =
+pub returns : goal.returns
+returns g c =
+    let old = state g.S.Store c.args.conn.now in
+    let new = state g.S.Store c.read_kept.new.conn in
+    let says = c.read_kept.ensures in
     let same = to_z-of_z w64 c.args.from c.ranges.from in
-    read_blames g.S.Store c.args.conn.now c.read_kept.new.conn c.args.from _ _ c.read_kept.result
-    (λ all has. rw same at (c.read_kept.ensures.answers clean all has)) (c.read_kept.ensures.cause clean)
+    record {
+      answers = λ clean all has. ok_part _ _ c.read_kept.result (rw same at (says.answers clean all has));
+      ended = says.ended;
+      cause = λ clean.
+          read_blames g.S.Store c.args.conn.now c.read_kept.new.conn c.args.from _ _ c.read_kept.result
+          (λ all has. rw same at (says.answers clean all has)) (says.cause clean);
+      same = λ clean. read_still old new c.read_kept.result (says.reads.same clean);
+      undone = λ clean.
+          read_undone old new c.read_kept.result (says.reads.same clean) c.note_settled.ensures c.requires
+          (says.reads.err clean);
+      mode = says.reads.mode c.requires;
+      survives = says.reads.survives;
+    }

@@ -1,14 +1,16 @@
 -- What a balance comes to.
-use Rattle.std.proofs.Common.{[], ◌∙◌}
+use Rattle.std.proofs.Common.{◌≡◌, [], ◌∙◌, Err, refl}
 use Rattle.std.proofs.lemmas.Result.{err_from_is_err_and}
 use Rattle.std.specs.Prelude.{IsSome}
+use Rattle.posting_rules.specs.declared.fault.Fault.TheVariants.{Down}
 use Rattle.posting_rules.proofs.{Calls.stays, Looked.balance_shown, ChangesByKey.sound_tables}
 use Rattle.bank_store.proofs.AsFound.{idle_reads, reads_done, reads_down}
 use Rattle.bank_store.proofs.{Countered.takes, Causes.still_clean}
 use Rattle.bank_store.proofs.bank.BankCounter.balance.Given.{Over}
 use Rattle.bank_store.proofs.OtherTables.{spares_done, spares_down, spares_untouched}
-use Rattle.bank_store.proofs.Refusing.{answered_call, consult_refused, refused_call, untried_call, Refusal}
+use Rattle.bank_store.proofs.Refusing.{answered_call, consult_refused, of_down, refused_call, untried_call, Refusal}
 use Rattle.bank_transactions.specs.Causes.{IsFirstBroken}
+use Rattle.bank_transactions.proofs.Remembered.{blank}
 use Rattle.bank_store.proofs.bank.BankCounter.balance.Goals as goal
 
 -- what its refusal says
@@ -20,58 +22,59 @@ refused g c =
     c.go_down.result c.go_down.ensures.down c.go_down.ensures.survives c.in-Err.ensures.undone
     c.go_down.ensures.undone c.in-Err.ensures.says
 
-pub returns-in-Ok-clause-answer : goal.returns-in-Ok-clause-answer
-returns-in-Ok-clause-answer g c clean log s =
-    (c.in-Ok.ensures.says.answers clean s.tables s.are (sound_tables s.tables log s.commands s.shows)).0
-    ∙ balance_shown s.tables log c.args.account s.shows
+pub read_balance-requires : goal.read_balance-requires
+read_balance-requires g c = c.args.self.now.idle
 
-pub returns-in-Ok-clause-call : goal.returns-in-Ok-clause-call
-returns-in-Ok-clause-call g c =
-    let Down = IsSome c.args.self.now.fault in
+pub invariant_of-self : goal.invariant_of-self
+invariant_of-self g c = record {
+  idle = c.read_balance.ensures.says.mode;
+  remembers = blank g.S.Store c.read_balance.new.conn c.forget.new.self c.forget.ensures.blank;
+}
+
+pub returns-in-Ok : goal.returns-in-Ok
+returns-in-Ok g c =
     let says = c.in-Ok.ensures.says in
-    answered_call g.S.Store c.args.self.now _ [] _ c.in_ok-up.ensures.up c.in_ok-up.ensures.up
-    (takes sound_tables [] stays tt Down Down c.in_ok-up.ensures.up says) (still_clean says.survives)
+    let Failed = IsSome c.args.self.now.fault in
+    record {
+      answer =
+          λ clean log s. (says.answers clean s.tables s.are (sound_tables s.tables log s.commands s.shows)).0
+          ∙ balance_shown s.tables log c.args.account s.shows;
+      call =
+          answered_call g.S.Store c.args.self.now _ [] _ c.in_ok-up.ensures.up c.in_ok-up.ensures.up
+          (takes sound_tables [] stays tt Failed Failed c.in_ok-up.ensures.up says) (still_clean says.survives);
+      frugal = λ same. (let it = same in cc);
+      stored = c.in-Ok.ensures.stored;
+      reads = reads_done g.S.Store c.args.self.now _ c.in-Ok.balance c.in-Ok.ensures.still c.in-Ok.ensures.left;
+      broken = tt;
+      spares = spares_done g.S.Store c.args.self.now _ _ c.in_ok-up.ensures.up says.spares;
+    }
 
-pub returns-in-Ok-clause-stored : goal.returns-in-Ok-clause-stored
-returns-in-Ok-clause-stored g c = c.in-Ok.ensures.stored
+pub returns-in-Err : goal.returns-in-Err
+returns-in-Err g c =
+    let no = refused g c in
+    record {
+      answer = tt;
+      call = refused_call g.S.Store c.args.self.now c.go_down.new.self [] c.go_down.result no c.in_ok-up.ensures.up;
+      frugal = λ same. no.frugal (let it = same in cc);
+      stored = tt;
+      reads = reads_down g.S.Store c.args.self.now c.go_down.new.self c.read_balance.new.conn c.go_down.result
+          c.in-Err.ensures.undone c.in-Err.ensures.left c.go_down.ensures.undone c.go_down.ensures.survives;
+      broken = no.broken;
+      spares = spares_down g.S.Store c.args.self.now c.go_down.new.self c.read_balance.new.conn c.in-Err.fault
+          c.go_down.result c.in_ok-up.ensures.up c.in-Err.ensures.says.spares c.in-Err.ensures.undone
+          c.go_down.ensures.down c.go_down.ensures.undone c.go_down.ensures.survives;
+    }
 
-pub returns-in-Ok-clause-reads : goal.returns-in-Ok-clause-reads
-returns-in-Ok-clause-reads g c =
-    reads_done g.S.Store c.args.self.now _ c.in-Ok.balance c.in-Ok.ensures.still c.in-Ok.ensures.left
-
-pub returns-in-Err-clause-call : goal.returns-in-Err-clause-call
-returns-in-Err-clause-call g c =
-    refused_call g.S.Store c.args.self.now c.go_down.new.self [] c.go_down.result (refused g c)
-    c.in_ok-up.ensures.up
-
-pub returns-in-Err-clause-broken : goal.returns-in-Err-clause-broken
-returns-in-Err-clause-broken g c = (refused g c).broken
-
-pub returns-in-Err-clause-reads : goal.returns-in-Err-clause-reads
-returns-in-Err-clause-reads g c =
-    reads_down g.S.Store c.args.self.now c.go_down.new.self c.read_balance.new.conn c.go_down.result
-    c.in-Err.ensures.undone c.in-Err.ensures.left c.go_down.ensures.undone c.go_down.ensures.survives
-
-pub returns-in_err-up-clause-reads : goal.returns-in_err-up-clause-reads
-returns-in_err-up-clause-reads g c = idle_reads g.S.Store c.args.self.now c.from_residual.result
-
-pub returns-in_err-up-clause-call : goal.returns-in_err-up-clause-call
-returns-in_err-up-clause-call g c =
+pub returns-in_err-up : goal.returns-in_err-up
+returns-in_err-up g c =
     let p = err_from_is_err_and c.from_residual.result c.from_residual.ensures.1 in
-    untried_call g.S.Store c.args.self.now [] c.from_residual.result p.0 p.1
-    (p.2 ∙ c.in_err-up.ensures.down.0) c.in_err-up.ensures.down.1
-
--- ---- the tables of other products
-
-pub returns-in-Ok-clause-spares : goal.returns-in-Ok-clause-spares
-returns-in-Ok-clause-spares g c =
-    spares_done g.S.Store c.args.self.now _ _ c.in_ok-up.ensures.up c.in-Ok.ensures.says.spares
-
-pub returns-in-Err-clause-spares : goal.returns-in-Err-clause-spares
-returns-in-Err-clause-spares g c =
-    spares_down g.S.Store c.args.self.now c.go_down.new.self c.read_balance.new.conn c.in-Err.fault
-    c.go_down.result c.in_ok-up.ensures.up c.in-Err.ensures.says.spares c.in-Err.ensures.undone c.go_down.ensures.down
-    c.go_down.ensures.undone c.go_down.ensures.survives
-
-pub returns-in_err-up-clause-spares : goal.returns-in_err-up-clause-spares
-returns-in_err-up-clause-spares g c = spares_untouched g.S.Store c.args.self.now
+    let down : p.0 ≡ Down = p.2 ∙ c.in_err-up.ensures.down.0 in
+    rw p.1 (record {
+      answer = tt;
+      call = untried_call g.S.Store c.args.self.now [] (Err p.0) p.0 refl down c.in_err-up.ensures.down.1;
+      frugal = λ same. (let it = same in cc);
+      stored = tt;
+      reads = idle_reads g.S.Store c.args.self.now (Err p.0);
+      broken = of_down _ p.0 down;
+      spares = spares_untouched g.S.Store c.args.self.now;
+    })

@@ -1,15 +1,16 @@
 -- What the next branch comes to.
-use Rattle.std.proofs.Common.{◌≡◌, [], ◌∙◌}
+use Rattle.std.proofs.Common.{◌≡◌, [], ◌∙◌, Err, refl}
 use Rattle.std.specs.Prelude.{IsSome}
 use Rattle.std.proofs.lemmas.Result.{err_from_is_err_and}
+use Rattle.posting_rules.specs.declared.fault.Fault.TheVariants.{Down}
 use Rattle.posting_rules.proofs.{Calls.stays, NextBranch.next_shown, ChangesByKey.sound_tables}
 use Rattle.store_rows.specs.Columns.{branch_above}
 use Rattle.bank_store.proofs.AsFound.{idle_reads, reads_done, reads_down}
 use Rattle.bank_store.proofs.{Causes.still_clean, Countered.takes, bank.BankCounter.next_branch.Given.Over}
 use Rattle.bank_store.proofs.OtherTables.{spares_done, spares_down, spares_untouched}
-use Rattle.bank_store.proofs.Refusing.{answered_call, consult_refused, refused_call, untried_call, Refusal}
+use Rattle.bank_store.proofs.Refusing.{answered_call, consult_refused, of_down, refused_call, untried_call, Refusal}
 use Rattle.bank_transactions.specs.{NextBranch.line_above, Causes.IsFirstBroken}
-use Rattle.bank_transactions.proofs.NextRow.{next_is}
+use Rattle.bank_transactions.proofs.{NextRow.next_is, Remembered.blank}
 use Rattle.bank_store.proofs.bank.BankCounter.next_branch.Goals as goal
 
 -- what its refusal says
@@ -21,11 +22,20 @@ refused g c =
     c.go_down.result c.go_down.ensures.down c.go_down.ensures.survives c.in-Err.ensures.undone
     c.go_down.ensures.undone c.in-Err.ensures.says
 
+pub read_next_branch-requires : goal.read_next_branch-requires
+read_next_branch-requires g c = c.args.self.now.idle
+
+pub invariant_of-self : goal.invariant_of-self
+invariant_of-self g c = record {
+  idle = c.read_next_branch.ensures.says.mode;
+  remembers = blank g.S.Store c.read_next_branch.new.conn c.forget.new.self c.forget.ensures.blank;
+}
+
 pub returns-in-Ok : goal.returns-in-Ok
 returns-in-Ok g c =
     let after = c.args.after in
     let says = c.in-Ok.ensures.says in
-    let Down = IsSome c.args.self.now.fault in
+    let Failed = IsSome c.args.self.now.fault in
     record {
       answer =
           λ clean log s.
@@ -36,7 +46,7 @@ returns-in-Ok g c =
       within = c.in-Ok.ensures.within;
       call =
           answered_call g.S.Store c.args.self.now _ [] _ c.in_ok-up.ensures.up c.in_ok-up.ensures.up
-          (takes sound_tables [] stays tt Down Down c.in_ok-up.ensures.up says) (still_clean says.survives);
+          (takes sound_tables [] stays tt Failed Failed c.in_ok-up.ensures.up says) (still_clean says.survives);
       stored = c.in-Ok.ensures.stored;
       reads = reads_done g.S.Store c.args.self.now _ c.in-Ok.next c.in-Ok.ensures.still c.in-Ok.ensures.left;
       frugal = λ same. (let it = same in cc);
@@ -64,14 +74,17 @@ returns-in-Err g c =
           c.go_down.ensures.down c.go_down.ensures.undone c.go_down.ensures.survives;
     }
 
-pub returns-in_err-up-clause-call : goal.returns-in_err-up-clause-call
-returns-in_err-up-clause-call g c =
+pub returns-in_err-up : goal.returns-in_err-up
+returns-in_err-up g c =
     let p = err_from_is_err_and c.from_residual.result c.from_residual.ensures.1 in
-    untried_call g.S.Store c.args.self.now [] c.from_residual.result p.0 p.1
-    (p.2 ∙ c.in_err-up.ensures.down.0) c.in_err-up.ensures.down.1
-
-pub returns-in_err-up-clause-reads : goal.returns-in_err-up-clause-reads
-returns-in_err-up-clause-reads g c = idle_reads g.S.Store c.args.self.now c.from_residual.result
-
-pub returns-in_err-up-clause-spares : goal.returns-in_err-up-clause-spares
-returns-in_err-up-clause-spares g c = spares_untouched g.S.Store c.args.self.now
+    let down : p.0 ≡ Down = p.2 ∙ c.in_err-up.ensures.down.0 in
+    rw p.1 (record {
+      answer = tt;
+      within = tt;
+      call = untried_call g.S.Store c.args.self.now [] (Err p.0) p.0 refl down c.in_err-up.ensures.down.1;
+      frugal = λ same. (let it = same in cc);
+      stored = tt;
+      reads = idle_reads g.S.Store c.args.self.now (Err p.0);
+      broken = of_down _ p.0 down;
+      spares = spares_untouched g.S.Store c.args.self.now;
+    })

@@ -1,7 +1,8 @@
 -- What an opening comes to.
-use Rattle.std.proofs.Common.{◌≤◌, [], ◌∷◌, ◌∙◌}
+use Rattle.std.proofs.Common.{◌≡◌, ◌≤◌, [], ◌∷◌, ◌∙◌, Err, refl}
 use Rattle.std.proofs.lemmas.Result.{err_from_is_err_and}
 use Rattle.std.specs.Prelude.{IsSome}
+use Rattle.posting_rules.specs.declared.fault.Fault.TheVariants.{Down}
 use Rattle.posting_rules.specs.believed.Commands.{Open, AreCommands, opened_with}
 use Rattle.posting_rules.proofs.{Calls.opens, Calls.answers}
 use Rattle.bank_store.proofs.{Broke.breaks_shown, Causes.still_clean, Countered.ready_to_open, Countered.takes}
@@ -11,6 +12,7 @@ use Rattle.bank_store.proofs.OtherTables.{spares_done, spares_down, spares_untou
 use Rattle.bank_store.proofs.Refusing.{answered_call, breaks_opening, refused_call, transaction_refused}
 use Rattle.bank_store.proofs.{Either.either_after, Either.either_opened, Either.untried_opening}
 use Rattle.bank_store.proofs.Refusing.{untried_call, Refusal}
+use Rattle.bank_transactions.proofs.Remembered.{blank}
 use Rattle.bank_transactions.specs.{believed.Additions.AddsBranch, believed.Causes.IsBrokenOrMet}
 use Rattle.bank_store.proofs.bank.BankCounter.open_branch.Goals as goal
 
@@ -32,6 +34,19 @@ refused g c =
     c.go_down.ensures.survives c.in-Err.ensures.undone c.go_down.ensures.undone
     c.in-Err.ensures.transacts
 
+pub floor_law-requires : goal.floor_law-requires
+floor_law-requires g c = c.requires.floor
+
+pub open_branch-requires : goal.open_branch-requires
+open_branch-requires g c =
+    record { mode = c.args.self.now.idle; branch = c.requires.branch; few = c.requires.few }
+
+pub invariant_of-self : goal.invariant_of-self
+invariant_of-self g c = record {
+  idle = c.open_branch.ensures.transacts.mode;
+  remembers = blank g.S.Store c.open_branch.new.conn c.forget.new.self c.forget.ensures.blank;
+}
+
 pub returns-in-Ok : goal.returns-in-Ok
 returns-in-Ok g c =
     let b = c.args.branch in
@@ -39,7 +54,7 @@ returns-in-Ok g c =
     let above : 1 ≤ b = c.range_law.ensures.least in
     let are : AreCommands (Open b terms ∷ []) =
     ((above, c.requires.branch, c.requires.some, c.requires.few, c.floor_law.ensures), tt) in
-    let Down = IsSome c.args.self.now.fault in
+    let Failed = IsSome c.args.self.now.fault in
     let says = c.in-Ok.ensures.transacts in
     record {
       answer =
@@ -49,7 +64,7 @@ returns-in-Ok g c =
       call =
           answered_call g.S.Store c.args.self.now _ (Open b terms ∷ []) _ c.in_ok-up.ensures.up
           c.in_ok-up.ensures.up
-          (takes (ready_to_open b terms above c.requires.few) (Open b terms ∷ []) (opens b terms above c.requires.few) are Down Down
+          (takes (ready_to_open b terms above c.requires.few) (Open b terms ∷ []) (opens b terms above c.requires.few) are Failed Failed
           c.in_ok-up.ensures.up says) (still_clean says.survives);
       frugal = λ same. (let it = same in cc);
       stored = c.in-Ok.ensures.stored;
@@ -83,17 +98,15 @@ returns-in-Err g c =
           c.go_down.ensures.down c.go_down.ensures.undone c.go_down.ensures.survives;
     }
 
-pub returns-in_err-up-clause-call : goal.returns-in_err-up-clause-call
-returns-in_err-up-clause-call g c =
+pub returns-in_err-up : goal.returns-in_err-up
+returns-in_err-up g c =
     let p = err_from_is_err_and c.from_residual.result c.from_residual.ensures.1 in
-    untried_call g.S.Store c.args.self.now _ c.from_residual.result p.0 p.1
-    (p.2 ∙ c.in_err-up.ensures.down.0) c.in_err-up.ensures.down.1
-
-pub returns-in_err-up-clause-own : goal.returns-in_err-up-clause-own
-returns-in_err-up-clause-own g c =
-    let p = err_from_is_err_and c.from_residual.result c.from_residual.ensures.1 in
-    untried_opening g.S.Store c.args.self.now c.args.branch (opened_with c.args.count c.args.floor)
-    c.from_residual.result p.0 p.1 (p.2 ∙ c.in_err-up.ensures.down.0)
-
-pub returns-in_err-up-clause-spares : goal.returns-in_err-up-clause-spares
-returns-in_err-up-clause-spares g c = spares_untouched g.S.Store c.args.self.now
+    let down : p.0 ≡ Down = p.2 ∙ c.in_err-up.ensures.down.0 in
+    rw p.1 (record {
+      answer = tt;
+      call = untried_call g.S.Store c.args.self.now _ (Err p.0) p.0 refl down c.in_err-up.ensures.down.1;
+      frugal = λ same. (let it = same in cc);
+      stored = tt;
+      own = untried_opening g.S.Store c.args.self.now c.args.branch (opened_with c.args.count c.args.floor) p.0 down;
+      spares = spares_untouched g.S.Store c.args.self.now;
+    })

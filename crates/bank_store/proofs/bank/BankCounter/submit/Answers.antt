@@ -2,16 +2,21 @@
 use Rattle.std.proofs.Common.{◌≡◌, ℕ, List, [], ◌∷◌, Ok, Err, Result, get_or, length, rules, refl, sym, ap, subst, ◌∙◌, inl}
 use Rattle.std.proofs.lemmas.Result.{err_from_is_err_and}
 use Rattle.std.specs.Prelude.{IsSome}
+use Rattle.message_records.specs.believed.Spelling.{reply_spelling}
 use Rattle.message_records.specs.{believed.Reading.request_of, believed.Records.RequestFields, declared.fault.Bad.Bad}
 use Rattle.bank_transactions.specs.{Batches.RepliesLookedUp, believed.Additions.AddsForRecords}
 use Rattle.bank_transactions.specs.believed.Answered.{AnswersAll}
 use Rattle.bank_transactions.specs.believed.Causes.{IsBrokenOrMet}
 use Rattle.bank_transactions.proofs.{OneRequest.one_stored, Remembered.blank}
 use Rattle.bank_transactions.specs.{Memory.Remembers, declared.memory.Memory.Memory}
-use Rattle.posting_rules.specs.believed.{Changes.tables_past_all, Commands.AreCommands, Runs.posts}
-use Rattle.bank_store.specs.believed.Seen.{database_of}
-use Rattle.posting_rules.proofs.Records.{all_replies, posts_all}
-use Rattle.bank_store.proofs.{Causes.still_clean, Countered.of_logs, Countered.takes}
+use Rattle.posting_rules.specs.declared.fault.Fault.TheVariants.{Down}
+use Rattle.posting_rules.specs.believed.{Changes.tables_past_all, Commands.AreCommands, Commands.Command}
+use Rattle.posting_rules.specs.believed.{Commands.Post, Commands.opened, Entries.decided, Entries.malformed_reply}
+use Rattle.posting_rules.specs.believed.{Entries.reply, Entries.reply_given, Runs.posts}
+use Rattle.bank_store.specs.believed.Seen.{bank_seen, database_of}
+use Rattle.posting_rules.proofs.{Calls.IsChange, Records.all_replies, Records.posts_all}
+use Rattle.posting_rules.proofs.TablesWithRecord.{malformed_shown}
+use Rattle.bank_store.proofs.{Causes.still_clean, Countered.of_logs, Countered.takes, Countered.takes_untried}
 use Rattle.bank_store.proofs.OtherTables.{spares_done, spares_down, spares_untouched}
 use Rattle.bank_store.proofs.{Broke.breaks_shown, Either.either_after, Either.untried_records}
 use Rattle.bank_store.proofs.Refusing.{answered_call, breaks, refused_call, transaction_refused, untried_call, Refusal}
@@ -30,34 +35,68 @@ only (y ∷ z ∷ items) d many = absurd cc
 first : {x y : List ℕ} → ◌≡◌ {A = List (List ℕ)} (x ∷ []) (y ∷ []) → x ≡ y
 first is = cc
 
+-- bytes that are no request
+module _ (bytes : List ℕ) (bad : Bad) (read : request_of bytes ≡ Err bad) where
+  is_told : (log : List Command) → reply_spelling malformed_reply ≡ reply_spelling (reply log bytes)
+  is_told log =
+      ap (λ (x : Result RequestFields Bad). reply_spelling (reply_given x (λ b. opened log b) (decided log))) (sym read)
+
+  changes_nothing : (m : ℕ) → IsChange (λ t. t) (Post m bytes ∷ [])
+  changes_nothing m t log shows = malformed_shown t log m bytes bad read shows
+
 pub invariant_of-self : goal.invariant_of-self
 invariant_of-self g c =
-    let read : request_of c.args.bytes.now ≡ Ok c.in-Ok.request = search rules in
+    let read : request_of c.args.bytes.now ≡ Ok c.in-Ok.request = sym c.in-Ok.ensures.exact in
     let says = c.post_looked_up.ensures.says (c.args.bytes.now ∷ []) (c.of_one-batch.ensures c.args.bytes.now read) in
     record { idle = says.mode; remembers = c.in-Ok-post_looked_up.ensures.remembers }
 
 pub invariant_of-self-in-Err-post_looked_up : goal.invariant_of-self-in-Err-post_looked_up
 invariant_of-self-in-Err-post_looked_up g c =
-    let read : request_of c.args.bytes.now ≡ Ok c.in-Ok.request = search rules in
+    let read : request_of c.args.bytes.now ≡ Ok c.in-Ok.request = sym c.in-Ok.ensures.exact in
     let says = c.post_looked_up.ensures.says (c.args.bytes.now ∷ []) (c.of_one-batch.ensures c.args.bytes.now read) in
     record { idle = says.mode; remembers = blank g.S.Store c.post_looked_up.new.conn c.take-memory.new.self c.take-memory.ensures.blank }
 
-pub post_looked_up-requires-clause-remembers : goal.post_looked_up-requires-clause-remembers
-post_looked_up-requires-clause-remembers g c =
-    subst (λ (m : Memory). ∥ Remembers g.S.Store c.args.self.now.conn m ∥₁) (sym c.take-memory.ensures.given)
-    c.args.self.now.remembers
+pub post_looked_up-requires : goal.post_looked_up-requires
+post_looked_up-requires g c = record {
+  mode = c.args.self.now.idle;
+  remembers = subst (λ (m : Memory). ∥ Remembers g.S.Store c.args.self.now.conn m ∥₁) (sym c.take-memory.ensures.given)
+      c.args.self.now.remembers;
+}
+
+pub returns-in_default : goal.returns-in_default
+returns-in_default g c =
+    let m = c.args.moment in
+    let bytes = c.args.bytes.now in
+    let bad = c.in_default.field-0 in
+    let read : request_of bytes ≡ Err bad = sym c.in_default.ensures.exact in
+    let out = c.encode_reply.ensures.spelling ∙ ap reply_spelling c.malformed_reply.ensures in
+    let are : AreCommands (posts m (bytes ∷ [])) = ((c.range_law.ensures.most, search rules), tt) in
+    let up = c.in_ok-up.ensures.up in
+    record {
+      answer = λ clean log s. out ∙ is_told bytes bad read log;
+      call =
+          answered_call g.S.Store c.args.self.now c.args.self.now (posts m (bytes ∷ [])) _ up up
+          (takes_untried (bank_seen g.S.Store c.args.self.now) (posts m (bytes ∷ []))
+          (changes_nothing bytes bad read m) are) (λ clean. clean);
+      frugal = λ same. (let it = same in cc);
+      stored = λ clean r is. absurd (no_request (sym is ∙ read));
+      leaves = λ clean r is. absurd (no_request (sym is ∙ read));
+      malformed = λ up bad is. (ap Ok out, refl);
+      own = tt;
+      spares = spares_untouched g.S.Store c.args.self.now;
+    }
 
 pub returns-in-Ok-post_looked_up : goal.returns-in-Ok-post_looked_up
 returns-in-Ok-post_looked_up g c =
     let m = c.args.moment in
     let rs = c.args.bytes.now ∷ [] in
-    let read : request_of c.args.bytes.now ≡ Ok c.in-Ok.request = search rules in
+    let read : request_of c.args.bytes.now ≡ Ok c.in-Ok.request = sym c.in-Ok.ensures.exact in
     let made = c.of_one-batch.ensures c.args.bytes.now read in
     let it = c.in-Ok-post_looked_up.ensures in
     let says = it.says rs made in
     let many : length c.deref.result.now ≡ 1 = ap length c.deref.ensures ∙ it.count ∙ ap length made.reads in
     let are : AreCommands (posts m rs) = ((c.range_law.ensures.most, search rules), tt) in
-    let Down = IsSome c.args.self.now.fault in
+    let Failed = IsSome c.args.self.now.fault in
     record {
       answer =
           λ clean log s. first (sym (only c.deref.result.now _ many) ∙ c.deref.ensures
@@ -65,7 +104,7 @@ returns-in-Ok-post_looked_up g c =
           ∙ all_replies s.tables log m rs s.shows);
       call =
           answered_call g.S.Store c.args.self.now _ (posts m rs) _ c.in_ok-up.ensures.up c.in_ok-up.ensures.up
-          (takes (of_logs 1) (posts m rs) (posts_all m rs) are Down Down c.in_ok-up.ensures.up says)
+          (takes (of_logs 1) (posts m rs) (posts_all m rs) are Failed Failed c.in_ok-up.ensures.up says)
           (still_clean says.survives);
       frugal = λ same. (let it = same in cc);
       stored = λ clean r is.
@@ -90,7 +129,7 @@ returns-in-Ok-post_looked_up g c =
 pub returns-in-Err : goal.returns-in-Err
 returns-in-Err g c =
     let m = c.args.moment in
-    let read : request_of c.args.bytes.now ≡ Ok c.in-Ok.request = search rules in
+    let read : request_of c.args.bytes.now ≡ Ok c.in-Ok.request = sym c.in-Ok.ensures.exact in
     let rs = c.args.bytes.now ∷ [] in
     let made = c.of_one-batch.ensures c.args.bytes.now read in
     let are : AreCommands (posts m rs) = ((c.range_law.ensures.most, search rules), tt) in
@@ -122,17 +161,17 @@ returns-in-Err g c =
           c.go_down.ensures.down c.go_down.ensures.undone c.go_down.ensures.survives;
     }
 
-pub returns-in_err-up-clause-call : goal.returns-in_err-up-clause-call
-returns-in_err-up-clause-call g c =
+pub returns-in_err-up : goal.returns-in_err-up
+returns-in_err-up g c =
     let p = err_from_is_err_and c.from_residual.result c.from_residual.ensures.1 in
-    untried_call g.S.Store c.args.self.now _ c.from_residual.result p.0 p.1
-    (p.2 ∙ c.in_err-up.ensures.down.0) c.in_err-up.ensures.down.1
-
-pub returns-in_err-up-clause-own : goal.returns-in_err-up-clause-own
-returns-in_err-up-clause-own g c =
-    let p = err_from_is_err_and c.from_residual.result c.from_residual.ensures.1 in
-    untried_records g.S.Store c.args.self.now c.args.moment (c.args.bytes.now ∷ []) c.from_residual.result p.0 p.1
-    (inl (p.2 ∙ c.in_err-up.ensures.down.0))
-
-pub returns-in_err-up-clause-spares : goal.returns-in_err-up-clause-spares
-returns-in_err-up-clause-spares g c = spares_untouched g.S.Store c.args.self.now
+    let down : p.0 ≡ Down = p.2 ∙ c.in_err-up.ensures.down.0 in
+    rw p.1 (record {
+      answer = tt;
+      call = untried_call g.S.Store c.args.self.now _ (Err p.0) p.0 refl down c.in_err-up.ensures.down.1;
+      frugal = λ same. (let it = same in cc);
+      stored = tt;
+      leaves = tt;
+      malformed = λ up bad is. absurd (up c.in_err-up.ensures.down.1);
+      own = untried_records g.S.Store c.args.self.now c.args.moment (c.args.bytes.now ∷ []) p.0 (inl down);
+      spares = spares_untouched g.S.Store c.args.self.now;
+    })

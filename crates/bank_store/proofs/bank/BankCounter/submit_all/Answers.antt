@@ -1,13 +1,15 @@
 -- What records come to.
-use Rattle.std.proofs.Common.{◌≡◌, ◌++◌, ℕ, List, length, refl, sym, ap, subst, ◌∙◌, inl, inr}
+use Rattle.std.proofs.Common.{◌≡◌, ◌++◌, ℕ, List, length, Err, arith, refl, sym, ap, subst, ◌∙◌, inl, inr}
 use Rattle.std.specs.Prelude.{IsSome}
 use Rattle.std.proofs.lemmas.{Result.err_from_is_err_and, List.length-map}
+use Rattle.smallvec.specs.SmallVec.{small_vec_len}
 use Rattle.message_records.specs.believed.Reading.{request_of}
+use Rattle.posting_rules.specs.declared.fault.Fault.TheVariants.{Down}
 use Rattle.posting_rules.specs.believed.{Changes.tables_past_all, Commands.AreCommands, Runs.posts}
 use Rattle.posting_rules.proofs.Records.{all_replies, are_posts, posts_all}
-use Rattle.bank_store.specs.believed.Seen.{database_of}
+use Rattle.bank_store.specs.believed.Seen.{bank_seen, database_of}
 use Rattle.bank_store.proofs.{Causes.still_clean, bank.BankCounter.submit_all.Given.Over}
-use Rattle.bank_store.proofs.Countered.{none_or_all, none_or_all_down, of_logs, takes}
+use Rattle.bank_store.proofs.Countered.{none_or_all, none_or_all_down, none_or_all_untried, of_logs, takes}
 use Rattle.bank_store.proofs.OtherTables.{spares_done, spares_down, spares_untouched}
 use Rattle.bank_store.proofs.{Broke.breaks_shown, Either.either_after, Either.untried_records}
 use Rattle.bank_store.proofs.Refusing.{answered_call, breaks, refused_call, spared_call, transaction_refused}
@@ -16,12 +18,37 @@ use Rattle.bank_store.specs.Seen.{fault_of}
 use Rattle.bank_store.proofs.Refusing.{Refusal}
 use Rattle.bank_transactions.specs.believed.{Additions.AddsForRecords, Answered.AnswersAll, Causes.IsBrokenOrMet}
 use Rattle.bank_transactions.specs.{Memory.Remembers, declared.memory.Memory.Memory}
+use Rattle.bank_transactions.proofs.Remembered.{blank}
 use Rattle.bank_store.proofs.bank.BankCounter.submit_all.Goals as goal
 
-pub post_all-requires-clause-remembers : goal.post_all-requires-clause-remembers
-post_all-requires-clause-remembers g c =
-    subst (λ (m : Memory). ∥ Remembers g.S.Store c.args.self.now.conn m ∥₁) (sym c.take-memory.ensures.given)
-    c.args.self.now.remembers
+pub new-requires : goal.new-requires
+new-requires g c = c.requires.few
+
+pub post_all-requires : goal.post_all-requires
+post_all-requires g c = record {
+  mode = c.args.self.now.idle;
+  remembers = subst (λ (m : Memory). ∥ Remembers g.S.Store c.args.self.now.conn m ∥₁) (sym c.take-memory.ensures.given)
+      c.args.self.now.remembers;
+}
+
+pub invariant_of-self : goal.invariant_of-self
+invariant_of-self g c = record {
+  idle = (c.post_all.ensures.says c.args.records.now c.in_ok-batch.ensures.made).mode;
+  remembers = c.in-Ok.ensures.remembers;
+}
+
+pub invariant_of-self-in-Err-1 : goal.invariant_of-self-in-Err-1
+invariant_of-self-in-Err-1 g c = record {
+  idle = (c.post_all.ensures.says c.args.records.now c.in_ok-batch.ensures.made).mode;
+  remembers = blank g.S.Store c.post_all.new.conn c.take-memory.new.self c.take-memory.ensures.blank;
+}
+
+pub put_replies-requires : goal.put_replies-requires
+put_replies-requires g c =
+    let made = c.in_ok-batch.ensures.made in
+    let many : small_vec_len c.in-Ok.given ≡ length c.args.records.now =
+    c.in-Ok.ensures.count ∙ ap length made.reads ∙ length-map c.args.records.now request_of in
+    omega (arith, many, c.in_ok-replies.ensures.len, c.in_ok-replies.ensures.capacity)
 
 -- what its refusal says
 refused : (g : Over) (c : goal.After-drop-replies-in-Err-1 g)
@@ -47,7 +74,7 @@ returns-in-Ok g c =
     let says = c.in-Ok.ensures.says rs made in
     let are : AreCommands (posts m rs) =
     are_posts m rs (c.range_law.ensures.most) c.told-records in
-    let Down = IsSome c.args.self.now.fault in
+    let Failed = IsSome c.args.self.now.fault in
     let same : c.put_replies.new.room.items ≡ c.in-Ok.given.items =
     c.put_replies.ensures ∙ ap (λ (items : List (List ℕ)). items ++ c.in-Ok.given.items) c.in_ok-replies.ensures.items in
     record {
@@ -58,9 +85,9 @@ returns-in-Ok g c =
           ∙ all_replies s.tables log m rs s.shows;
       call =
           answered_call g.S.Store c.args.self.now _ (posts m rs) _ c.in_ok-up.ensures.up c.in_ok-up.ensures.up
-          (takes (of_logs (length rs)) (posts m rs) (posts_all m rs) are Down Down c.in_ok-up.ensures.up says)
+          (takes (of_logs (length rs)) (posts m rs) (posts_all m rs) are Failed Failed c.in_ok-up.ensures.up says)
           (still_clean says.survives);
-      none_or_all = none_or_all (of_logs (length rs)) (posts m rs) (posts_all m rs) says _ Down Down says.survives;
+      none_or_all = none_or_all (of_logs (length rs)) (posts m rs) (posts_all m rs) says _ Failed Failed says.survives;
       leaves =
           λ clean t shows so.
           let answers = says.answers clean t shows so in
@@ -108,49 +135,47 @@ returns-in-Err g c =
           c.go_down.ensures.down c.go_down.ensures.undone c.go_down.ensures.survives;
     }
 
-pub returns-in_err-up-clause-call : goal.returns-in_err-up-clause-call
-returns-in_err-up-clause-call g c =
-    let p = err_from_is_err_and c.from_residual.result c.from_residual.ensures.1 in
-    untried_call g.S.Store c.args.self.now _ c.from_residual.result p.0 p.1
-    (p.2 ∙ c.in_err-up.ensures.down.0) c.in_err-up.ensures.down.1
-
-pub returns-in_err-replies-clause-call : goal.returns-in_err-replies-clause-call
-returns-in_err-replies-clause-call g c =
-    let p = err_from_is_err_and c.from_residual-in_err-replies.result c.from_residual-in_err-replies.ensures.1 in
-    spared_call g.S.Store c.args.self.now _ c.from_residual-in_err-replies.result p.0 p.1 p.2
-    c.in_ok-up.ensures.up
-
-pub returns-in_err-batch-clause-call : goal.returns-in_err-batch-clause-call
-returns-in_err-batch-clause-call g c =
-    let p = err_from_is_err_and c.from_residual-in_err-batch.result c.from_residual-in_err-batch.ensures.1 in
-    spared_call g.S.Store c.args.self.now _ c.from_residual-in_err-batch.result p.0 p.1 p.2
-    c.in_ok-up.ensures.up
-
-pub returns-in_err-up-clause-spares : goal.returns-in_err-up-clause-spares
-returns-in_err-up-clause-spares g c = spares_untouched g.S.Store c.args.self.now
-
-pub returns-in_err-batch-clause-spares : goal.returns-in_err-batch-clause-spares
-returns-in_err-batch-clause-spares g c = spares_untouched g.S.Store c.args.self.now
-
-pub returns-in_err-replies-clause-spares : goal.returns-in_err-replies-clause-spares
-returns-in_err-replies-clause-spares g c = spares_untouched g.S.Store c.args.self.now
-
 -- ---- nothing was tried
 
-pub returns-in_err-up-clause-own : goal.returns-in_err-up-clause-own
-returns-in_err-up-clause-own g c =
+pub returns-in_err-up : goal.returns-in_err-up
+returns-in_err-up g c =
     let p = err_from_is_err_and c.from_residual.result c.from_residual.ensures.1 in
-    untried_records g.S.Store c.args.self.now c.args.moment c.args.records.now c.from_residual.result p.0 p.1
-    (inl (p.2 ∙ c.in_err-up.ensures.down.0))
+    let down : p.0 ≡ Down = p.2 ∙ c.in_err-up.ensures.down.0 in
+    rw p.1 (record {
+      count = tt;
+      answer = tt;
+      call = untried_call g.S.Store c.args.self.now _ (Err p.0) p.0 refl down c.in_err-up.ensures.down.1;
+      none_or_all = none_or_all_untried (bank_seen g.S.Store c.args.self.now) (posts c.args.moment c.args.records.now);
+      leaves = tt;
+      stored = tt;
+      own = untried_records g.S.Store c.args.self.now c.args.moment c.args.records.now p.0 (inl down);
+      spares = spares_untouched g.S.Store c.args.self.now;
+    })
 
-pub returns-in_err-replies-clause-own : goal.returns-in_err-replies-clause-own
-returns-in_err-replies-clause-own g c =
+pub returns-in_err-replies : goal.returns-in_err-replies
+returns-in_err-replies g c =
     let p = err_from_is_err_and c.from_residual-in_err-replies.result c.from_residual-in_err-replies.ensures.1 in
-    untried_records g.S.Store c.args.self.now c.args.moment c.args.records.now c.from_residual-in_err-replies.result p.0
-    p.1 (inr p.2)
+    rw p.1 (record {
+      count = tt;
+      answer = tt;
+      call = spared_call g.S.Store c.args.self.now _ (Err p.0) p.0 refl p.2 c.in_ok-up.ensures.up;
+      none_or_all = none_or_all_untried (bank_seen g.S.Store c.args.self.now) (posts c.args.moment c.args.records.now);
+      leaves = tt;
+      stored = tt;
+      own = untried_records g.S.Store c.args.self.now c.args.moment c.args.records.now p.0 (inr p.2);
+      spares = spares_untouched g.S.Store c.args.self.now;
+    })
 
-pub returns-in_err-batch-clause-own : goal.returns-in_err-batch-clause-own
-returns-in_err-batch-clause-own g c =
+pub returns-in_err-batch : goal.returns-in_err-batch
+returns-in_err-batch g c =
     let p = err_from_is_err_and c.from_residual-in_err-batch.result c.from_residual-in_err-batch.ensures.1 in
-    untried_records g.S.Store c.args.self.now c.args.moment c.args.records.now c.from_residual-in_err-batch.result p.0
-    p.1 (inr p.2)
+    rw p.1 (record {
+      count = tt;
+      answer = tt;
+      call = spared_call g.S.Store c.args.self.now _ (Err p.0) p.0 refl p.2 c.in_ok-up.ensures.up;
+      none_or_all = none_or_all_untried (bank_seen g.S.Store c.args.self.now) (posts c.args.moment c.args.records.now);
+      leaves = tt;
+      stored = tt;
+      own = untried_records g.S.Store c.args.self.now c.args.moment c.args.records.now p.0 (inr p.2);
+      spares = spares_untouched g.S.Store c.args.self.now;
+    })
