@@ -1,9 +1,11 @@
 -- Rows with those beside them in another table.
-use Rattle.std.proofs.Common.{◌≡◌, ◌≤◌, ℕ, zero, suc, drop, length, ◌<ℤ◌, ◌≤ℤ◌, ◌+ℤ◌, ℤ, pos, List, [], ◌∷◌, ◌++◌}
+use Rattle.std.proofs.Common.{◌≡◌, ◌≤◌, ◌<◌, ◌+◌, get_or, ℕ, zero, suc, drop, length, ◌<ℤ◌, ◌≤ℤ◌}
+use Rattle.std.proofs.Common.{◌+ℤ◌, ℤ, pos, List, [], ◌∷◌, ◌++◌}
 use Rattle.std.proofs.Common.{map, filter, find, cond, Bool, true, false, Some, None, Option, int_cmp, refl, sym, ap}
 use Rattle.std.proofs.Common.{◌∙◌, inl, inr, arith}
 use Rattle.std.specs.{Prelude.IfSome, Ordering.int_eq, Ordering.is_ge}
 use Rattle.std.proofs.lemmas.{Bool.cases_Bool, Int.ints}
+use Rattle.std.proofs.Math.Seq.{drop-cons}
 use Rattle.sql_meanings.specs.{believed.Entries.Entry, believed.Entries.Rise, believed.Entries.has_key, Seeks.is_from}
 use Rattle.walked_rows.specs.Pairs.{AreJoined, ComesBefore, Pair, pair_key, pair_with, paired, row_under}
 use Rattle.walked_rows.specs.Rows.{items_after, items_from, rows_after, rows_from}
@@ -116,6 +118,13 @@ none_left zero [] low = refl
 none_left zero (r ∷ rs) low = absurd (omega arith)
 none_left (suc n) [] low = refl
 none_left (suc n) (r ∷ rs) low = none_left n rs (omega arith)
+
+-- those to come begin with this one
+pub next_left : {X : Type 0} (xs : List X) (i : ℕ) (x : X) → i < length xs → x ≡ get_or xs i x
+    → drop i xs ≡ x ∷ drop (i + 1) xs
+next_left xs i x low is =
+    let later : suc i ≡ i + 1 = omega arith in
+    drop-cons xs i x low ∙ ap (λ y. y ∷ drop (suc i) xs) (sym is) ∙ ap (λ m. x ∷ drop m xs) later
 
 pub decided_by : (beyond : Option ℤ) (k : ℤ) → IfSome beyond (λ b. k <ℤ b) → ComesBefore beyond k
 decided_by None k h = tt

@@ -1,6 +1,6 @@
 -- A kept row that can't be read, or is that of no request, breaks the rule that is told.
-use Rattle.std.proofs.Common.{◌≡◌, ◌≢◌, ◌⊎◌, ◌≤◌, ◌++◌, ◌∙◌, ℕ, ℤ, pos, negsuc, Bool, true, List, [], ◌∷◌, filter, length}
-use Rattle.std.proofs.Common.{Option, Some, None, Result, Ok, Err, refl, sym, ap, subst, inl, inr, arith, find, eqb}
+use Rattle.std.proofs.Common.{◌≡◌, ◌≢◌, ◌⊎◌, ◌≤◌, ◌++◌, ℕ, ℤ, pos, negsuc, Bool, true, List, [], ◌∷◌, filter}
+use Rattle.std.proofs.Common.{Option, Some, None, Result, Ok, Err, refl, sym, ap, subst, inl, inr, arith, eqb}
 use Rattle.std.specs.{Option.ok_or, Prelude.IsSomeAnd, Prelude.nat_abs, Prelude.nat_le, Prelude.◌&&◌}
 use Rattle.std.specs.List.{AllByRecursion}
 use Rattle.std.proofs.lemmas.{Bool.and_parts, Bool.cases_Bool, Bool.Decides.nat_tests, Bool.eqb-true}
@@ -19,7 +19,7 @@ use Rattle.sql_meanings.proofs.Changes.{found_all, found_key, found_passes}
 use Rattle.store_rows.specs.believed.BankTables as bank
 use Rattle.store_rows.specs.believed.Readings.{cents, decision_of, outcome_of, read_posting, read_reference}
 use Rattle.store_rows.specs.believed.Readings.{read_request, reference, whole}
-use Rattle.store_rows.specs.believed.Rules.{EachKeeps, HoldsBank, IsBroken, NoneBreaks, OfRows, StoredRows}
+use Rattle.store_rows.specs.believed.Rules.{EachKeeps, IsBroken, NoneBreaks, OfRows}
 use Rattle.store_rows.specs.believed.SeveralRows.{given}
 use Rattle.store_rows.proofs.StoredRows.{holds_list}
 use Rattle.walked_rows.specs.KeptRows.{BreaksKept, HoldsKept, IsOrdinal, KeptItem, kept_all, kept_key, kept_with}

@@ -1,5 +1,5 @@
 -- The rows of the tables of a log are broken in none, and which row is broken where a pair or a kept request is.
-use Rattle.std.proofs.Common.{◌≡◌, ◌≤◌, ◌++◌, ◌∙◌, ◌⊎◌, ℕ, ℤ, pos, Bool, true, List, [], ◌∷◌, map, find, Option, Some, None}
+use Rattle.std.proofs.Common.{◌≡◌, ◌≤◌, ◌++◌, ◌∙◌, ◌⊎◌, ℕ, pos, Bool, true, List, [], ◌∷◌, map, find, Some}
 use Rattle.std.proofs.Common.{Ok, refl, sym, ap, subst, inl, inr, arith}
 use Rattle.std.specs.{Prelude.◌&&◌, Prelude.nat_le, Prelude.nat_abs, Prelude.IsSomeAnd, Prelude.⊤}
 use Rattle.std.specs.{List.AllByRecursion, List.Contains}
@@ -20,7 +20,7 @@ use Rattle.store_rows.specs.believed.View as view
 use Rattle.store_rows.specs.declared.metas.TheConstants.{VERSION}
 use Rattle.walked_rows.specs.{Broken.HasBroken, Kinds.Kind, StepOutcomes.BreaksBy}
 use Rattle.walked_rows.specs.KeptRows.{BreaksKept, kept_all, kept_with}
-use Rattle.walked_rows.specs.Pairs.{BreaksPair, pair_with, paired, row_under}
+use Rattle.walked_rows.specs.Pairs.{BreaksPair, pair_with, paired}
 use Rattle.walked_rows.specs.References.{BreaksReference, reference_kind}
 use Rattle.walked_rows.specs.Stored.{account_kind, branch_kind, posting_entry, posting_kind, posting_of, request_kind}
 use Rattle.walked_rows.specs.Stored.{request_of, teller_kind}

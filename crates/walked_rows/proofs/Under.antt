@@ -1,5 +1,5 @@
 -- The first of the rows that were found beside others.
-use Rattle.std.proofs.Common.{◌≡◌, ◌<ℤ◌, ◌≤ℤ◌, ◌+ℤ◌, ◌<◌, ℕ, ℤ, pos, List, [], ◌∷◌, map, find}
+use Rattle.std.proofs.Common.{◌≡◌, ◌<ℤ◌, ◌≤ℤ◌, ◌+ℤ◌, ℤ, pos, List, [], ◌∷◌, map, find}
 use Rattle.std.proofs.Common.{true, false, Some, None, Option, int_cmp, refl, sym, ap, subst, ◌∙◌, inl}
 use Rattle.std.proofs.Common.{inr, arith}
 use Rattle.std.specs.{Prelude.IfSome, Ordering.int_eq, Ordering.is_ge}

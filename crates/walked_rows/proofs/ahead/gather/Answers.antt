@@ -1,5 +1,6 @@
 -- What is gathered, row by row. What is returned follows from the invariant; a search takes long to see it.
-use Rattle.std.proofs.Common.{◌<◌, ◌≤◌, ◌+◌, ◌++◌, None, Some, map, length, get_or, sym, ap, subst, ◌∙◌, arith, w64, to_z, lit<, refl}
+use Rattle.std.proofs.Common.{◌<◌, ◌≤◌, ◌+◌, ◌++◌, None, Some, map, length, get_or, sym, ap, subst}
+use Rattle.std.proofs.Common.{◌∙◌, arith, w64, to_z, lit<, refl}
 use Rattle.std.proofs.lemmas.Int.{to_z-of_z}
 use Rattle.walked_rows.specs.{Rising.RisesFrom, Rows.entry_key, Rows.rows_from, declared.ahead.TheConstants.AHEAD}
 use Rattle.walked_rows.proofs.Gathering.{after_key, full_there, gathers_on, gathers_none, no_more, none_there}

@@ -1,5 +1,5 @@
 -- Each number was read as it stands in the row; a search takes long to see it.
-use Rattle.std.proofs.Common.{◌≡◌, Some, None, sym, subst, ◌∙◌, rules, w64, to_z, of_z}
+use Rattle.std.proofs.Common.{◌≡◌, None, sym, subst, ◌∙◌, rules, w64, to_z, of_z}
 use Rattle.std.proofs.lemmas.Int.{to_z-of_z}
 use Rattle.message_records.specs.declared.limits.TheConstants.{MAX_ACCOUNT, MAX_BALANCE, MAX_BRANCH, MAX_NUMBER}
 use Rattle.message_records.specs.{declared.limits.TheConstants.MAX_TELLER, believed.Ranges.cents_within}

@@ -1,5 +1,6 @@
 -- Rows are joined one by one. What is returned follows from the invariant; a search takes long to see it.
-use Rattle.std.proofs.Common.{◌≡◌, ◌≤ℤ◌, ◌<◌, ◌+◌, ◌++◌, suc, ◌∷◌, Some, map, drop, length, get_or, refl, sym, ap, subst}
+use Rattle.std.proofs.Common.{◌≡◌, ◌≤ℤ◌, ◌<◌, ◌+◌, ◌++◌, suc, ◌∷◌, Some, map, drop}
+use Rattle.std.proofs.Common.{length, get_or, refl, sym, ap, subst}
 use Rattle.std.proofs.Common.{◌∙◌, rules, arith, w64, to_z}
 use Rattle.std.proofs.{Math.Seq.drop-cons, lemmas.Int.ints, lemmas.Int.to_z-of_z}
 use Rattle.store_rows.proofs.Lookups.{as_integer}

@@ -1,27 +1,21 @@
 -- One row more.
-use Rattle.std.proofs.Common.{◌≡◌, ◌≤◌, ◌<◌, ◌+◌, ◌+ℤ◌, ◌≤ℤ◌, ◌++◌, ℕ, suc, pos, List, [], ◌∷◌, map, drop, length, inr, refl}
-use Rattle.std.proofs.Common.{get_or, option_map, Some, sym, ap, subst, ◌∙◌, rules, arith, w64, to_z}
-use Rattle.std.proofs.{Math.Seq.drop-cons, lemmas.Int.to_z-of_z}
+use Rattle.std.proofs.Common.{◌≡◌, ◌<◌, ◌+◌, ◌+ℤ◌, ◌≤ℤ◌, ◌++◌, pos, [], ◌∷◌, map, drop, length, inr, refl}
+use Rattle.std.proofs.Common.{option_map, Some, sym, ap, subst, ◌∙◌, rules, arith, w64, to_z}
+use Rattle.std.proofs.lemmas.Int.{to_z-of_z}
 use Rattle.sqlite.specs.Held.{state}
 use Rattle.sql_meanings.specs.StatementAnswers.{IsStoreError}
 use Rattle.store_rows.specs.believed.BankTables.{reference as reference_table}
 use Rattle.store_rows.specs.View.{HoldsRows}
 use Rattle.walked_rows.specs.{Pairs.row_under, References.text_entry, Referring.referred_all, Rising.RisesFrom}
 use Rattle.walked_rows.specs.Rows.{entry_key, rows_after, rows_from}
-use Rattle.walked_rows.proofs.{Gathering.after_key, Gathering.none_there, Gathering.some_there, Joining.none_left}
+use Rattle.walked_rows.proofs.Gathering.{after_key, none_there, some_there}
+use Rattle.walked_rows.proofs.Joining.{next_left, none_left}
 use Rattle.walked_rows.proofs.{Referring.referred_after, Referring.refers_none, Referring.refers_on}
 use Rattle.walked_rows.proofs.{Rises.le_itself, Rises.one_more, Rises.rest_after}
 use Rattle.walked_rows.proofs.Leaving.{clean_between, fails_too, if_any, same_any, reads_any, reads_on, shows_same}
 use Rattle.store_rows.specs.declared.fault.TableFault.TheVariants.{Sqlite}
 use Rattle.walked_rows.proofs.{Causes.cause_on, Causes.nothing_called, Leaving.store_on}
 use Rattle.walked_rows.proofs.referred.refer_each.Goals as goal
-
--- those to come begin with the row
-next_left : {X : Type 0} (xs : List X) (i : ℕ) (x : X) → i < length xs → x ≡ get_or xs i x
-    → drop i xs ≡ x ∷ drop (i + 1) xs
-next_left xs i x low is =
-    let later : suc i ≡ i + 1 = omega arith in
-    drop-cons xs i x low ∙ ap (λ y. y ∷ drop (suc i) xs) (sym is) ∙ ap (λ m. x ∷ drop m xs) later
 
 pub loop-row-preserved : goal.loop-row-preserved
 loop-row-preserved g c =
