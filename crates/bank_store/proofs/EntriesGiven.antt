@@ -1,9 +1,9 @@
 -- What is given of a log after a number of entries.
-use Rattle.std.proofs.Common.{◌≡◌, ◌≤◌, ◌<◌, ◌∙◌, ℕ, Bool, true, false, cond, List, Option, Some, None, length, refl, sym, ap, subst, arith, map, take, drop}
+use Rattle.std.proofs.Common.{◌≡◌, ◌≤◌, ◌<◌, ◌∙◌, ℕ, Bool, true, false, cond, List, Option, Some, None, length, refl, sym, ap, arith, map, take, drop}
 use Rattle.std.specs.Prelude.{nat_le}
-use Rattle.std.proofs.lemmas.{Bool.cases_Bool, Bool.Decides.nat_tests}
+use Rattle.std.proofs.lemmas.{Bool.Decides.nat_tests}
 use Rattle.sqlite.specs.Effect.{Database}
-use Rattle.posting_rules.specs.believed.{Commands.AreCommands, Commands.Command, Entries.decided}
+use Rattle.posting_rules.specs.believed.{Commands.AreCommands, Commands.Command}
 use Rattle.posting_rules.specs.believed.Tables.{AreTablesOf, Tables}
 use Rattle.posting_rules.specs.declared.limits.TheConstants.{MAX_DECIDED}
 use Rattle.posting_rules.proofs.Undamaged.{undamaged}

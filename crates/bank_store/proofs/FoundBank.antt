@@ -104,6 +104,12 @@ module _ (old mid : State) (same : IsAsBefore old mid) where
   meta_at : (P : Option StoredMeta → Type 0) → MetaIs mid P → MetaIs old P
   meta_at P is rows has = is rows (subst (λ (db : Database). HoldsRows db bank.meta rows) (sym same.now_is) has)
 
+  -- it has no other version than that of the row that was read
+  pub no_other_read : (stored : Option StoredMeta) → ((n : ℤ) → IsOfVersion n stored → ⊥)
+      → ((rows : List Entry) → HoldsRows mid.now bank.meta rows → stored ≡ meta_in rows) → HasNoOtherVersion old
+  no_other_read stored none read n =
+      meta_at (λ it. IsOfVersion n it → ⊥) (λ rows has is. none n (subst (IsOfVersion n) (sym (read rows has)) is))
+
   present_at : (p : Presence) → IsPresent mid.now all_probes p → IsPresent old.now all_probes p
   present_at p = subst (λ (db : Database). IsPresent db all_probes p) same.now_is
 
@@ -209,6 +215,9 @@ not_other stored n ours other = other.2 (sym (ap version_in other.1) ∙ ap vers
 pub not_outside : (z : ℤ) (n most : ℕ) → z ≡ pos n → n ≤ most → (z <ℤ pos 0) ⊎ (pos most <ℤ z) → ⊥
 not_outside z n most is le (inl below) = let h = rw is at below in omega (arith, ints)
 not_outside z n most is le (inr above) = let h = rw is at above in omega (arith, ints)
+
+pub not_of_ours : (m : StoredMeta) (n : ℤ) → m.version ≡ VERSION → IsOfVersion n (Some m) → ⊥
+not_of_ours m n ours other = other.2 (sym (ap version_in other.1) ∙ ours)
 
 not_missing : (stored : Option StoredMeta) → IsOurs stored → IsNoCount stored → ⊥
 not_missing stored ours (inl none) = let both = sym none ∙ ours.1 in cc

@@ -1,8 +1,8 @@
 -- Entries of rows that are read piece by piece.
-use Rattle.std.proofs.Common.{◌≡◌, ◌⊎◌, ◌<◌, ◌≤◌, ◌+◌, ◌-◌, ◌++◌, ◌∙◌, ℕ, suc, ℤ, pos, Bool, true, false, List, [], ◌∷◌, length, map}
+use Rattle.std.proofs.Common.{◌≡◌, ◌⊎◌, ◌<◌, ◌≤◌, ◌+◌, ◌-◌, ◌++◌, ◌∙◌, ℕ, suc, pos, true, false, List, [], ◌∷◌, length, map}
 use Rattle.std.proofs.Common.{take, drop, get_or, refl, sym, ap, subst, append-nil, append_assoc, arith, inl, inr}
 use Rattle.std.proofs.Common.{int_cmp}
-use Rattle.std.specs.{List.AllByRecursion, List.flat_map, Ordering.is_ge}
+use Rattle.std.specs.{List.AllByRecursion, Ordering.is_ge}
 use Rattle.std.proofs.lemmas.{Int.ints, List.Concat.flat_map-append, List.length-append, List.length-map, List.map-append}
 use Rattle.std.proofs.lemmas.List.{drop_more, take-append-drop, take-append-le, take-map, take_all, take_more}
 use Rattle.sqlite.specs.Effect.{Database}

@@ -1,5 +1,5 @@
 -- The version comes first.
-use Rattle.std.proofs.Common.{◌≡◌, map, [], ◌∷◌, Result, Err, rules, sym, ap, subst, ◌∙◌}
+use Rattle.std.proofs.Common.{◌≡◌, map, [], ◌∷◌, Some, Result, Err, rules, sym, ap, subst, ◌∙◌}
 use Rattle.sqlite.specs.Held.{state}
 use mir.Val.{to_z, of_z}
 use mir.Syntax.{w64}
@@ -7,7 +7,8 @@ use Rattle.bank_store.specs.{Connections.IsAsBefore, FoundBank.LooksAtVersion, T
 use Rattle.bank_store.specs.{StoreFaults.KnowsCause, declared.presence.Presence.Presence}
 use Rattle.store_rows.specs.{Probes.probe_of, declared.probes.BankTable.TheVariants.Meta}
 use Rattle.posting_rules.specs.declared.open_fault.OpenFault.{OpenFault, TheVariants.Store}
-use Rattle.bank_store.proofs.{Causes.looks_then, Causes.still_clean, FoundBank.no_version, FoundBank.other_read}
+use Rattle.bank_store.proofs.{Causes.looks_then, Causes.still_clean, FoundBank.other_read}
+use Rattle.bank_store.proofs.FoundBank.{no_other_read, no_version, not_of_ours}
 use Rattle.bank_store.proofs.Probed.{as_before}
 use Rattle.bank_store.proofs.adoption.refuse_other_version.Goals as goal
 
@@ -72,11 +73,36 @@ returns-in-Err-Store g c =
     let failed = c.in-Err-Store in
     record {
       answers = λ clean.
-          let there = c.in_ok-count_tables.ensures.answers (still_clean c.settled_meta.ensures.looks.survives clean) in
-          (tt, λ still. as_before (s old) (s mid) (s new) there.1
-          ((rw failed.field-0-is at (failed.ensures.same clean)) still));
+          let there = c.in_ok-count_tables.ensures.answers (still_clean c.settled_meta.ensures.looks.survives clean) in (
+            tt,
+            λ still. as_before (s old) (s mid) (s new) there.1
+                ((rw failed.field-0-is at (failed.ensures.same clean)) still),
+          );
       looks =
           looks_then g.S.Store old mid new (Err failed.field-0) (Err Store)
           (subst (λ (f : OpenFault). KnowsCause g.S.Store old new f) failed.field-0-is)
           c.count_tables.ensures.looks.survives failed.ensures.looks;
+    }
+
+-- the row is of our version
+pub returns-in_default-settled_meta : goal.returns-in_default-settled_meta
+returns-in_default-settled_meta g c =
+    let s = state g.S.Store in
+    let old = s c.args.conn.now in
+    let mid = s c.count_tables.new.conn in
+    let row = c.in-Ok-Some in
+    let m = row.meta in
+    let looks = c.settled_meta.ensures.looks in
+    let same : to_z w64 (of_z w64 m.version) ≡ m.version = search rules in
+    record {
+      answers = λ clean.
+          let there = c.in_ok-count_tables.ensures.answers (still_clean looks.survives clean) in (
+            no_other_read old mid there.1 (Some m)
+                (λ n. not_of_ours m n (sym same ∙ ap (to_z w64) c.if-meta-ne-VERSION.false))
+                (λ rows has. sym row.field-0-is ∙ row.ensures.reads.answers clean rows has),
+            as_before old mid (s c.settled_meta.new.conn) there.1 (row.ensures.same clean),
+          );
+      looks =
+          looks_then g.S.Store c.args.conn.now c.count_tables.new.conn c.settled_meta.new.conn c.settled_meta.result _
+          (λ _. tt) c.count_tables.ensures.looks.survives looks;
     }

@@ -1,11 +1,7 @@
 -- The entry of one row more, or the row is that of no request.
-use Rattle.std.proofs.Common.{◌≡◌, ◌<◌, ◌≤◌, ◌+◌, ◌++◌, ◌∙◌, ℕ, List, map, length, take, refl, sym, ap, subst, rules, arith}
-use Rattle.std.specs.List.{AllByRecursion}
+use Rattle.std.proofs.Common.{◌≡◌, ◌<◌, ◌≤◌, ◌∙◌, map, length, take, refl, sym, ap, rules, arith}
 use Rattle.std.proofs.lemmas.List.{length-map, take-map, take_all}
-use Rattle.posting_core.specs.believed.Batches.{joined}
-use Rattle.posting_core.specs.declared.entries.TheConstants.{ENTRY_BYTES}
-use Rattle.walked_rows.specs.{KeptRows.KeptItem, KeptRows.kept_item, Requests.IsAnsweredRow}
-use Rattle.bank_store.specs.KeptEntries.{entry_in}
+use Rattle.walked_rows.specs.{KeptRows.kept_item}
 use Rattle.bank_store.proofs.PiecesRead.{broken_one, each_one, put_one}
 use Rattle.bank_store.proofs.entries.put_entries.Goals as goal
 

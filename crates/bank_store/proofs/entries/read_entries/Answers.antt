@@ -1,11 +1,9 @@
 -- One piece more, the last one, and why one wasn't read.
-use Rattle.std.proofs.Common.{◌≡◌, ◌⊎◌, ◌≤◌, ◌<◌, ◌+◌, ◌-◌, ◌∙◌, ◌++◌, ℕ, pos, List, [], ◌∷◌, Option, Some, None, Err, length, map, refl, sym, ap, subst, inl, inr, rules, arith, w64, to_z, of_z}
-use Rattle.std.proofs.lemmas.{Int.to_z-of_z, List.length-map}
+use Rattle.std.proofs.Common.{◌≡◌, ◌≤◌, ◌+◌, ◌∙◌, pos, List, [], ◌∷◌, Option, Some, None, Err, length, map, refl, sym, subst, inl, inr, rules, arith, w64, to_z, of_z}
+use Rattle.std.proofs.lemmas.{Int.to_z-of_z}
 use Rattle.sqlite.specs.{Effect.Database, Held.Held, Held.state, State.HasCleanDisk}
-use Rattle.posting_core.specs.declared.followed.TheConstants.{ENTRIES_PER_ANSWER}
 use Rattle.posting_rules.specs.declared.fault.Rule.TheVariants.{Request}
 use Rattle.store_rows.specs.believed.Rules.{IsBroken}
-use Rattle.store_rows.specs.declared.fault.TableFault.{TableFault, TheVariants.Damaged}
 use Rattle.bank_transactions.specs.Causes.{IsFault, IsFirstBroken}
 use Rattle.bank_transactions.proofs.Blamed.{comes, fault_within, same_moment}
 use Rattle.walked_rows.specs.KeptRows.{HoldsKept, KeptItem, kept_item, kept_key}

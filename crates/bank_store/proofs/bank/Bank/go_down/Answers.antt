@@ -1,6 +1,5 @@
 -- How the bank goes down where the store doesn't answer, and that its file is as it was.
 use Rattle.std.proofs.Common.{◌∙◌, refl, sym, inl, inr}
-use Rattle.std.specs.Prelude.{IsTrue}
 use Rattle.sqlite.specs.{Held.state, State.State}
 use Rattle.bank_transactions.proofs.Remembered.{blank}
 use Rattle.bank_store.specs.Connections.{IsUndoneIfOpen}
