@@ -21,3 +21,5 @@ pub mod AllOnLogs
 pub mod Gathers
 pub mod LinesWritten
 pub mod TopWritten
+pub mod Refused
+pub mod Lent

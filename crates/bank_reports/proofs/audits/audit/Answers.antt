@@ -1,5 +1,5 @@
 -- The audit of a file, and of one that shows a log.
-use Rattle.std.proofs.Common.{rules, ◌≡◌, Result, Ok, Err, refl, sym, ap, subst, ◌∙◌}
+use Rattle.std.proofs.Common.{◌≡◌, Result, Ok, Err, refl, sym, ap, subst, ◌∙◌}
 use Rattle.std.specs.Prelude.{◌↔◌, IsSome, IsTrue}
 use Rattle.sqlite.specs.{State.HasCleanDisk, Held.state}
 use Rattle.posting_rules.specs.{believed.Laws.IsConsistent, declared.fault.Fault.Fault}
@@ -17,6 +17,7 @@ use Rattle.bank_reports.proofs.{audits.audit.Given.Over}
 use Rattle.bank_reports.proofs.LogFiles.{balanced, has_file, has_ordinals, not_damaged, tells_in_file}
 use Rattle.bank_store.proofs.AsFound.{idle_as_found, untouched_as_found}
 use Rattle.bank_store.proofs.ReadsLeave.{idle_takes, reads_take_none}
+use Rattle.bank_reports.proofs.Refused.{err_is}
 use Rattle.bank_reports.proofs.audits.audit.Goals as goal
 
 -- what is told with one fault is told with no other
@@ -55,7 +56,7 @@ returns-then-is_down g c =
 pub returns-in_err-sums : goal.returns-in_err-sums
 returns-in_err-sums g c =
     let seen = bank_seen g.S.Store c.args.bank.now in
-    let same : c.from_residual.result ≡ Err Memory = search rules in
+    let same : c.from_residual.result ≡ Err Memory = err_is _ c.from_residual.ensures.1 in
     let only = memory_only _ same in
     record {
       bank = unaudited seen seen _ Memory same (memory_is_sound seen seen) (idle_takes seen _);
@@ -79,7 +80,7 @@ returns-in_err-sums g c =
 
 refusal : (g : Over) (c : goal.After-drop-sums-in_err-add_all g)
     → c.from_residual-in_err-add_all.result ≡ Err c.in_err-add_all.field-0.0
-refusal g c = search rules
+refusal g c = err_is _ c.from_residual-in_err-add_all.ensures.1
 
 pub returns-in_err-add_all : goal.returns-in_err-add_all
 returns-in_err-add_all g c =
@@ -132,7 +133,7 @@ returns g c =
     let new = state g.S.Store c.add_all.new.bank.conn in
     let db = database_of g.S.Store c.args.bank.now in
     let says = c.in_ok-add_all.ensures in
-    let all : c.add_all.result ≡ Ok tt = search rules in
+    let all : c.add_all.result ≡ Ok tt = c.in_ok-add_all.was in
     let up = subst (λ cause. IsSome cause) says.up in
     record {
       bank = record {

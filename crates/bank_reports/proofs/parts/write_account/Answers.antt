@@ -1,5 +1,5 @@
 -- What stands above, the lines, and what stands below.
-use Rattle.std.proofs.Common.{rules, ◌≡◌, Ok, Err, refl, sym, ap, subst, ◌∙◌}
+use Rattle.std.proofs.Common.{◌≡◌, Ok, Err, refl, sym, ap, subst, ◌∙◌}
 use Rattle.posting_core.proofs.Telling.{more_more}
 use Rattle.report_contents.specs.AllStatements.{above_in}
 use Rattle.report_contents.specs.StatementText.{last_of}
@@ -10,12 +10,13 @@ use Rattle.bank_reports.specs.Parts.{WritesAbove, WritesLines}
 use Rattle.bank_reports.proofs.Further.{error_is}
 use Rattle.bank_reports.proofs.LinesWritten.{above_end, account_end, account_written, closing_end}
 use Rattle.bank_reports.proofs.ReportEnds.{not_ok}
+use Rattle.bank_reports.proofs.Refused.{err_is}
 use Rattle.bank_reports.proofs.parts.write_account.Goals as goal
 
 pub returns-in_err-write_above : goal.returns-in_err-write_above
 returns-in_err-write_above g c =
     let fault = c.in_err-write_above.field-0.0 in
-    let same : c.from_residual.result ≡ Err fault = search rules in
+    let same : c.from_residual.result ≡ Err fault = err_is _ c.from_residual.ensures.1 in
     let says = c.in_err-write_above.ensures in
     record {
       written = rw same (above_end c.args.query.now c.args.account c.args.rows.now _ _ fault
@@ -29,7 +30,8 @@ returns-in_err-write_above g c =
 pub returns-in_err-write_each : goal.returns-in_err-write_each
 returns-in_err-write_each g c =
     let fault = c.in_err-write_each.field-0.0 in
-    let same : c.from_residual-in_err-write_each.result ≡ Err fault = search rules in
+    let same : c.from_residual-in_err-write_each.result ≡ Err fault =
+    err_is _ c.from_residual-in_err-write_each.ensures.1 in
     let first = c.in_ok-write_above.ensures in
     let says = c.in_err-write_each.ensures in
     record {
@@ -45,7 +47,7 @@ returns-in_err-write_each g c =
 
 pub returns-in_err-put : goal.returns-in_err-put
 returns-in_err-put g c =
-    let same : c.from_residual-in_err-put.result ≡ Err Write = search rules in
+    let same : c.from_residual-in_err-put.result ≡ Err Write = err_is _ c.from_residual-in_err-put.ensures.1 in
     let first = c.in_ok-write_above.ensures in
     let second = c.in_ok-write_each.ensures in
     record {

@@ -1,5 +1,5 @@
 -- All statements of what was gathered.
-use Rattle.std.proofs.Common.{rules, ◌≡◌, Ok, Err, refl, sym, ap, subst, ◌∙◌}
+use Rattle.std.proofs.Common.{◌≡◌, Ok, Err, refl, sym, ap, subst, ◌∙◌}
 use Rattle.posting_core.specs.EndCalls.{IsFlush}
 use Rattle.posting_core.proofs.Telling.{more_last, more_more}
 use Rattle.report_contents.proofs.Written.{later_failed, same_all, same_part}
@@ -8,13 +8,14 @@ use Rattle.bank_reports.specs.Parts.{WritesParts}
 use Rattle.bank_reports.proofs.Further.{error_is}
 use Rattle.bank_reports.proofs.ReportEnds.{not_ok, not_write}
 use Rattle.bank_reports.proofs.TopWritten.{flush_end, flushed, parts_end, parts_written, top_end}
+use Rattle.bank_reports.proofs.Refused.{err_is}
 use Rattle.bank_reports.proofs.parts.write_gathered.Goals as goal
 
 pub returns-in_err-rows : goal.returns-in_err-rows
 returns-in_err-rows g c =
     let fault = c.in_err-rows.field-0.0 in
     let memory = c.in_err-rows.ensures.refused in
-    let same : c.from_residual.result ≡ Err (Bank fault) = search rules in
+    let same : c.from_residual.result ≡ Err (Bank fault) = err_is _ c.from_residual.ensures.1 in
     record {
       written = rw (same, memory) refl;
       flushed = rw same tt;
@@ -23,7 +24,7 @@ returns-in_err-rows g c =
 
 pub returns-in_err-put : goal.returns-in_err-put
 returns-in_err-put g c =
-    let same : c.from_residual-in_err-put.result ≡ Err Write = search rules in
+    let same : c.from_residual-in_err-put.result ≡ Err Write = err_is _ c.from_residual-in_err-put.ensures.1 in
     let by = c.in_ok-rows.ensures.sorted in
     record {
       written = rw same (top_end c.args.query c.args.gathered.rows.items c.in_ok-rows.rows.items by _ _
@@ -35,10 +36,11 @@ returns-in_err-put g c =
 pub returns-in_err-write_parts : goal.returns-in_err-write_parts
 returns-in_err-write_parts g c =
     let fault = c.in_err-write_parts.field-0.0 in
-    let same : c.from_residual-in_err-write_parts.result ≡ Err fault = search rules in
+    let same : c.from_residual-in_err-write_parts.result ≡ Err fault =
+    err_is _ c.from_residual-in_err-write_parts.ensures.1 in
     let by = c.in_ok-rows.ensures.sorted in
     let says = c.in_err-write_parts.ensures in
-    let all : c.as_slice.result.now ≡ c.in_ok-rows.rows.items = search rules in
+    let all : c.as_slice.result.now ≡ c.in_ok-rows.rows.items = c.as_slice.ensures.value in
     record {
       written = rw same (parts_end c.args.query c.args.gathered.rows.items c.in_ok-rows.rows.items by _ _
           (same_all _ _ (c.as_str.ensures.value ∙ c.top.ensures) c.in_ok-put.ensures.ok) _ fault (subst (λ l. WritesParts c.args.query l (g.W.Sink.contents c.put.new.writer)
@@ -49,10 +51,11 @@ returns-in_err-write_parts g c =
 
 pub returns-in_err-put_last : goal.returns-in_err-put_last
 returns-in_err-put_last g c =
-    let same : c.from_residual-in_err-put_last.result ≡ Err Write = search rules in
+    let same : c.from_residual-in_err-put_last.result ≡ Err Write =
+    err_is _ c.from_residual-in_err-put_last.ensures.1 in
     let by = c.in_ok-rows.ensures.sorted in
     let says = c.in_ok-write_parts.ensures in
-    let all : c.as_slice.result.now ≡ c.in_ok-rows.rows.items = search rules in
+    let all : c.as_slice.result.now ≡ c.in_ok-rows.rows.items = c.as_slice.ensures.value in
     record {
       written = rw same (flush_end c.args.query c.args.gathered.rows.items _ _ _
           (parts_written c.args.query c.args.gathered.rows.items c.in_ok-rows.rows.items by _ _
@@ -68,7 +71,7 @@ pub returns : goal.returns
 returns g c =
     let by = c.in_ok-rows.ensures.sorted in
     let says = c.in_ok-write_parts.ensures in
-    let all : c.as_slice.result.now ≡ c.in_ok-rows.rows.items = search rules in
+    let all : c.as_slice.result.now ≡ c.in_ok-rows.rows.items = c.as_slice.ensures.value in
     record {
       written = flushed c.args.query c.args.gathered.rows.items _ _ _
           (parts_written c.args.query c.args.gathered.rows.items c.in_ok-rows.rows.items by _ _

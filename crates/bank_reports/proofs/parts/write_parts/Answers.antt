@@ -12,6 +12,7 @@ use Rattle.bank_reports.specs.{Gathering.account_of, Parts.WritesListed}
 use Rattle.bank_reports.proofs.ByAccount.{PartsSoFar, all_parts, last_part, next_part, no_parts, some_own}
 use Rattle.bank_reports.proofs.Further.{error_is}
 use Rattle.bank_reports.proofs.ReportEnds.{not_ok}
+use Rattle.bank_reports.proofs.Refused.{err_is}
 use Rattle.bank_reports.proofs.parts.write_parts.Goals as goal
 
 -- the first of some
@@ -62,10 +63,10 @@ returns-in_err-write_listed g c =
     (IsPartitionPoint-from_clause (λ s. leb (account_of s) c.unsigned_abs-number.result) left count
     c.partition_point-count.ensures.partitioned
     (IsPartitionedBy-leb account_of left c.unsigned_abs-number.result so_far.parts.rise) (λ a r q k. search rules)) in
-    let own_is : c.split_at.result.0.now ≡ take count left = search rules in
+    let own_is : c.split_at.result.0.now ≡ take count left = c.split_at.ensures.front in
     let account_is : c.unwrap-account.result ≡ account_of first = search rules in
     let fault = c.in_err-write_listed.field-0.0 in
-    let same : c.from_residual.result ≡ Err fault = search rules in
+    let same : c.from_residual.result ≡ Err fault = err_is _ c.from_residual.ensures.1 in
     let says = c.in_err-write_listed.ensures in
     record {
       written = rw same (last_part c.args.query.now c.args.rows.now left (g.W.Sink.contents c.args.writer.now) mid
@@ -92,8 +93,8 @@ accounts-preserved g c =
     (IsPartitionPoint-from_clause (λ s. leb (account_of s) c.unsigned_abs-number.result) left count
     c.partition_point-count.ensures.partitioned
     (IsPartitionedBy-leb account_of left c.unsigned_abs-number.result so_far.parts.rise) (λ a r q k. search rules)) in
-    let own_is : c.split_at.result.0.now ≡ take count left = search rules in
-    let later_is : c.split_at.result.1.now ≡ drop count left = search rules in
+    let own_is : c.split_at.result.0.now ≡ take count left = c.split_at.ensures.front in
+    let later_is : c.split_at.result.1.now ≡ drop count left = c.split_at.ensures.back in
     let account_is : c.unwrap-account.result ≡ account_of first = search rules in
     let says = c.in_ok-write_listed.ensures in
     let some = some_own c.args.query.now c.args.rows.now left (g.W.Sink.contents c.args.writer.now) mid

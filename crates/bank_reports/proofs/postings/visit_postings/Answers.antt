@@ -3,20 +3,22 @@ use Rattle.std.proofs.Common.{rules, ◌≡◌, List, [], Err, refl, sym, subst,
 use Rattle.sqlite.specs.{State.HasCleanDisk, Held.state}
 use Rattle.store_rows.specs.believed.BankTables.{history as history_table, reference as reference_table}
 use Rattle.walked_rows.specs.{Pairs.HasPairs, Pairs.Pair, Stored.is_stated_of}
-use Rattle.bank_store.specs.believed.Seen.{bank_seen, connection_of, database_of}
+use Rattle.bank_store.specs.believed.Seen.{database_of}
 use Rattle.bank_store.specs.Walking.{given_of}
 use Rattle.bank_reports.specs.declared.fault.ReportFault.TheVariants.{Bank}
-use Rattle.bank_store.specs.Failures.{HasFailedToRead}
 use Rattle.bank_reports.specs.Visitors.{VisitsPostings}
-use Rattle.bank_reports.proofs.Passed.{failed_at_end}
+use Rattle.bank_reports.proofs.Lent.{reads_lent}
 use Rattle.bank_reports.proofs.ReportEnds.{down_not_memory, down_not_store, not_missing, not_write}
+use Rattle.bank_reports.proofs.Refused.{err_is}
+use Rattle.bank_store.proofs.StepsKeep.{still_undone}
+use Rattle.walked_rows.proofs.Causes.{nothing_called}
 use Rattle.bank_reports.proofs.postings.visit_postings.Goals as goal
 
 pub returns-in_err-walk : goal.returns-in_err-walk
 returns-in_err-walk g c =
     let fault = c.in_err-walk.field-0.0 in
     let was = c.in_err-walk.ensures.begins.fault in
-    let same : c.from_residual.result ≡ Err (Bank fault) = search rules in
+    let same : c.from_residual.result ≡ Err (Bank fault) = err_is _ c.from_residual.ensures.1 in
     record {
       answers = λ clean rows has.
           rw (same, was.0) record {
@@ -28,16 +30,16 @@ returns-in_err-walk g c =
       ends = rw same ([], inl c.requires.none);
       more = rw same tt;
       failed = λ write. absurd (not_write _ fault same write);
-      reads = record {
+      reads = reads_lent c.args.bank.now c.args.bank.now c.args.bank.now g.V.Visitor.TakesMemory _ refl record {
         found = not_missing _ fault same;
         frugal = λ is. absurd (down_not_memory _ fault same was.0 is);
         tried = λ is. was.1;
         store = λ is. absurd (down_not_store _ fault same was.0 is);
-        still = λ clean written. absurd (rw same at written);
-        undone = search rules;
-        up = λ down. was.1;
-        survives = search rules;
-      };
+        still = λ clean written. (refl, refl, refl, refl);
+        undone = λ clean. still_undone _ _ (refl, refl, refl, refl);
+        up = λ down. down;
+        survives = nothing_called _;
+      } (search rules);
     }
 
 pub returns : goal.returns
@@ -58,18 +60,6 @@ returns g c =
       ends = says.ends;
       more = says.more;
       failed = says.failed;
-      reads = record {
-        found = says.reads.found;
-        frugal = says.reads.frugal;
-        tried = λ is.
-            subst (λ bank. (bank_seen g.S.Store bank).is_down) begins.same (says.reads.tried is);
-        store = λ is clean rows has.
-            let late : HasCleanDisk (state g.S.Store last.conn) = search rules in
-            failed_at_end (subst (λ bank. HasFailedToRead g.S.Store (connection_of bank) last.conn) begins.same
-            (says.reads.store is late rows (there rows has))) (search rules);
-        still = search rules;
-        undone = search rules;
-        up = search rules;
-        survives = search rules;
-      };
+      reads = reads_lent c.args.bank.now c.in_ok-walk.walk.bank.now last g.V.Visitor.TakesMemory c.visit_rows.result
+          begins.same says.reads (search rules);
     }

@@ -1,5 +1,5 @@
 -- The heading, the names, the postings and the closing line.
-use Rattle.std.proofs.Common.{rules, ◌≡◌, Err, Some, filter, refl, sym, ◌∙◌}
+use Rattle.std.proofs.Common.{◌≡◌, Err, Some, filter, refl, sym, ◌∙◌}
 use Rattle.posting_rules.specs.declared.fault.Fault.TheVariants.{Down, Memory, Store}
 use Rattle.std.proofs.KnownBytes.{Appends-nil}
 use Rattle.posting_core.specs.EndCalls.{IsFlush}
@@ -11,11 +11,13 @@ use Rattle.bank_reports.proofs.Further.{lines_in}
 use Rattle.bank_reports.proofs.ReportEnds.{not_both, not_ok, not_write}
 use Rattle.bank_reports.proofs.Sections.{all_written, closing_err, heading_err, names_err, postings_err}
 use Rattle.bank_store.proofs.StepsKeep.{still_undone}
+use Rattle.bank_reports.proofs.Refused.{err_is}
+use Rattle.walked_rows.proofs.Causes.{nothing_called}
 use Rattle.bank_reports.proofs.statement.write_lines.Goals as goal
 
 pub returns-in_err-put : goal.returns-in_err-put
 returns-in_err-put g c =
-    let same : c.from_residual.result ≡ Err Write = search rules in
+    let same : c.from_residual.result ≡ Err Write = err_is _ c.from_residual.ensures.1 in
     record {
       answers = λ clean rows has.
           rw same (heading_err c.args.account c.args.form.now (filter (is_stated_of (Some c.args.account)) rows) _ _
@@ -30,13 +32,13 @@ returns-in_err-put g c =
         still = λ clean written. (refl, refl, refl, refl);
         undone = λ clean. still_undone _ _ (refl, refl, refl, refl);
         up = λ down. down;
-        survives = search rules;
+        survives = nothing_called _;
       };
     }
 
 pub returns-in_err-put-2 : goal.returns-in_err-put-2
 returns-in_err-put-2 g c =
-    let same : c.from_residual-in_err-put-2.result ≡ Err Write = search rules in
+    let same : c.from_residual-in_err-put-2.result ≡ Err Write = err_is _ c.from_residual-in_err-put-2.ensures.1 in
     record {
       answers = λ clean rows has.
           rw same (names_err c.args.account c.args.form.now (filter (is_stated_of (Some c.args.account)) rows) _ _
@@ -52,7 +54,7 @@ returns-in_err-put-2 g c =
         still = λ clean written. (refl, refl, refl, refl);
         undone = λ clean. still_undone _ _ (refl, refl, refl, refl);
         up = λ down. down;
-        survives = search rules;
+        survives = nothing_called _;
       };
     }
 
@@ -64,7 +66,8 @@ visit_postings-requires g c = record {
 pub returns-in_err-visit_postings : goal.returns-in_err-visit_postings
 returns-in_err-visit_postings g c =
     let fault = c.in_err-visit_postings.field-0.0 in
-    let same : c.from_residual-in_err-visit_postings.result ≡ Err fault = search rules in
+    let same : c.from_residual-in_err-visit_postings.result ≡ Err fault =
+    err_is _ c.from_residual-in_err-visit_postings.ensures.1 in
     let says = c.in_err-visit_postings.ensures in
     record {
       answers = λ clean rows has.
@@ -90,7 +93,8 @@ returns-in_err-visit_postings g c =
 
 pub returns-in_err-put_last : goal.returns-in_err-put_last
 returns-in_err-put_last g c =
-    let same : c.from_residual-in_err-put_last.result ≡ Err Write = search rules in
+    let same : c.from_residual-in_err-put_last.result ≡ Err Write =
+    err_is _ c.from_residual-in_err-put_last.ensures.1 in
     let says = c.in_ok-visit_postings.ensures in
     record {
       answers = λ clean rows has.

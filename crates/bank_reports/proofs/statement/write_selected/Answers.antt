@@ -1,5 +1,5 @@
 -- The statement of an account of a bank that shows a log.
-use Rattle.std.proofs.Common.{rules, ◌≡◌, ◌∙◌, List, [], filter, Some, Err, refl, sym, ap, subst}
+use Rattle.std.proofs.Common.{◌≡◌, ◌∙◌, List, [], filter, Some, Err, refl, sym, ap, subst}
 use Rattle.std.proofs.Common.{inl, inr, arith}
 use Rattle.std.specs.Prelude.{IsSome}
 use Rattle.sqlite.specs.{State.HasCleanDisk, Held.state}
@@ -15,12 +15,13 @@ use Rattle.report_contents.proofs.Written.{nothing_written}
 use Rattle.bank_reports.proofs.FaultsTold.{down_is_sound, unstated}
 use Rattle.bank_reports.proofs.{Passed.failed_later, statement.write_selected.Given.Over}
 use Rattle.bank_reports.proofs.OnLogs.{account_rows, has_stated, stated_rows}
-use Rattle.bank_reports.proofs.ReportEnds.{damaged_not_down, down_not_store, not_both, not_missing, not_write, of_err}
-use Rattle.bank_reports.proofs.ReportEnds.{of_ok, refused_before, refused_down, refused_leaves, refused_sound}
-use Rattle.bank_reports.proofs.ReportEnds.{same_fault, tested_up, written_of}
+use Rattle.bank_reports.proofs.ReportEnds.{damaged_not_down, down_not_memory, down_not_store, not_both, not_missing}
+use Rattle.bank_reports.proofs.ReportEnds.{not_write, of_err, of_ok, refused_before, refused_down}
+use Rattle.bank_reports.proofs.ReportEnds.{refused_leaves, refused_sound, same_fault, tested_up, written_of}
 use Rattle.bank_store.proofs.{AsFound.commits_then, AsFound.idle_commits, ReadsLeave.idle_takes, ReadsLeave.reads_after}
 use Rattle.bank_transactions.proofs.Blamed.{comes}
 use Rattle.bank_reports.proofs.StatementReports.{ToldOfLog, log_part, log_sound, log_whole}
+use Rattle.bank_reports.proofs.Refused.{err_is}
 use Rattle.bank_reports.proofs.statement.write_selected.Goals as goal
 
 -- ---- a bank that was down
@@ -44,7 +45,7 @@ returns-then-is_down g c =
         flushed = tt;
         failed = λ write. absurd (not_write _ Down refl write);
       };
-      frugal = search rules;
+      frugal = λ is. absurd (down_not_memory _ Down refl refl is);
       down = record { down = λ down. refl; tried = λ is. was; idle = λ is. (refl, refl) };
       leaves = idle_commits g.S.Store c.args.bank.now;
     }
@@ -53,7 +54,7 @@ returns-then-is_down g c =
 
 refusal : (g : Over) (c : goal.After-from_residual g)
     → c.from_residual.result ≡ Err (Bank c.in_err-balance.field-0.0)
-refusal g c = search rules
+refusal g c = err_is _ c.from_residual.ensures.1
 
 pub returns-in_err-balance : goal.returns-in_err-balance
 returns-in_err-balance g c =
