@@ -1,5 +1,6 @@
 -- What the proofs of a replay share.
 pub mod Read
+pub mod Exits
 pub mod Tables
 pub mod AskedFirst
 mod AnyRows

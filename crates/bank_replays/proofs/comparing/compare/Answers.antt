@@ -10,6 +10,12 @@ each_row-requires g c = walk_fits g.row.R g.met.R.SmallRow.few_bytes
 pub each_row-requires-2 : goal.each_row-requires-2
 each_row-requires-2 g c = walk_fits g.row.R g.met.R.SmallRow.few_bytes
 
+pub drop-stood-requires : goal.drop-stood-requires
+drop-stood-requires g c = walk_fits g.row.R g.met.R.SmallRow.few_bytes
+
+pub drop-rules-requires : goal.drop-rules-requires
+drop-rules-requires g c = walk_fits g.row.R g.met.R.SmallRow.few_bytes
+
 pub returns : goal.returns
 returns g c = record {
   bank = search rules;

@@ -1,14 +1,48 @@
--- The records of a log's requests.
-use Rattle.std.proofs.Common.{refl}
-use Rattle.bank_store.specs.believed.Seen.{database_of}
-use Rattle.bank_store.proofs.LogRows.{has_kept, kept_of}
-use Rattle.bank_replays.proofs.{ExportedLog.writes_log, SoundLogs.sound_log}
+-- The records of a log's requests, and what is left of the bank.
+use Rattle.std.proofs.Common.{[], refl, sym, ◌∙◌}
+use Rattle.posting_rules.specs.declared.fault.Fault.TheVariants.{Down}
+use Rattle.report_contents.proofs.Written.{nothing_written}
+use Rattle.bank_store.specs.believed.Seen.{bank_seen, database_of}
+use Rattle.bank_store.proofs.{AsFound.idle_as_found, LogRows.has_kept, LogRows.kept_of, ReadsLeave.idle_takes}
+use Rattle.bank_replays.specs.Prefixes.{wrote_none}
+use Rattle.bank_replays.proofs.{ExportedLog.writes_log, Exits.tested_up, Leaves.read_leaves, Leaves.read_takes}
+use Rattle.bank_replays.proofs.{SoundLogs.sound_log, Wrote.bank_err}
 use Rattle.bank_replays.proofs.exports.export.Goals as goal
 
-pub returns-clause-log : goal.returns-clause-log
-returns-clause-log g c clean log shows =
-    let db = database_of g.S.Store c.args.bank.now in
-    writes_log db shows.tables log shows.are shows.shows c.args.after _ _ _
-    (c.export_records.ensures.rows clean (kept_of db shows.tables log shows.are shows.shows)
-    (has_kept db shows.tables log shows.are shows.shows))
-    (λ rule is. sound_log clean log shows c.export_records.result _ c.export_records.ensures.why is rule refl)
+pub returns-then-is_down : goal.returns-then-is_down
+returns-then-is_down g c = record {
+  rows = λ clean all has. record {
+    given = [];
+    rest = all;
+    are = refl;
+    each = tt;
+    wrote = (wrote_none (g.W.Sink.contents c.args.writer.now) (g.W.Sink.calls c.args.writer.now)).0;
+    why = tt;
+  };
+  log = λ clean log shows. nothing_written _ _;
+  writer = bank_err Down;
+  why = record { answers = λ clean f has. sym c.is_down.ensures ∙ c.if-is_down.true };
+  bank = idle_takes (bank_seen g.S.Store c.args.bank.now) _;
+  down = λ down. (refl, refl, refl);
+  up = refl;
+  leaves = idle_as_found g.S.Store c.args.bank.now;
+}
+
+pub returns : goal.returns
+returns g c =
+    let says = c.export_records.ensures in
+    record {
+      rows = says.rows;
+      log = λ clean log shows.
+          let db = database_of g.S.Store c.args.bank.now in
+          writes_log db shows.tables log shows.are shows.shows c.args.after _ _ _
+          (says.rows clean (kept_of db shows.tables log shows.are shows.shows)
+          (has_kept db shows.tables log shows.are shows.shows))
+          (λ rule is. sound_log clean log shows c.export_records.result _ says.why is rule refl);
+      writer = says.writer;
+      why = says.why;
+      bank = read_takes _ says.bank;
+      down = λ down. absurd (tested_up _ _ c.is_down.ensures c.if-is_down.false down);
+      up = says.bank.up;
+      leaves = read_leaves _ says.bank;
+    }

@@ -1,14 +1,40 @@
--- The entries of a log.
-use Rattle.bank_store.specs.believed.Seen.{database_of}
-use Rattle.bank_store.proofs.LogRows.{has_kept, kept_of}
-use Rattle.std.proofs.Common.{refl}
-use Rattle.bank_replays.proofs.{Logged.logs_log, SoundLogs.sound_log}
+-- The entries of a log, and what is left of the bank.
+use Rattle.std.proofs.Common.{refl, sym, ◌∙◌}
+use Rattle.posting_rules.specs.declared.fault.Fault.TheVariants.{Down}
+use Rattle.report_contents.proofs.Written.{nothing_written}
+use Rattle.bank_store.specs.believed.Seen.{bank_seen, database_of}
+use Rattle.bank_store.proofs.{AsFound.idle_as_found, LogRows.has_kept, LogRows.kept_of, ReadsLeave.idle_takes}
+use Rattle.bank_replays.proofs.{Exits.tested_up, Leaves.read_leaves, Leaves.read_takes, Logged.logs_log}
+use Rattle.bank_replays.proofs.{SoundLogs.sound_log, Wrote.bank_err}
 use Rattle.bank_replays.proofs.logs.write_log.Goals as goal
 
-pub returns-clause-log : goal.returns-clause-log
-returns-clause-log g c clean log shows =
-    let db = database_of g.S.Store c.args.bank.now in
-    logs_log db shows.tables log shows.are shows.shows c.args.after _ _ _
-    (c.write_entries.ensures.rows clean (kept_of db shows.tables log shows.are shows.shows)
-    (has_kept db shows.tables log shows.are shows.shows))
-    (λ rule is. sound_log clean log shows c.write_entries.result _ c.write_entries.ensures.why is rule refl)
+pub returns-then-is_down : goal.returns-then-is_down
+returns-then-is_down g c = record {
+  rows = λ clean all has. record { text = nothing_written _ _; kept = tt };
+  log = λ clean log shows. record { text = nothing_written _ _; kept = tt };
+  writer = bank_err Down;
+  why = record { answers = λ clean f has. sym c.is_down.ensures ∙ c.if-is_down.true };
+  bank = idle_takes (bank_seen g.S.Store c.args.bank.now) _;
+  down = λ down. (refl, refl, refl);
+  up = refl;
+  leaves = idle_as_found g.S.Store c.args.bank.now;
+}
+
+pub returns : goal.returns
+returns g c =
+    let says = c.write_entries.ensures in
+    record {
+      rows = says.rows;
+      log = λ clean log shows.
+          let db = database_of g.S.Store c.args.bank.now in
+          logs_log db shows.tables log shows.are shows.shows c.args.after _ _ _
+          (says.rows clean (kept_of db shows.tables log shows.are shows.shows)
+          (has_kept db shows.tables log shows.are shows.shows))
+          (λ rule is. sound_log clean log shows c.write_entries.result _ says.why is rule refl);
+      writer = says.writer;
+      why = says.why;
+      bank = read_takes _ says.bank;
+      down = λ down. absurd (tested_up _ _ c.is_down.ensures c.if-is_down.false down);
+      up = says.bank.up;
+      leaves = read_leaves _ says.bank;
+    }

@@ -1,5 +1,5 @@
 -- Fewer rows than the most are all.
-use Rattle.std.proofs.Common.{rules, ◌≡◌, ◌-◌, ◌^◌, Err, refl, arith}
+use Rattle.std.proofs.Common.{◌≡◌, ◌-◌, ◌^◌, Err, refl, arith}
 use Rattle.std.specs.Prelude.{⊤}
 use Rattle.bank_store.specs.Failures.{HasFailedToRead}
 use Rattle.bank_replays.specs.Visiting.{Bars, Why}
@@ -7,12 +7,13 @@ use Rattle.posting_rules.specs.declared.fault.Fault.TheVariants.{Memory}
 use Rattle.bank_replays.specs.declared.fault.ReplayFault.TheVariants.{Bank}
 use Rattle.bank_replays.proofs.{Visits.all_visited, Visits.part_visited, Visits.some_visited, Read.read_any, Read.read_fails}
 use Rattle.bank_replays.proofs.Whys.{why_err, why_memory, why_none}
+use Rattle.bank_replays.proofs.Exits.{fails_by}
 use Rattle.bank_replays.proofs.visitors.visit_all.Goals as goal
 
 pub returns-in_err-count : goal.returns-in_err-count
 returns-in_err-count g c =
     let fault = c.in_err-count.field-0.0 in
-    let same : c.from_residual.result ≡ Err fault = search rules in
+    let same : c.from_residual.result ≡ Err fault = fails_by c.from_residual.ensures.1 in
     record {
       bank = rw same (read_fails fault c.in_err-count.ensures.bank);
       visits = rw same (some_visited g.R.WalkedRow.item (g.P.Visitor.Visited c.args.visitor.now c.args.target.now c.visit_first.new.target)

@@ -5,6 +5,7 @@ use Rattle.bank_store.proofs.RoomForWalks.{walk_fits}
 use Rattle.bank_replays.specs.declared.fault.ReplayFault.TheVariants.{Bank}
 use Rattle.bank_replays.specs.Visiting.{Bars, Why}
 use Rattle.bank_replays.proofs.{Begun.visits_of_all, Visits.visits_down, Visits.not_memory, Whys.visited_why}
+use Rattle.bank_replays.proofs.Exits.{fails_by}
 use Rattle.bank_replays.proofs.visitors.visit_first.Goals as goal
 
 pub each_row-requires : goal.each_row-requires
@@ -35,7 +36,7 @@ returns-clause-why g c =
 pub returns-in_err-walk-clause-visits : goal.returns-in_err-walk-clause-visits
 returns-in_err-walk-clause-visits g c =
     let fault = c.in_err-walk.field-0.0 in
-    let same : c.from_residual.result ≡ Err (Bank fault) = search rules in
+    let same : c.from_residual.result ≡ Err (Bank fault) = fails_by c.from_residual.ensures.1 in
     let down = c.in_err-walk.ensures.begins.fault in
     rw same (visits_down g.R.WalkedRow.item (g.P.Visitor.Visited c.args.visitor.now c.args.target.now c.args.target.now)
     (g.P.Visitor.Part c.args.visitor.now c.args.target.now c.args.target.now)
@@ -44,3 +45,9 @@ returns-in_err-walk-clause-visits g c =
     (g.met.P.Visitor.in_part c.args.visitor.now c.args.target.now c.args.target.now [] fault
     (λ is. absurd (not_memory fault down.0 is)) (g.met.P.Visitor.none_yet c.args.visitor.now c.args.target.now))
     (λ coming. down.1))
+
+pub returns-in_err-walk-clause-why : goal.returns-in_err-walk-clause-why
+returns-in_err-walk-clause-why g c =
+    let same : c.from_residual.result ≡ Err (Bank c.in_err-walk.field-0.0) = fails_by c.from_residual.ensures.1 in
+    let down = c.in_err-walk.ensures.begins.fault in
+    record { answers = λ clean f has. rw (same, down.0) down.1 }

@@ -1,11 +1,12 @@
 -- One row more, and what ends the walk.
-use Rattle.std.proofs.Common.{rules, ◌≡◌, [], Err, refl, sym, ap, subst, ◌∙◌, arith, inl}
+use Rattle.std.proofs.Common.{◌≡◌, [], Err, refl, sym, ap, subst, ◌∙◌, arith, inl}
 use Rattle.bank_transactions.proofs.Blamed.{comes}
 use Rattle.bank_store.specs.Failures.{HasFailedToRead}
 use Rattle.bank_replays.specs.Visiting.{Bars, Why}
 use Rattle.bank_replays.specs.declared.fault.ReplayFault.TheVariants.{Bank}
 use Rattle.bank_replays.proofs.Visits.{visits_end, visits_more, visits_most, visits_part, visits_refused, why_refused, why_stopped}
 use Rattle.bank_replays.proofs.Read.{clean_before, none_read, read_any, read_fails, read_then, step_reads}
+use Rattle.bank_replays.proofs.Exits.{fails_by}
 use Rattle.bank_replays.proofs.visitors.visit_rows.Goals as goal
 
 pub rows-init : goal.rows-init
@@ -26,7 +27,7 @@ pub returns-in_err-row : goal.returns-in_err-row
 returns-in_err-row g c =
     let it = c.rows.invariant in
     let fault = c.in_err-row.field-0.0 in
-    let same : c.from_residual.result ≡ Err (Bank fault) = search rules in
+    let same : c.from_residual.result ≡ Err (Bank fault) = fails_by c.from_residual.ensures.1 in
     let step = step_reads c.next.ensures.bank in
     record {
       same_reference = c.next.ensures.bank.same_reference ∙ it.reference;
@@ -71,7 +72,7 @@ pub returns-in_err-visit : goal.returns-in_err-visit
 returns-in_err-visit g c =
     let it = c.rows.invariant in
     let fault = c.in_err-visit.field-0.0 in
-    let same : c.from_residual-in_err-visit.result ≡ Err fault = search rules in
+    let same : c.from_residual-in_err-visit.result ≡ Err fault = fails_by c.from_residual-in_err-visit.ensures.1 in
     let step = step_reads c.in_ok-row.ensures.bank in
     record {
       same_reference = c.next.ensures.bank.same_reference ∙ it.reference;

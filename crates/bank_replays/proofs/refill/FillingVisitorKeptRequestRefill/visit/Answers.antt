@@ -1,4 +1,5 @@
 -- The request follows those before it.
+use Rattle.bank_replays.proofs.Exits.{memory_refuses, nothing_said}
 use Rattle.bank_replays.proofs.TakenRows.{follows_next, follows_none_read, visited_more}
 use Rattle.bank_replays.proofs.refill.FillingVisitorKeptRequestRefill.visit.Goals as goal
 
@@ -14,3 +15,15 @@ returns-in_default-clause-visited g c first rows visited = (
   λ some. c.reach.ensures.shows (visited.0 some),
   follows_none_read first c.args.refill.now rows c.args.row visited.1 c.reach.new.self c.in_default.ensures.none,
 )
+
+pub returns-clause-part : goal.returns-clause-part
+returns-clause-part g c first rows visited = nothing_said c.take.result
+
+pub returns-clause-why : goal.returns-clause-why
+returns-clause-why g c = memory_refuses _ c.take.result c.take.ensures.memory
+
+pub returns-in_default-clause-part : goal.returns-in_default-clause-part
+returns-in_default-clause-part g c first rows visited = tt
+
+pub returns-in_default-clause-why : goal.returns-in_default-clause-why
+returns-in_default-clause-why g c = tt

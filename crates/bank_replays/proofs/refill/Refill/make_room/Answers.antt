@@ -1,5 +1,7 @@
 -- Once all is posted the moment is free.
+use Rattle.std.proofs.Common.{◌≡◌, Err, refl}
 use Rattle.bank_replays.proofs.Filled.{moved}
+use Rattle.bank_replays.proofs.Exits.{fails_by}
 use Rattle.bank_replays.proofs.refill.Refill.make_room.Goals as goal
 
 pub returns-clause-holds : goal.returns-clause-holds
@@ -10,3 +12,23 @@ returns-clause-holds g c sure plan log holds =
           c.in_ok-post.ensures.empty mid.has;
       yet = mid.yet;
     }
+
+pub returns-in_err-post : goal.returns-in_err-post
+returns-in_err-post g c =
+    let same : c.from_residual.result ≡ Err c.in_err-post.field-0.0 = fails_by c.from_residual.ensures.1 in
+    record {
+      shows = λ some. rw same tt;
+      holds = λ sure plan log holds. rw same tt;
+      moment = rw same tt;
+      room = rw same tt;
+      memory = rw same c.in_err-post.ensures.memory;
+    }
+
+pub returns-clause-shows : goal.returns-clause-shows
+returns-clause-shows g c some = c.in_ok-post.ensures.shows some
+
+pub returns-clause-moment : goal.returns-clause-moment
+returns-clause-moment g c = refl
+
+pub returns-clause-memory : goal.returns-clause-memory
+returns-clause-memory g c = tt

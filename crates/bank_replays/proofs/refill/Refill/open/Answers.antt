@@ -1,7 +1,8 @@
 -- What came before is posted first.
-use Rattle.std.proofs.Common.{◌∙◌, sym, ap}
+use Rattle.std.proofs.Common.{◌∙◌, sym, ap, ◌≡◌, Err}
 use Rattle.bank_replays.specs.Refilling.{planned_at}
 use Rattle.bank_replays.proofs.Filled.{opened_more}
+use Rattle.bank_replays.proofs.Exits.{fails_by}
 use Rattle.bank_replays.proofs.refill.Refill.open.Goals as goal
 
 pub returns-clause-shows : goal.returns-clause-shows
@@ -15,3 +16,15 @@ returns-clause-holds g c sure plan is log holds =
     c.if-yet-eq0.false c.in_ok-post.ensures.empty c.in_ok-post.ensures.empty c.plan_at.ensures
     (c.in_ok-post.ensures.holds sure plan log holds) c.open_planned.result
     (λ can shows. c.open_planned.ensures.opens sure can log shows)
+
+pub returns-in_err-post : goal.returns-in_err-post
+returns-in_err-post g c =
+    let same : c.from_residual.result ≡ Err c.in_err-post.field-0.0 = fails_by c.from_residual.ensures.1 in
+    record {
+      shows = λ some. rw same tt;
+      holds = λ sure plan is log holds. rw same tt;
+      memory = rw same c.in_err-post.ensures.memory;
+    }
+
+pub returns-clause-memory : goal.returns-clause-memory
+returns-clause-memory g c = c.open_planned.ensures.memory

@@ -1,4 +1,6 @@
+use Rattle.std.proofs.Common.{◌≡◌, Err, refl}
 use Rattle.posting_rules.specs.believed.Runs.{followed_by, posts}
+use Rattle.bank_replays.proofs.Exits.{fails_by}
 use Rattle.bank_replays.proofs.refill.Refill.post.Goals as goal
 
 -- what was to be posted is posted
@@ -11,3 +13,26 @@ returns-clause-holds g c sure plan log holds = record {
   };
   yet = holds.yet;
 }
+
+pub returns-in_err-post_batch : goal.returns-in_err-post_batch
+returns-in_err-post_batch g c =
+    let same : c.from_residual.result ≡ Err c.in_err-post_batch.field-0.0 = fails_by c.from_residual.ensures.1 in
+    record {
+      shows = λ some. rw same tt;
+      holds = λ sure plan log holds. rw same tt;
+      planned = refl;
+      empty = rw same tt;
+      memory = rw same c.in_err-post_batch.ensures.memory;
+    }
+
+pub returns-clause-shows : goal.returns-clause-shows
+returns-clause-shows g c some = c.in_ok-post_batch.ensures.shows some
+
+pub returns-clause-planned : goal.returns-clause-planned
+returns-clause-planned g c = refl
+
+pub returns-clause-empty : goal.returns-clause-empty
+returns-clause-empty g c = c.clear.ensures
+
+pub returns-clause-memory : goal.returns-clause-memory
+returns-clause-memory g c = tt

@@ -1,10 +1,11 @@
 -- Branches are opened, and then there is room for the record.
-use Rattle.std.proofs.Common.{◌≡◌, ◌∙◌, List, sym, ap, subst}
+use Rattle.std.proofs.Common.{◌≡◌, ◌∙◌, List, sym, ap, subst, Err}
 use Rattle.posting_rules.specs.believed.Commands.{Command}
 use Rattle.posting_rules.specs.believed.Numbering.{branch_of_account, branch_of_teller}
 use Rattle.bank_replays.specs.Following.{prepared}
 use Rattle.bank_replays.specs.Refilling.{Holds, IsMomentOf, ShowsSome}
 use Rattle.bank_replays.proofs.Filled.{prepared_both, prepared_home, pushed}
+use Rattle.bank_replays.proofs.Exits.{fails_by}
 use Rattle.bank_replays.proofs.refill.Refill.take.Goals as goal
 use Rattle.bank_replays.proofs.refill.Refill.take.Goals.{else-had, in-None, in-Some, then-had+in_ok-open-2}
 
@@ -52,3 +53,35 @@ returns-clause-holds g c sure plan is log holds =
         yet = three.yet;
       };
     }
+
+pub returns-in_err-open : goal.returns-in_err-open
+returns-in_err-open g c =
+    let same : c.from_residual.result ≡ Err c.in_err-open.field-0.0 = fails_by c.from_residual.ensures.1 in
+    record {
+      shows = λ some. rw same tt;
+      holds = λ sure plan is log holds. rw same tt;
+      memory = rw same c.in_err-open.ensures.memory;
+    }
+
+pub returns-in_err-open-2 : goal.returns-in_err-open-2
+returns-in_err-open-2 g c =
+    let same : c.from_residual-in_err-open-2.result ≡ Err c.in_err-open-2.field-0.0 =
+    fails_by c.from_residual-in_err-open-2.ensures.1 in
+    record {
+      shows = λ some. rw same tt;
+      holds = λ sure plan is log holds. rw same tt;
+      memory = rw same c.in_err-open-2.ensures.memory;
+    }
+
+pub returns-in_err-make_room : goal.returns-in_err-make_room
+returns-in_err-make_room g c =
+    let same : c.from_residual-in_err-make_room.result ≡ Err c.in_err-make_room.field-0.0 =
+    fails_by c.from_residual-in_err-make_room.ensures.1 in
+    record {
+      shows = λ some. rw same tt;
+      holds = λ sure plan is log holds. rw same tt;
+      memory = rw same c.in_err-make_room.ensures.memory;
+    }
+
+pub returns-clause-memory : goal.returns-clause-memory
+returns-clause-memory g c = tt
