@@ -1,4 +1,4 @@
--- What each command does over the connection conn, which it hands back as back, and how it ends: told is the status
+-- What each command does over the connection conn, which it hands back as back, and how it ends: end is the status
 -- or the fault. r and r' are the known bytes of its input before and after, w and w' those of its output, k and k' the
 -- clock's known readings; what the calls of its ends are known to have returned is q and q' of the input, and t and
 -- t' of the output; beside which sinks the input is known to have been read is b and b'.

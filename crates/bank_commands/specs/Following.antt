@@ -1,5 +1,5 @@
 -- What the commands that write a log, and that follow one, do over the connection conn, which they hand back as back,
--- and how they end: told is the status or the fault. r and r' are the known bytes of the input before and after, and w
+-- and how they end: end is the status or the fault. r and r' are the known bytes of the input before and after, and w
 -- and w' those of the output; what the calls of these are known to have returned is q and q', and t and t'.
 use Rattle.std.specs.Prelude.{◌≡◌, ◌≢◌, ◌++◌, ℕ, List, length, Option, Result, Ok, Err, IfOk, OnOk, if◌then◌else◌, nat_lt}
 use Rattle.std.specs.Io.KnownBytes.{Appends, Keeps}

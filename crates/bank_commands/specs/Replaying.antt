@@ -1,5 +1,5 @@
 -- What the commands that replay a bank, and that write its requests and its branches, do over the connection conn,
--- which they hand back as back, and how they end: told is the status or the fault. w and w' are the known bytes of the
+-- which they hand back as back, and how they end: end is the status or the fault. w and w' are the known bytes of the
 -- output before and after, and t and t' what its calls are known to have returned.
 use Rattle.std.specs.Prelude.{◌≡◌, ◌≢◌, ℕ, List, Option, Some, None, Result, Ok, Err}
 use Rattle.std.specs.Io.KnownBytes.{Keeps}

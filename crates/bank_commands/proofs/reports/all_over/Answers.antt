@@ -4,7 +4,7 @@ use Rattle.bank_store.proofs.AsFound.{as_found_spares}
 use Rattle.bank_commands.proofs.Spared.{done_over, none_over}
 use Rattle.bank_commands.proofs.reports.all_over.Goals as goal
 
-pub all_stated-end-requires : goal.all_stated-told-requires
+pub all_stated-end-requires : goal.all_stated-end-requires
 all_stated-end-requires g c = c.write_statements.ensures.bank.found
 
 pub returns-in-Err : goal.returns-in-Err
