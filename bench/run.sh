@@ -20,7 +20,7 @@ post=${POST:-$PWD/post}
 work=$(mktemp -d)
 bare=$(mktemp -d -p /dev/shm)
 trap 'rm -rf "$work" "$bare"' EXIT
-below='message_records posting_rules posting_batch posting_core branch_loader load_driver known_rows sql_meanings'
+below='message_records posting_rules posting_batch posting_core branch_loader load_driver sql_meanings'
 below="$below store_rows bank_transactions walked_rows bank_store bank_files"
 
 # The bench as a crate of its own, above copies of those that it measures.

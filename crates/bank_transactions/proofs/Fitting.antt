@@ -13,10 +13,10 @@ use Rattle.store_rows.specs.Lying.{BalanceLies, BranchLies, CountLies, FloorLies
 use Rattle.store_rows.specs.believed.Readings.{Reading, balance_of, branch_of, floor_of}
 use Rattle.store_rows.specs.declared.holders.Member.TheVariants.{Account, Teller}
 use Rattle.store_rows.specs.believed.Inserts.{meta_key}
-use Rattle.known_rows.specs.Known.{KnowsNothing}
+use Rattle.bank_transactions.specs.Known.{KnowsNothing}
 use Rattle.bank_transactions.specs.KnownRows.{AllKnown}
 use Rattle.bank_transactions.specs.Memory.{Fits, IsBlank}
-use Rattle.known_rows.specs.declared.table.Known.{Known}
+use Rattle.bank_transactions.specs.declared.known_rows.table.Known.{Known}
 use Rattle.bank_transactions.specs.declared.memory.Memory.{Memory}
 use Rattle.bank_transactions.proofs.KnownRows.{known_none}
 

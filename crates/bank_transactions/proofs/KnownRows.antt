@@ -7,8 +7,8 @@ use Rattle.std.specs.Prelude.{◌≢◌, ◌≤ℤ◌, IfSome, int_lt}
 use Rattle.std.proofs.lemmas.{Bool.Decides.nat_tests, Bool.cases_Bool, Bool.eqb-true, Int.ints}
 use base.Stored.{Coded-set}
 use Rattle.posting_rules.specs.declared.rows.FloorRow.{FloorRow}
-use Rattle.known_rows.specs.Known.{Knows, KnowsNothing, known_under}
-use Rattle.known_rows.specs.declared.table.Known.{Known}
+use Rattle.bank_transactions.specs.Known.{Knows, KnowsNothing, known_under}
+use Rattle.bank_transactions.specs.declared.known_rows.table.Known.{Known}
 use Rattle.bank_transactions.specs.KnownRows.{AllKnown, AreLow}
 
 module _ {V : Type 0} where

@@ -1,7 +1,7 @@
 -- Rows that are known under their keys.
 use Rattle.std.specs.Prelude.{◌≤ℤ◌, ℕ, pos, Option, IfSome}
-use Rattle.known_rows.specs.Known.{Knows}
-use Rattle.known_rows.specs.declared.table.Known.{Known}
+use Rattle.bank_transactions.specs.Known.{Knows}
+use Rattle.bank_transactions.specs.declared.known_rows.table.Known.{Known}
 use Rattle.posting_rules.specs.declared.rows.FloorRow.{FloorRow}
 
 -- whatever is known under a key is so

@@ -13,6 +13,8 @@ pub mod Additions
 pub mod Running
 pub mod InTurn
 pub mod Batches
+pub mod Stamps
+pub mod Known
 pub mod KnownRows
 pub mod Memory
 pub mod Noted

@@ -17,8 +17,8 @@ use Rattle.store_rows.specs.believed.Stored.{FindsStored}
 use Rattle.store_rows.specs.declared.fault.TableFault.{TableFault}
 use Rattle.store_rows.specs.Lying.{AfterWrite, BalanceLies, BranchLies, CountLies, FloorLies, IsBankFile}
 use Rattle.store_rows.specs.declared.holders.Member.{Member, TheVariants.Account, TheVariants.Teller}
-use Rattle.known_rows.specs.Known.{known_under, places}
-use Rattle.known_rows.specs.declared.table.Known.{Known}
+use Rattle.bank_transactions.specs.Known.{known_under, places}
+use Rattle.bank_transactions.specs.declared.known_rows.table.Known.{Known}
 use Rattle.posting_batch.specs.declared.slots.RequestSlot.{RequestSlot}
 use Rattle.bank_transactions.specs.KnownRows.{AllKnown}
 use Rattle.bank_transactions.specs.Doing.{Stays}

@@ -1,6 +1,6 @@
 -- What is known after a write, where its table has places.
 use Rattle.std.specs.Prelude.{◌<◌, ℤ, Some}
-use Rattle.known_rows.specs.Known.{Knows, places}
+use Rattle.bank_transactions.specs.Known.{Knows, places}
 use Rattle.posting_rules.specs.declared.rows.BranchRow.{BranchRow}
 use Rattle.store_rows.specs.declared.holders.Holder.{Holder}
 use Rattle.store_rows.specs.declared.holders.Holder.TheVariants as holder

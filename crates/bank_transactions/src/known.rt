@@ -1,6 +1,6 @@
 //! What is looked up where it isn't remembered.
 ghost use Rattle.std.specs.Prelude.{◌≡◌, ◌<◌, ◌≤◌, ◌≤ℤ◌, pos, IfOk, IfSome, OnOk, Some};
-ghost use Rattle.known_rows.specs.Known.{Knows, known_under, places};
+ghost use Rattle.bank_transactions.specs.Known.{Knows, known_under, places};
 ghost use Rattle.sqlite.specs.Held.{state};
 ghost use Rattle.sqlite.specs.State.{HasCleanDisk};
 ghost use Rattle.store_rows.specs.Holders.{entry_under, holder_of};

@@ -1,10 +1,10 @@
 //! What is remembered of the rows of a bank's file from one call to the next.
 ghost use Rattle.std.specs.Prelude.{◌<◌, ◌≤◌, IfSome};
-ghost use Rattle.known_rows.specs.Known.{KnowsNothing};
+ghost use Rattle.bank_transactions.specs.Known.{KnowsNothing};
 ghost use Rattle.posting_rules.specs.declared.limits.TheConstants.{MAX_DECIDED};
 ghost use Rattle.bank_transactions.specs.KnownRows.{AreLow};
 
-use known_rows::Known;
+use crate::known_rows::Known;
 use message_records::{Branch, Cents};
 use posting_batch::RequestSlot;
 use posting_rules::{BranchRow, FloorRow};
@@ -70,7 +70,7 @@ impl Drop for Memory {
 
 impl Memory {
     ghost use Rattle.std.specs.Prelude.{◌≡◌, ◌≤ℤ◌, pos, Some};
-    ghost use Rattle.known_rows.specs.Known.{Knows, known_under, places};
+    ghost use Rattle.bank_transactions.specs.Known.{Knows, known_under, places};
     ghost use Rattle.sqlite.specs.Effect.{Database};
     ghost use Rattle.store_rows.specs.believed.BankTables.{branch as branch_table, floor as floor_table, meta};
     ghost use Rattle.store_rows.specs.Holders.{holder_of, holder_table};

@@ -5,8 +5,8 @@ use Rattle.std.specs.Option.{ok_or}
 use Rattle.clap.specs.Words.{Text}
 use Rattle.message_records.specs.believed.Reading.{◌>>=◌}
 use Rattle.message_records.specs.declared.limits.TheConstants.{MAX_MOMENT}
-use Rattle.civil_times.specs.Calendar.{first_second}
-use Rattle.civil_times.specs.Reading.{ahead_of, day_of}
+use Rattle.report_contents.specs.Calendar.{first_second}
+use Rattle.report_contents.specs.Reading.{ahead_of, day_of}
 use Rattle.report_contents.specs.declared.range.Range.{Range}
 use Rattle.command_line.specs.declared.queries.QueryFault.{QueryFault}
 use Rattle.command_line.specs.declared.queries.QueryFault.TheVariants.{From, Order, To, Zone}

@@ -1,12 +1,11 @@
 //! Which range of time the words of a statement ask for.
 ghost use Rattle.std.specs.Prelude.{◌≡◌, ◌≤◌, IfSome, is_some, nat_abs, option_map};
-ghost use Rattle.civil_times.specs.declared.calendar.TheConstants.{MAX_AHEAD};
+ghost use Rattle.report_contents.specs.declared.civil_times.calendar.TheConstants.{MAX_AHEAD};
 ghost use Rattle.command_line.specs.Dates.{ahead_in, begin_at, end_at, range_between, range_of, range_told};
 
 use crate::queries::QueryFault;
-use civil_times::{first_second, read_day, read_zone};
 use message_records::MAX_MOMENT;
-use report_contents::Range;
+use report_contents::{Range, first_second, read_day, read_zone};
 
 /// The range that the values of `--from`, `--to` and `--zone` tell; none without any of them.
 pub(crate) fn range_told(

@@ -2,9 +2,7 @@
 //! are no tests are run by the tests here.
 mod batches;
 mod clocks;
-mod days;
 mod drives;
-mod look_ups;
 mod plans;
 mod records;
 mod requests;

@@ -13,7 +13,7 @@ use Rattle.report_contents.specs.Queries.{whole_query}
 use Rattle.posting_sheets.specs.References.{reference_field}
 use Rattle.report_contents.specs.Sheet.{sheet_line, time_text}
 use Rattle.report_contents.specs.declared.{form.Form.Form, form.Style.TheVariants.Sheet}
-use Rattle.civil_times.specs.Zoned.{date_of}
+use Rattle.report_contents.specs.Zoned.{date_of}
 use Rattle.csv.specs.Writing.{escaped}
 use Rattle.report_contents.specs.AuditText.{audit_text, number_line, branch_line}
 

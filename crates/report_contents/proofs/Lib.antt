@@ -10,3 +10,4 @@ pub mod OneMore
 pub mod OfRows
 pub mod Examples
 pub mod Added
+pub mod Dated

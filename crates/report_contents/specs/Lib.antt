@@ -13,3 +13,6 @@ pub mod Written
 pub mod Sums
 pub mod Beside
 pub mod Added
+pub mod Calendar
+pub mod Reading
+pub mod Zoned

@@ -2,9 +2,9 @@
 use Rattle.std.specs.Prelude.{ℕ, ℤ, pos, ◌/◌, ◌%◌, nat_abs, int_lt, List, ◌++◌}
 use Rattle.std.specs.Prelude.{codes, decimal, if◌then◌else◌}
 use Rattle.std.specs.Fmt.{signed_decimal}
-use Rattle.civil_times.specs.declared.zoned.Date.{Date}
-use Rattle.civil_times.specs.declared.zoned.ZonedTime.{ZonedTime}
-use Rattle.civil_times.specs.Zoned.{zoned_time}
+use Rattle.report_contents.specs.declared.civil_times.zoned.Date.{Date}
+use Rattle.report_contents.specs.declared.civil_times.zoned.ZonedTime.{ZonedTime}
+use Rattle.report_contents.specs.Zoned.{zoned_time}
 use Rattle.posting_sheets.specs.declared.money.Money.TheVariants.{Decimals}
 use Rattle.posting_sheets.specs.References.{reference_field}
 use Rattle.posting_sheets.specs.Replies.{money_text}

@@ -47,6 +47,7 @@ mod all_statements;
 mod audit;
 mod audit_text;
 mod branches;
+mod civil_times;
 mod form;
 mod laws;
 mod limits;
@@ -67,6 +68,9 @@ mod writing;
 pub use adding::audit_of_sums;
 pub use audit::{Audit, BranchLine, BranchLines};
 pub use branches::BranchSums;
+pub use civil_times::{
+    Date, LAST_DAY, MAX_AHEAD, ZonedTime, first_second, read_day, read_zone, zoned_time,
+};
 pub use form::{Form, Style};
 pub use laws::{audit_tells_consistency, ranges_add_up, rows_tell_of_tables};
 pub use limits::MAX_ROWS;

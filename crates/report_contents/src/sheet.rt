@@ -4,11 +4,11 @@ ghost use Rattle.std.specs.Fmt.{signed_decimal};
 ghost use Rattle.report_contents.specs.Sheet.{sheet_heading, sheet_line};
 ghost use Rattle.report_contents.specs.declared.statement_text.TheConstants.{STATEMENT_LINE};
 
+use crate::civil_times::zoned_time;
 use crate::sheet_fields::push_amount;
 use crate::sheet_times::push_time;
 use crate::statement_text::StatementLine;
 use arrayvec::ArrayString;
-use civil_times::zoned_time;
 use itoa::Buffer;
 use message_records::Cents;
 use posting_sheets::reference_field;

@@ -4,9 +4,9 @@ ghost use Rattle.report_contents.specs.Sheet.{date_text, day_time_text, offset_s
 ghost use Rattle.report_contents.specs.Sheet.{time_text, two_digits};
 ghost use Rattle.report_contents.specs.declared.statement_text.TheConstants.{STATEMENT_LINE};
 
+use crate::civil_times::{Date, ZonedTime};
 use crate::lines::push_filled;
 use crate::statement_text::StatementLine;
-use civil_times::{Date, ZonedTime};
 use itoa::Buffer;
 
 // What a number of two digits takes at most, as far as is known of one of 64 bits.

@@ -1,7 +1,9 @@
 //! The first program of each library over SQLite, as its page shows it, over a store in memory.
 mod banks;
 mod batches;
+mod days;
 mod lives;
+mod look_ups;
 mod replays;
 mod reports;
 mod rows;

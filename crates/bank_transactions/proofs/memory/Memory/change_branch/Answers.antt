@@ -2,7 +2,7 @@
 use Rattle.std.proofs.Common.{◌≡◌, ◌∙◌, Some, None, Option, rules, refl, sym, subst}
 use Rattle.posting_rules.specs.declared.rows.BranchRow.{BranchRow}
 use Rattle.store_rows.specs.Lying.{BranchLies}
-use Rattle.known_rows.specs.Known.{Knows, known_under}
+use Rattle.bank_transactions.specs.Known.{Knows, known_under}
 use Rattle.bank_transactions.proofs.{Fitting.branches_noted, KnownRows.known_apart, KnownRows.known_none, KnownRows.known_put}
 use Rattle.bank_transactions.proofs.memory.Memory.change_branch.Goals as goal
 

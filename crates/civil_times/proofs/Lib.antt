@@ -1,2 +1,0 @@
--- What the proofs of dates share.
-pub mod Dated

@@ -1,3 +1,0 @@
--- Values that are known under keys.
-pub mod Known
-pub mod Stamps
