@@ -3,7 +3,7 @@ ghost use Rattle.std.specs.Prelude.{◌≡◌, ◌≤◌, IfSome, nat_abs};
 ghost use Rattle.report_contents.specs.declared.civil_times.calendar.TheConstants.{LAST_DAY, MAX_AHEAD};
 ghost use Rattle.report_contents.specs.Reading.{ahead_of, day_of, zone_at};
 
-use crate::calendar::day_at;
+use super::calendar::day_at;
 use message_records::read_digits;
 
 /// The day of the date that a text writes, as `2026-11-28`, by how many days are before it from 1970-01-01

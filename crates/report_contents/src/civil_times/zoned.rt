@@ -5,7 +5,7 @@ ghost use Rattle.report_contents.specs.declared.civil_times.calendar.TheConstant
 ghost use Rattle.report_contents.specs.Calendar.{days_of_month, days_of_months, days_of_year, days_of_years};
 ghost use Rattle.report_contents.specs.Zoned.{clock_at, date_of, shown_at, zoned_time};
 
-use crate::calendar::{FIRST_YEAR, LAST_DAY, SECONDS_PER_DAY, days_of_month, days_of_year};
+use super::calendar::{FIRST_YEAR, LAST_DAY, SECONDS_PER_DAY, days_of_month, days_of_year};
 use message_records::{MAX_MOMENT, Moment};
 
 // So many years have more days than lie before any.
