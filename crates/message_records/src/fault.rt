@@ -58,18 +58,19 @@ impl fmt::Display for BadReply {
     ghost output = { λ fault. Some (fault_text fault) };
 
     fn fmt<W: fmt::Write>(&self, f: &mut fmt::Formatter<W>) -> fmt::Result {
-        match self {
-            BadReply::Tag => write!(f, "faulty tag"),
-            BadReply::Outcome => write!(f, "faulty outcome"),
-            BadReply::Account => write!(f, "faulty account"),
-            BadReply::Teller => write!(f, "faulty teller"),
-            BadReply::Branch => write!(f, "faulty branch"),
-            BadReply::Number => write!(f, "faulty number"),
-            BadReply::Delta => write!(f, "faulty delta"),
-            BadReply::Balance => write!(f, "faulty balance"),
-            BadReply::Name => write!(f, "faulty name"),
-            BadReply::Filler => write!(f, "faulty filler"),
-        }
+        let field = match self {
+            BadReply::Tag => "tag",
+            BadReply::Outcome => "outcome",
+            BadReply::Account => "account",
+            BadReply::Teller => "teller",
+            BadReply::Branch => "branch",
+            BadReply::Number => "number",
+            BadReply::Delta => "delta",
+            BadReply::Balance => "balance",
+            BadReply::Name => "name",
+            BadReply::Filler => "filler",
+        };
+        write!(f, "faulty {field}")
     }
 }
 

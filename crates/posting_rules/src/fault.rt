@@ -70,15 +70,16 @@ impl fmt::Display for Fault {
     ghost output = { λ fault. Some (fault_text fault) };
 
     fn fmt<W: fmt::Write>(&self, f: &mut fmt::Formatter<W>) -> fmt::Result {
-        match self {
-            Fault::Memory => write!(f, "no memory"),
-            Fault::Store => write!(f, "store fault"),
-            Fault::Down => write!(f, "down"),
+        let text = match self {
+            Fault::Memory => "no memory",
+            Fault::Store => "store fault",
+            Fault::Down => "down",
             Fault::Damaged(rule) => {
                 let number = rule.number();
-                write!(f, "damaged rule {number}")
+                return write!(f, "damaged rule {number}");
             }
-        }
+        };
+        f.write_str(text)
     }
 }
 

@@ -1,5 +1,5 @@
 //! Why no bank is made or found where its tables are kept.
-use crate::fault::Rule;
+use crate::fault::{Fault, Rule};
 use std::fmt;
 
 /// Why no bank is made where its tables are to be kept, or none is found there. `{}` writes it in a few words,
@@ -29,17 +29,18 @@ impl fmt::Display for OpenFault {
     ghost output = { λ fault. Some (open_text fault) };
 
     fn fmt<W: fmt::Write>(&self, f: &mut fmt::Formatter<W>) -> fmt::Result {
-        match self {
-            OpenFault::Store => write!(f, "store fault"),
-            OpenFault::NotBlank => write!(f, "already a bank"),
-            OpenFault::Blank => write!(f, "no bank"),
-            OpenFault::Foreign => write!(f, "foreign tables"),
-            OpenFault::Version(version) => write!(f, "version {version}"),
+        let text = match self {
+            OpenFault::Store => "store fault",
+            OpenFault::NotBlank => "already a bank",
+            OpenFault::Blank => "no bank",
+            OpenFault::Foreign => "foreign tables",
+            OpenFault::Version(version) => return write!(f, "version {version}"),
             OpenFault::Damaged(rule) => {
-                let number = rule.number();
-                write!(f, "damaged rule {number}")
+                let fault = Fault::Damaged(*rule);
+                return write!(f, "{fault}");
             }
-        }
+        };
+        f.write_str(text)
     }
 }
 
