@@ -1,7 +1,6 @@
 //! Judges a request by what was looked up for it.
-ghost use Rattle.std.specs.Prelude.{◌≡◌, ◌≤◌};
-ghost use Rattle.std.specs.Prelude.{◌+ℤ◌};
-ghost use Rattle.posting_rules.specs.believed.Cases.{case_of, is_below, plus_within, reply_in};
+ghost use Rattle.std.specs.Prelude.{◌≡◌, ◌<◌, ◌≤◌, ◌+ℤ◌, Some};
+ghost use Rattle.posting_rules.specs.believed.Cases.{account_case, case_of, is_below, plus_within, reply_in};
 ghost use Rattle.posting_rules.specs.Cases.{IsProper};
 ghost use Rattle.posting_rules.specs.believed.Entries.{malformed_reply};
 
@@ -54,7 +53,21 @@ pub fn judge(found: &Found, request: &Request) -> Verdict
     let Some(account) = found.account else {
         return Verdict::Refused(Outcome::NoAccount);
     };
-    let delta = request.delta();
+    judge_posting(found, account, teller, branch, request.delta())
+}
+
+// What becomes of a posting to these balances.
+fn judge_posting(
+    found: &Found,
+    account: Cents,
+    teller: Cents,
+    branch: Cents,
+    delta: Cents,
+) -> Verdict
+    requires { found.now.decided < MAX_DECIDED }
+    ensures value { result ≡ account_case (Some account) found.now.floor teller branch delta }
+    ensures proper { IsProper found.now result }
+{
     if falls_below(account, delta, found.floor) {
         return Verdict::Refused(Outcome::BelowFloor);
     }
