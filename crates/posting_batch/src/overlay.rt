@@ -1,6 +1,6 @@
 //! Records are judged in the slots of a batch, one after another.
 ghost use Rattle.std.specs.Prelude.{◌≡◌, ◌≤◌, ◌<◌, ◌+◌, ◌++◌, [], ◌∷◌, map, length, vec_len, vec_capacity};
-ghost use Rattle.std.specs.Prelude.{IfOk, IsTrue, Ok};
+ghost use Rattle.std.specs.Prelude.{IfOk, IsTrue, Ok, OnOk};
 ghost use Rattle.smallvec.specs.SmallVec.{HasRoomFor, small_vec_len};
 ghost use Rattle.message_records.specs.believed.Spelling.{reply_spelling};
 ghost use Rattle.posting_rules.specs.declared.limits.TheConstants.{MAX_DECIDED, RECORDS_PER_BATCH};
@@ -127,17 +127,25 @@ impl Overlay {
         requires { count ≤ RECORDS_PER_BATCH }
         ensures { IfOk result (IsForRecords count) }
     {
-        Ok(Overlay {
-            branches: SmallVec::with_capacity(alloc, 2 * count)?,
-            floors: SmallVec::with_capacity(alloc, count)?,
-            tellers: SmallVec::with_capacity(alloc, count)?,
-            accounts: SmallVec::with_capacity(alloc, count)?,
-            kept: SmallVec::with_capacity(alloc, count)?,
-            decided: 0,
-            history: SmallVec::with_capacity(alloc, count)?,
-            requests: SmallVec::with_capacity(alloc, count)?,
-            references: SmallVec::with_capacity(alloc, count)?,
-        })
+        let mut overlay = Self::for_one(alloc);
+        overlay.make_room(count)?;
+        Ok(overlay)
+    }
+
+    // Makes room in an empty one for what so many records come to.
+    fn make_room(&mut self, count: usize) -> Result<(), AllocError>
+        requires few { count ≤ RECORDS_PER_BATCH }
+        requires empty { IsForRecords 1 self.old }
+        ensures { OnOk result (IsForRecords count self.new) }
+    {
+        self.branches.reserve_exact(2 * count)?;
+        self.floors.reserve_exact(count)?;
+        self.tellers.reserve_exact(count)?;
+        self.accounts.reserve_exact(count)?;
+        self.kept.reserve_exact(count)?;
+        self.history.reserve_exact(count)?;
+        self.requests.reserve_exact(count)?;
+        self.references.reserve_exact(count)
     }
 
     /// Tests whether a slot of a request keeps none.
