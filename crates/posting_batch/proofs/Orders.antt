@@ -1,8 +1,11 @@
 -- Slots that are placed in the order of their keys.
 use Rattle.std.proofs.Common.{◌≡◌, ℕ, Bool, true, false, eqb, ltb, List, [], ◌∷◌, map, refl, ◌∙◌, arith, inl, inr}
+use Rattle.std.proofs.Common.{sym, subst}
 use Rattle.std.specs.Prelude.{nat_eq, IsSome, IsTrue, ◌&&◌, ◌||◌}
 use Rattle.std.specs.List.{find, AllByRecursion, IsDistinct}
-use Rattle.std.proofs.lemmas.{Bool.Decides.nat_tests, Map.Keys.IsDistinct-cons}
+use Rattle.std.proofs.Math.Bool.{or-true}
+use Rattle.std.proofs.lemmas.Bool.{and_parts, or_parts, ltb-true, ltb-false, eqb-true, eqb-false, lt-ltb, eq-eqb, ne_eqb}
+use Rattle.std.proofs.lemmas.Map.Keys.{IsDistinct-cons}
 use Rattle.posting_rules.specs.believed.Tables.{HasKeys}
 use Rattle.posting_rules.proofs.Keyed.{by_test}
 use Rattle.posting_batch.specs.Placed.{placed, number_below, number_same, request_below, request_same, IsRising}
@@ -51,10 +54,10 @@ pub record IsOrder {S : Type 0} (below same : S → S → Bool) : Type 0 where
   pub third : (a b : S) → below a b ≡ false → same a b ≡ false → below b a ≡ true
 
 number_chained : (a b c : ℕ) → ltb a b ≡ true → ltb b c ≡ true → ltb a c ≡ true
-number_chained a b c h k = grind (arith, nat_tests)
+number_chained a b c h k = lt-ltb a c (omega (arith, ltb-true a b h, ltb-true b c k))
 
 number_third : (a b : ℕ) → ltb a b ≡ false → eqb a b ≡ false → ltb b a ≡ true
-number_third a b f g = grind (arith, nat_tests)
+number_third a b f g = lt-ltb b a (omega (arith, ltb-false a b f, eqb-false a b g))
 
 pub number_order : {S : Type 0} (key : S → ℕ) → IsOrder (number_below key) (number_same key)
 number_order key = record {
@@ -66,13 +69,38 @@ number_order key = record {
 abbrev pair_below : ℕ → ℕ → ℕ → ℕ → Bool
 pair_below a n b m = ltb a b || (eqb a b && ltb n m)
 
+-- of pairs that begin alike
+pair_beside : (b m c k n : ℕ) → ltb n m ≡ true → pair_below b m c k ≡ true → pair_below b n c k ≡ true
+pair_beside b m c k n lt h =
+    elim (by_test (ltb b c)) [
+      | inl t ↦ rw t refl
+      | inr f ↦ let both = and_parts (eqb b c) (ltb m k) (let e = rw f at h in e) in
+          rw (f, both.0, number_chained n m k lt both.1) refl
+    ]
+
 pair_chained : (a n b m c k : ℕ) → pair_below a n b m ≡ true → pair_below b m c k ≡ true
     → pair_below a n c k ≡ true
-pair_chained a n b m c k h g = grind (arith, nat_tests)
+pair_chained a n b m c k h g =
+    elim (by_test (ltb a b)) [
+      | inl t ↦ elim (by_test (ltb b c)) [
+        | inl u ↦ rw (number_chained a b c t u) refl
+        | inr f ↦ let both = and_parts (eqb b c) (ltb m k) (let e = rw f at g in e) in
+            rw (subst (λ (j : ℕ). ltb a j ≡ true) (eqb-true b c both.0) t) refl
+      ]
+      | inr f ↦ let both = and_parts (eqb a b) (ltb n m) (let e = rw f at h in e) in
+          subst (λ (j : ℕ). pair_below j n c k ≡ true) (sym (eqb-true a b both.0))
+          (pair_beside b m c k n both.1 g)
+    ]
 
 pair_third : (a n b m : ℕ) → pair_below a n b m ≡ false → (eqb a b && eqb n m) ≡ false
     → pair_below b m a n ≡ true
-pair_third a n b m f g = grind (arith, nat_tests)
+pair_third a n b m f g =
+    let parts = or_parts (ltb a b) (eqb a b && ltb n m) f in
+    elim (by_test (eqb a b)) [
+      | inl t ↦ let e = rw t at parts.1 in let d = rw t at g in
+          rw (eq-eqb b a (sym (eqb-true a b t)), number_third n m e d) (or-true (ltb b a))
+      | inr e ↦ rw (number_third a b parts.0 e) refl
+    ]
 
 pub request_order : IsOrder request_below request_same
 request_order = record {
@@ -117,7 +145,7 @@ module _ {S : Type 0} (below : S → S → Bool) (f : S → S)
 
 -- numbers that rise are distinct
 apart : (a b : ℕ) → ltb a b ≡ true → nat_eq a b ≡ false
-apart a b h = grind (arith, nat_tests)
+apart a b h = ne_eqb a b (λ (e : a ≡ b). absurd (omega (arith, ltb-true a b h)))
 
 differ : {S : Type 0} (key : S → ℕ) (s : S) (xs : List S)
     → AllByRecursion (λ x. IsTrue (number_below key s x)) xs
