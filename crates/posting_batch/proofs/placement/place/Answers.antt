@@ -1,4 +1,4 @@
-use Rattle.std.proofs.Common.{◌≡◌, ◌∙◌, List, Result, Ok, Err, ap, sym, get_or, arith}
+use Rattle.std.proofs.Common.{◌≡◌, ◌∙◌, List, Result, Ok, Err, ap, sym, refl, get_or, length, arith}
 use Rattle.std.specs.{List.insert, Prelude.IsOk, Prelude.OnOk}
 use Rattle.posting_batch.specs.Placed.{placed, rank}
 use Rattle.posting_batch.proofs.Ranks.{placed_hit, placed_miss, placed_last}
@@ -41,3 +41,22 @@ returns-clause-items g c =
           (omega (arith, w.if-before-len.false, c.len.ensures))
     ] in
     put ∙ end
+
+pub returns-clause-len : goal.returns-clause-len
+returns-clause-len g c =
+    let is = given c.insert.result (c.insert.ensures.succeeds (omega (arith, c.requires))) c.insert.ensures.len in
+    omega (arith, is)
+
+pub returns-clause-capacity : goal.returns-clause-capacity
+returns-clause-capacity g c = c.insert.ensures.had_room (omega (arith, c.requires))
+
+pub returns-then-is_same-clause-len : goal.returns-then-is_same-clause-len
+returns-then-is_same-clause-len g c = omega arith
+
+pub returns-then-is_same-clause-capacity : goal.returns-then-is_same-clause-capacity
+returns-then-is_same-clause-capacity g c = refl
+
+pub insert-requires : goal.insert-requires
+insert-requires g c =
+    let same = ap (λ (xs : List g.row.T.Denot). length xs) c.as_slice.ensures in
+    omega (arith, c.rank-before.ensures.within, same)
