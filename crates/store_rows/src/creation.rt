@@ -88,6 +88,5 @@ pub fn create<S: Alter>(conn: &mut Connection<S>) -> Result<(), Error>
 {
     let mut tx = conn.transaction();
     create_tables(&mut tx)?;
-    tx.commit()?;
-    Ok(())
+    tx.commit()
 }
