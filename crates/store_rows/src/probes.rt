@@ -1,5 +1,5 @@
 //! A probe for each table: a reading statement that names all its columns, reported as accepted or refused.
-ghost use Rattle.std.specs.Prelude.{◌≡◌, false};
+ghost use Rattle.std.specs.Prelude.{◌≡◌, if◌then◌else◌, false, Ok, Err};
 ghost use Rattle.sqlite.specs.State.{HasCleanDisk, Survives};
 ghost use Rattle.sqlite.specs.Listing.{understood};
 ghost use Rattle.sqlite.specs.Held.{state};
@@ -37,11 +37,14 @@ pub const AFTER_META: &[BankTable] = &[
     BankTable::Reference,
 ];
 
-// Whether the error says that a text isn't understood.
-fn refuses_text(e: &Error) -> bool
-    ensures { result ≡ is_text_refused e.now }
+// What an error says of a text: that it isn't understood, or not even that.
+fn refused(e: Error) -> Result<bool, Error>
+    ensures { result ≡ if is_text_refused e then Ok false else Err e }
 {
-    matches!(e, Error::SqlInputError(_))
+    match e {
+        Error::SqlInputError(_) => Ok(false),
+        _ => Err(e),
+    }
 }
 
 // Whether the text is a statement under the schema.
@@ -54,8 +57,7 @@ fn is_understood<S: Alter>(conn: &mut Connection<S>, text: &str) -> Result<bool,
 {
     match conn.prepare(text) {
         Ok(_) => Ok(true),
-        Err(e) if refuses_text(&e) => Ok(false),
-        Err(e) => Err(e),
+        Err(e) => refused(e),
     }
 }
 
