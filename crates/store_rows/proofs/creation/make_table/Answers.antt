@@ -1,5 +1,5 @@
 -- What a CREATE TABLE leaves.
-use Rattle.std.proofs.Common.{ℕ, List, [], Ok, Err, Result, rules}
+use Rattle.std.proofs.Common.{ℕ, List, [], Ok, Err, Result}
 use Rattle.std.specs.Prelude.{IfErr}
 use Rattle.sqlite.specs.{State.State, State.ExecutesInside, declared.error.Error.Error}
 use Rattle.sql_meanings.proofs.{MakeFailures.makes_told, Makings.kept_inside}
@@ -22,6 +22,6 @@ returns g c = record {
     kept_inside _ _ c.args.text.now [] c.execute.result (c.execute.ensures.runs clean live),
     failed _ _ c.args.text.now c.execute.result (c.execute.ensures.runs clean live),
   );
-  same_reference = search rules;
-  survives = search rules;
+  same_reference = c.execute.ensures.same_reference;
+  survives = c.execute.ensures.survives;
 }

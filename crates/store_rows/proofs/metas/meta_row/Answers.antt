@@ -1,5 +1,4 @@
 -- What the look-up reports.
-use Rattle.std.proofs.Common.{rules}
 use Rattle.sql_meanings.proofs.Texts.{only_reads}
 use Rattle.store_rows.proofs.{Getting.gets, MetaRow.tells_meta, OtherValue.first_told}
 use Rattle.store_rows.proofs.metas.meta_row.Goals as goal
@@ -13,8 +12,8 @@ returns-clause-says g c = record {
         first_told _ _ _ _ c.row_under.result only
             (c.row_under.ensures.answers clean),
       );
-  same_reference = search rules;
-  survives = search rules;
+  same_reference = c.row_under.ensures.same_reference;
+  survives = c.row_under.ensures.survives;
 }
 
 pub returns-clause-asks : goal.returns-clause-asks

@@ -1,5 +1,4 @@
 -- What the row means.
-use Rattle.std.proofs.Common.{rules}
 use Rattle.store_rows.specs.{believed.Columns.meta_in, Columns.meta_of}
 use Rattle.store_rows.proofs.{FoundRows.finds_meta, LyingRows.meta_found, OtherValue.other_told, Reasons.looks}
 use Rattle.store_rows.proofs.metas.read_meta.Goals as goal
@@ -10,8 +9,8 @@ returns-clause-says g c = record {
       (c.meta_row.ensures.says.answers clean rows has);
   leaves = λ clean. looks _ _ meta_of c.meta_row.result c.found.result c.found.ensures
       (c.meta_row.ensures.says.leaves clean).0;
-  same_reference = search rules;
-  survives = search rules;
+  same_reference = c.meta_row.ensures.says.same_reference;
+  survives = c.meta_row.ensures.says.survives;
 }
 
 pub returns-clause-other : goal.returns-clause-other

@@ -1,5 +1,5 @@
 -- What the write leaves.
-use Rattle.std.proofs.Common.{refl, rules, arith}
+use Rattle.std.proofs.Common.{refl, arith}
 use Rattle.store_rows.proofs.{Counted.count_set, Lookups.as_integer, LyingRows.decided_set, MetaRow.tells_decided}
 use Rattle.store_rows.proofs.{SparedTexts.spared_met, SparedTexts.spares}
 use Rattle.store_rows.proofs.metas.set_decided.Goals as goal
@@ -18,8 +18,8 @@ returns-clause-sets g c = record {
         both.0,
         both.1,
       );
-  same_reference = search rules;
-  survives = search rules;
+  same_reference = c.write_under.ensures.same_reference;
+  survives = c.write_under.ensures.survives;
 }
 
 pub returns-clause-lies : goal.returns-clause-lies

@@ -1,5 +1,5 @@
 -- What the write leaves.
-use Rattle.std.proofs.{Common.rules, Common.w64, lemmas.Int.to_z-of_z}
+use Rattle.std.proofs.{Common.w64, lemmas.Int.to_z-of_z}
 use Rattle.store_rows.proofs.{SparedTexts.version_spared, VersionRow.tells_version}
 use Rattle.store_rows.proofs.metas.set_version.Goals as goal
 
@@ -11,6 +11,6 @@ returns g c = record {
     rw (to_z-of_z w64 c.args.version c.ranges.version) at (c.write_under.ensures.leaves clean live),
     version_spared _ _ _ c.write_under.result (c.write_under.ensures.answers clean live),
   );
-  same_reference = search rules;
-  survives = search rules;
+  same_reference = c.write_under.ensures.same_reference;
+  survives = c.write_under.ensures.survives;
 }

@@ -1,5 +1,4 @@
 -- What acceptance and refusal say.
-use Rattle.std.proofs.Common.{rules}
 use Rattle.sqlite.specs.{State.HasCleanDisk, Held.state}
 use Rattle.sql_meanings.proofs.Probing.{tells_probe}
 use Rattle.sql_meanings.specs.StatementAnswers.{TellsUnderstood}
@@ -21,6 +20,6 @@ returns g c =
           λ clean. tells_probe probe.1 probe.0 (probes table) (stands_alone table) old new
           c.is_understood.result (text clean);
       text = text;
-      mode = search rules;
-      survives = search rules;
+      mode = c.is_understood.ensures.mode;
+      survives = c.is_understood.ensures.survives;
     }

@@ -1,5 +1,4 @@
 -- What the answer of an INSERT means.
-use Rattle.std.proofs.Common.{rules}
 use Rattle.store_rows.proofs.Failing.{puts_added}
 use Rattle.store_rows.proofs.statements.put_in.Goals as goal
 
@@ -8,6 +7,6 @@ returns g c = record {
   answers = λ clean live. (c.execute-answer.result, c.execute-answer.ensures.runs clean live, c.added.ensures);
   leaves = λ clean live key rest is among. rw c.added.ensures (puts_added _ _ _ _ c.execute-answer.result
       (c.execute-answer.ensures.runs clean live) key rest is among);
-  same_reference = search rules;
-  survives = search rules;
+  same_reference = c.execute-answer.ensures.same_reference;
+  survives = c.execute-answer.ensures.survives;
 }

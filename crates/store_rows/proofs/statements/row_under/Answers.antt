@@ -1,5 +1,5 @@
 -- The text is run with the key.
-use Rattle.std.proofs.Common.{rules, arith, refl}
+use Rattle.std.proofs.Common.{arith, refl}
 use Rattle.sql_meanings.proofs.OnlyShowing.{kept_reading}
 use Rattle.store_rows.proofs.{Lookups.as_integer, Reasons.asked}
 use Rattle.store_rows.proofs.statements.row_under.Goals as goal
@@ -11,6 +11,6 @@ returns g c = record {
   leaves = λ clean only.
       asked _ _ _ _ c.query_row.result (c.query_row.ensures.row clean)
       (kept_reading _ _ _ _ c.query_row.result only (c.query_row.ensures.row clean));
-  same_reference = search rules;
-  survives = search rules;
+  same_reference = c.query_row.ensures.same_reference;
+  survives = c.query_row.ensures.survives;
 }

@@ -26,8 +26,8 @@ returns g c = record {
         to_z-of_z w64 c.args.number c.ranges.number,
       ) at (c.in_ok-count.ensures.runs clean live) in
       (kept_inside _ _ _ _ (Ok c.in_ok-count.count) ran, λ none. (c.in_ok-count.count, ran, none));
-  same_reference = search rules;
-  survives = search rules;
+  same_reference = c.in_ok-count.ensures.same_reference;
+  survives = c.in_ok-count.ensures.survives;
 }
 
 pub returns-in_err-count : goal.returns-in_err-count
@@ -45,6 +45,6 @@ returns-in_err-count g c =
         kept_inside _ _ _ _ (Err e.field-0.0) (e.ensures.runs clean live),
         Changing _ _ (e.ensures.runs clean live),
       );
-      same_reference = search rules;
-      survives = search rules;
+      same_reference = e.ensures.same_reference;
+      survives = e.ensures.survives;
     }
