@@ -127,6 +127,12 @@ pub memory_refused : {X : Type 0} (result : Result X Fault) → IsErrAnd result 
     → result ≡ Err Memory
 memory_refused result is = let p = err_from_is_err_and result is in rw (p.1, p.2) refl
 
+-- and stays it where it is handed on
+pub still_memory : {X : Type 0} (result : Result X Fault) (cause : Fault)
+    → IsErrAnd result (λ fault. fault ≡ cause) → cause ≡ Memory → IsErrAnd result (λ fault. fault ≡ Memory)
+still_memory {X} result cause is memory =
+    subst (λ (f : Fault). IsErrAnd result (λ fault. fault ≡ f)) memory is
+
 -- then there is no answer that could be wrong
 pub no_answer : {X : Type 0} (result : Result X Fault) (P : X → Type 0)
     → IsErrAnd result (λ fault. fault ≡ Memory) → IfOk result P

@@ -34,12 +34,13 @@ impl fmt::Display for OnceFault {
     ghost output = { λ fault. Some (once_text fault) };
 
     fn fmt<W: fmt::Write>(&self, f: &mut fmt::Formatter<W>) -> fmt::Result {
-        match self {
-            OnceFault::Short => write!(f, "the input ends within a record"),
-            OnceFault::Read => write!(f, "read failed"),
-            OnceFault::Write => write!(f, "write failed"),
-            OnceFault::Bank(fault) => write!(f, "{fault}"),
-        }
+        let text = match self {
+            OnceFault::Short => "the input ends within a record",
+            OnceFault::Read => "read failed",
+            OnceFault::Write => "write failed",
+            OnceFault::Bank(fault) => return write!(f, "{fault}"),
+        };
+        f.write_str(text)
     }
 }
 

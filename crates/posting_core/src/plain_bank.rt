@@ -1,6 +1,6 @@
 //! A bank in memory.
 ghost use Rattle.std.specs.Prelude.{◌≡◌, ◌≤◌, ◌≤ℤ◌, ◌<◌, ◌+◌, ◌-◌, ◌*◌, [], ◌∷◌, ◌++◌, pos, length, vec_len};
-ghost use Rattle.std.specs.Prelude.{vec_capacity, All, IfSome, IsTrue};
+ghost use Rattle.std.specs.Prelude.{vec_capacity, All, IfErr, IfSome, IsTrue, OnOk};
 ghost use Rattle.posting_rules.specs.declared.limits.TheConstants.{MAX_DECIDED};
 ghost use Rattle.posting_rules.specs.Branches.{IsAtMostZero, IsInRange};
 ghost use Rattle.posting_rules.specs.believed.Commands.{IsFloor};
@@ -252,6 +252,21 @@ impl PlainBank {
         }
     }
 
+    // Makes room for so many decided requests.
+    fn make_room(&mut self, count: usize) -> Result<(), Fault>
+        ensures requests { OnOk result (vec_len self.new.requests + count ≤ vec_capacity self.new.requests) }
+        ensures history { OnOk result (vec_len self.new.history + count ≤ vec_capacity self.new.history) }
+        ensures references { OnOk result
+            (vec_len self.new.references + count ≤ vec_capacity self.new.references) }
+        ensures memory { IfErr result (λ fault. fault ≡ Fault.Memory) }
+        ensures stays { plain_tables self.new ≡ plain_tables self.old }
+    {
+        self.history.reserve(count)?;
+        self.requests.reserve(count)?;
+        self.references.reserve(count)?;
+        Ok(())
+    }
+
     // Submits a record, for which there is room.
     fn submit_within_capacity(
         &mut self,
@@ -370,9 +385,7 @@ impl Counter for PlainBank {
         bytes: &[u8; REQUEST_BYTES],
     ) -> Result<[u8; REPLY_BYTES], Fault> {
         read_range(moment);
-        self.history.reserve(1)?;
-        self.requests.reserve(1)?;
-        self.references.reserve(1)?;
+        self.make_room(1)?;
         Ok(self.submit_within_capacity(moment, bytes))
     }
 
@@ -384,9 +397,7 @@ impl Counter for PlainBank {
         read_range(moment);
         let mut replies = Vec::new(self.alloc);
         replies.reserve(records.len())?;
-        self.history.reserve(records.len())?;
-        self.requests.reserve(records.len())?;
-        self.references.reserve(records.len())?;
+        self.make_room(records.len())?;
         self.submit_all_within_capacity(moment, records, &mut replies);
         Ok(replies)
     }

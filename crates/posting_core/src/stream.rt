@@ -45,12 +45,13 @@ impl fmt::Display for StreamFault {
     ghost output = { λ fault. Some (stream_text fault) };
 
     fn fmt<W: fmt::Write>(&self, f: &mut fmt::Formatter<W>) -> fmt::Result {
-        match self {
-            StreamFault::Truncated(n) => write!(f, "the input ends {n} bytes into a record"),
-            StreamFault::Read => write!(f, "read failed"),
-            StreamFault::Write => write!(f, "write failed"),
-            StreamFault::Bank(fault) => write!(f, "{fault}"),
-        }
+        let text = match self {
+            StreamFault::Truncated(n) => return write!(f, "the input ends {n} bytes into a record"),
+            StreamFault::Read => "read failed",
+            StreamFault::Write => "write failed",
+            StreamFault::Bank(fault) => return write!(f, "{fault}"),
+        };
+        f.write_str(text)
     }
 }
 
