@@ -34,13 +34,12 @@ impl fmt::Display for OnceFault {
     ghost output = { λ fault. Some (once_text fault) };
 
     fn fmt<W: fmt::Write>(&self, f: &mut fmt::Formatter<W>) -> fmt::Result {
-        let text = match self {
-            OnceFault::Short => "the input ends within a record",
-            OnceFault::Read => "read failed",
-            OnceFault::Write => "write failed",
-            OnceFault::Bank(fault) => return write!(f, "{fault}"),
-        };
-        f.write_str(text)
+        match self {
+            OnceFault::Short => f.write_str("the input ends within a record"),
+            OnceFault::Read => f.write_str("read failed"),
+            OnceFault::Write => f.write_str("write failed"),
+            OnceFault::Bank(fault) => fmt::Display::fmt(fault, f),
+        }
     }
 }
 

@@ -159,7 +159,8 @@ impl PlainBank {
     ghost use Rattle.posting_rules.specs.believed.Changes.{tables_after, tables_past, tables_past_all};
     ghost use Rattle.posting_rules.specs.believed.Changes.{reply_past, replies_past_all};
     ghost use Rattle.posting_rules.specs.believed.Tables.{AreTablesOf};
-    ghost use Rattle.posting_rules.specs.believed.LookUps.{found_in};
+    ghost use Rattle.posting_rules.specs.believed.Counter.{opening_for};
+    ghost use Rattle.posting_rules.specs.believed.LookUps.{found_in, terms_in};
     ghost use Rattle.posting_rules.specs.Branches.{line_in};
     ghost use Rattle.posting_rules.specs.believed.Commands.{opened_with};
     ghost use Rattle.posting_core.specs.Appended.{appended_opened};
@@ -316,6 +317,22 @@ impl PlainBank {
         }
     }
 
+    // What is answered to an opening.
+    fn opening_of(&self, branch: Branch, count: u32, floor: &Option<Cents>) -> Opening
+        ensures value { result ≡ opening_for (terms_in (plain_tables self.now) branch)
+            (opened_with count floor.now) }
+        ensures above { 1 ≤ branch }
+    {
+        let Some(accounts) = count_at(&self.branches, branch.get()) else {
+            return Opening::Opened;
+        };
+        if accounts == count && floor_at(&self.floors, branch.get()) == *floor {
+            Opening::Already
+        } else {
+            Opening::Differs
+        }
+    }
+
     // Adds a branch, for whose rows there is room.
     fn add_branch(&mut self, branch: Branch, count: u32, floor: Option<Cents>)
         requires branch { branch ≤ LAST_BRANCH }
@@ -328,7 +345,6 @@ impl PlainBank {
         requires floors { vec_len self.old.floors < vec_capacity self.old.floors }
         ensures tables { plain_tables self.new
             ≡ appended_opened (plain_tables self.old) branch (opened_with count floor) }
-        ensures above { 1 ≤ branch }
     {
         let row = BranchRow {
             branch,
@@ -409,14 +425,10 @@ impl Counter for PlainBank {
         floor: Option<Cents>,
     ) -> Result<Opening, Fault> {
         read_floor(floor);
-        if let Some(accounts) = count_at(&self.branches, branch.get()) {
-            let lowest = floor_at(&self.floors, branch.get());
-            return Ok(if accounts == count && lowest == floor {
-                Opening::Already
-            } else {
-                Opening::Differs
-            });
-        }
+        let opening = self.opening_of(branch, count, &floor);
+        let Opening::Opened = opening else {
+            return Ok(opening);
+        };
         self.branches.reserve(1)?;
         self.tellers.reserve(TELLERS_PER_BRANCH as usize)?;
         self.accounts.reserve(count as usize)?;

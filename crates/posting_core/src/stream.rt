@@ -45,13 +45,12 @@ impl fmt::Display for StreamFault {
     ghost output = { λ fault. Some (stream_text fault) };
 
     fn fmt<W: fmt::Write>(&self, f: &mut fmt::Formatter<W>) -> fmt::Result {
-        let text = match self {
-            StreamFault::Truncated(n) => return write!(f, "the input ends {n} bytes into a record"),
-            StreamFault::Read => "read failed",
-            StreamFault::Write => "write failed",
-            StreamFault::Bank(fault) => return write!(f, "{fault}"),
-        };
-        f.write_str(text)
+        match self {
+            StreamFault::Truncated(n) => write!(f, "the input ends {n} bytes into a record"),
+            StreamFault::Read => f.write_str("read failed"),
+            StreamFault::Write => f.write_str("write failed"),
+            StreamFault::Bank(fault) => fmt::Display::fmt(fault, f),
+        }
     }
 }
 

@@ -1,34 +1,71 @@
-use Rattle.std.proofs.Common.{◌≡◌, None, ℕ, List, [], ◌∷◌, All, refl, sym, ap, subst, ◌∙◌}
-use Rattle.posting_rules.specs.{declared.rows.BranchRow.BranchRow, declared.counter.Opening.TheVariants.Opened}
-use Rattle.posting_rules.specs.{believed.Commands.Open, believed.Commands.opened_with, believed.LookUps.count_of_branch}
-use Rattle.posting_rules.specs.believed.Tables.{Tables, row_at, branch_key}
-use Rattle.posting_core.specs.{Appended.appended_opened, Plain.plain_tables}
+-- What is answered where a branch is open, and what is added where it isn't.
+use Rattle.std.proofs.Common.{◌≡◌, ◌∙◌, [], ◌∷◌, All, None, Option, Some, ℕ, ap, refl, rules, subst, sym}
 use Rattle.std.specs.Option.{option_map}
+use Rattle.posting_rules.specs.{declared.rows.BranchRow.BranchRow, declared.counter.Opening.TheVariants.Opened}
 use Rattle.posting_rules.specs.Branches.{IsAtMostZero, IsInRange}
+use Rattle.posting_rules.specs.{Changes.opened_where, believed.Counter.opening_for, believed.LookUps.floor_in}
+use Rattle.posting_rules.specs.believed.{Commands.Open, Commands.Terms, Commands.opened_with}
+use Rattle.posting_rules.specs.believed.LookUps.{terms_of_branch}
+use Rattle.posting_rules.specs.believed.Tables.{AreTablesOf, Tables, branch_key, row_at}
+use Rattle.posting_rules.proofs.Calls.{answers, opens}
+use Rattle.posting_core.specs.{Appended.appended_opened, Plain.plain_tables}
 use Rattle.posting_core.proofs.Appending.{opened_shown}
-use Rattle.posting_core.proofs.InMemory.{answered_plain, after_plain, branches_as_before, memory_refused, no_answer}
-use Rattle.posting_core.proofs.InMemory.{room_for_one, spared_plain}
+use Rattle.posting_core.proofs.InMemory.{after_plain, answered_plain, branches_as_before, memory_refused, no_answer}
+use Rattle.posting_core.proofs.InMemory.{plain_shows, room_for_one, spared_plain}
 use Rattle.posting_core.proofs.plain_bank.PlainBankCounter.open_branch.Goals as goal
-use Rattle.posting_batch.proofs.KeptSlots.{map_none}
 
-pub returns-clause-call : goal.returns-clause-call
-returns-clause-call c =
+-- a branch that is open stays as it is
+stays_open : (t : Tables) (b : ℕ) (terms : Terms) (row : Option BranchRow)
+    → (opening_for (option_map (terms_of_branch (floor_in t b)) row) terms ≡ Opened → ⊥)
+    → t ≡ opened_where row t b terms
+stays_open t b terms None other = absurd (other refl)
+stays_open t b terms (Some row) other = refl
+
+-- where it isn't, it is added
+not_there : (t : Tables) (b : ℕ) (terms : Terms) (row : Option BranchRow)
+    → opening_for (option_map (terms_of_branch (floor_in t b)) row) terms ≡ Opened → row ≡ None
+not_there t b terms None is = refl
+not_there t b terms (Some row) is = absurd (search rules)
+
+pub returns-in_default : goal.returns-in_default
+returns-in_default c =
+    let bank = c.args.self.now in
+    let t = plain_tables bank in
     let b = c.args.branch in
     let terms = opened_with c.args.count c.args.floor in
-    let t = plain_tables c.args.self.now in
+    let is = c.opening_of-opening.ensures.value in
+    let same = stays_open t b terms (row_at branch_key t.branches b) (λ opened. c.in_default.not-Opened (is ∙ opened)) in
+    record {
+      answer = λ h log s. is ∙ answers t log b terms (plain_shows bank log s);
+      call = answered_plain bank bank (Open b terms ∷ []) c.opening_of-opening.result
+          (after_plain bank bank (Open b terms ∷ []) (λ u. u)
+          ((c.opening_of-opening.ensures.above, c.requires.branch, c.requires.some, c.requires.few, c.read_floor.ensures), tt)
+          refl
+          (λ log s. subst (λ (u : Tables). AreTablesOf u (Open b terms ∷ log)) (sym same)
+          (opens b terms c.opening_of-opening.ensures.above c.requires.few t log s)));
+      spares = tt;
+    }
+
+pub returns : goal.returns
+returns c =
+    let bank = c.args.self.now in
+    let t = plain_tables bank in
+    let b = c.args.branch in
+    let terms = opened_with c.args.count c.args.floor in
+    let is = sym c.in-Opened.is ∙ c.opening_of-opening.ensures.value in
+    let above = c.opening_of-opening.ensures.above in
     let same = branches_as_before t _ _ _ _ c.reserve.ensures.items c.reserve-2.ensures.items
     c.reserve-3.ensures.items c.reserve-4.ensures.items in
-    let closed : row_at branch_key t.branches b ≡ None =
-    map_none count_of_branch (row_at branch_key t.branches b)
-    (ap (λ (rows : List BranchRow). option_map count_of_branch (row_at branch_key rows b))
-    (sym c.deref.ensures.value)
-    ∙ ap (λ (n : ℕ). option_map count_of_branch (row_at branch_key c.deref.result.now n))
-    (sym c.get.ensures.value) ∙ sym c.count_at.ensures ∙ c.in_default.is) in
-    answered_plain c.args.self.now c.add_branch.new.self (Open b terms ∷ []) Opened
-    (after_plain c.args.self.now c.add_branch.new.self (Open b terms ∷ []) (λ u. appended_opened u b terms)
-    ((c.add_branch.ensures.above, c.requires.branch, c.requires.some, c.requires.few, c.read_floor.ensures), tt)
-    (c.add_branch.ensures.tables ∙ ap (λ (u : Tables). appended_opened u b terms) same)
-    (λ log s. opened_shown t log b terms closed c.add_branch.ensures.above c.requires.few s))
+    record {
+      answer = λ h log s. is ∙ answers t log b terms (plain_shows bank log s);
+      call = answered_plain bank c.add_branch.new.self (Open b terms ∷ []) Opened
+          (after_plain bank c.add_branch.new.self (Open b terms ∷ []) (λ u. appended_opened u b terms)
+          ((above, c.requires.branch, c.requires.some, c.requires.few, c.read_floor.ensures), tt)
+          (c.add_branch.ensures.tables ∙ ap (λ (u : Tables). appended_opened u b terms) same)
+          (λ log s. opened_shown t log b terms (not_there t b terms (row_at branch_key t.branches b) (sym is)) above
+          c.requires.few s));
+      spares = tt;
+    }
 
 pub returns-in_err-reserve-clause-answer : goal.returns-in_err-reserve-clause-answer
 returns-in_err-reserve-clause-answer c = no_answer _ _ c.from_residual.ensures.1
@@ -101,12 +138,6 @@ add_branch-requires-clause-accounts c = c.in_ok-reserve-3.ensures.ok
 pub add_branch-requires-clause-floors : goal.add_branch-requires-clause-floors
 add_branch-requires-clause-floors c = room_for_one _ _ c.in_ok-reserve-4.ensures.ok
 
-pub returns-then-eq-clause-spares : goal.returns-then-eq-clause-spares
-returns-then-eq-clause-spares c = tt
-
-pub returns-else-accounts-count-clause-spares : goal.returns-else-accounts-count-clause-spares
-returns-else-accounts-count-clause-spares c = tt
-
 pub returns-in_err-reserve-clause-spares : goal.returns-in_err-reserve-clause-spares
 returns-in_err-reserve-clause-spares c = tt
 
@@ -118,6 +149,3 @@ returns-in_err-reserve-3-clause-spares c = tt
 
 pub returns-in_err-reserve-4-clause-spares : goal.returns-in_err-reserve-4-clause-spares
 returns-in_err-reserve-4-clause-spares c = tt
-
-pub returns-clause-spares : goal.returns-clause-spares
-returns-clause-spares c = tt
