@@ -67,36 +67,42 @@ returns c =
       spares = tt;
     }
 
-pub returns-in_err-reserve-clause-answer : goal.returns-in_err-reserve-clause-answer
-returns-in_err-reserve-clause-answer c = no_answer _ _ c.from_residual.ensures.1
+pub returns-in_err-reserve : goal.returns-in_err-reserve
+returns-in_err-reserve c =
+    let refused = c.from_residual.ensures.1 in
+    record {
+      answer = no_answer _ _ refused;
+      call = spared_plain _ _ _ _ (memory_refused _ refused) (rw (c.reserve.ensures.items) refl);
+      spares = tt;
+    }
 
-pub returns-in_err-reserve-clause-call : goal.returns-in_err-reserve-clause-call
-returns-in_err-reserve-clause-call c = spared_plain _ _ _ _ (memory_refused _ c.from_residual.ensures.1)
-    (rw (c.reserve.ensures.items) refl)
+pub returns-in_err-reserve-2 : goal.returns-in_err-reserve-2
+returns-in_err-reserve-2 c =
+    let refused = c.from_residual-in_err-reserve-2.ensures.1 in
+    record {
+      answer = no_answer _ _ refused;
+      call = spared_plain _ _ _ _ (memory_refused _ refused) (rw (c.reserve.ensures.items, c.reserve-2.ensures.items) refl);
+      spares = tt;
+    }
 
-pub returns-in_err-reserve-2-clause-answer : goal.returns-in_err-reserve-2-clause-answer
-returns-in_err-reserve-2-clause-answer c = no_answer _ _ c.from_residual-in_err-reserve-2.ensures.1
+pub returns-in_err-reserve-3 : goal.returns-in_err-reserve-3
+returns-in_err-reserve-3 c =
+    let refused = c.from_residual-in_err-reserve-3.ensures.1 in
+    record {
+      answer = no_answer _ _ refused;
+      call = spared_plain _ _ _ _ (memory_refused _ refused) (rw (c.reserve.ensures.items, c.reserve-2.ensures.items, c.reserve-3.ensures.items) refl);
+      spares = tt;
+    }
 
-pub returns-in_err-reserve-2-clause-call : goal.returns-in_err-reserve-2-clause-call
-returns-in_err-reserve-2-clause-call c =
-    spared_plain _ _ _ _ (memory_refused _ c.from_residual-in_err-reserve-2.ensures.1)
-    (rw (c.reserve.ensures.items, c.reserve-2.ensures.items) refl)
-
-pub returns-in_err-reserve-3-clause-answer : goal.returns-in_err-reserve-3-clause-answer
-returns-in_err-reserve-3-clause-answer c = no_answer _ _ c.from_residual-in_err-reserve-3.ensures.1
-
-pub returns-in_err-reserve-3-clause-call : goal.returns-in_err-reserve-3-clause-call
-returns-in_err-reserve-3-clause-call c =
-    spared_plain _ _ _ _ (memory_refused _ c.from_residual-in_err-reserve-3.ensures.1)
-    (rw (c.reserve.ensures.items, c.reserve-2.ensures.items, c.reserve-3.ensures.items) refl)
-
-pub returns-in_err-reserve-4-clause-answer : goal.returns-in_err-reserve-4-clause-answer
-returns-in_err-reserve-4-clause-answer c = no_answer _ _ c.from_residual-in_err-reserve-4.ensures.1
-
-pub returns-in_err-reserve-4-clause-call : goal.returns-in_err-reserve-4-clause-call
-returns-in_err-reserve-4-clause-call c =
-    spared_plain _ _ _ _ (memory_refused _ c.from_residual-in_err-reserve-4.ensures.1)
-    (rw (c.reserve.ensures.items, c.reserve-2.ensures.items, c.reserve-3.ensures.items, c.reserve-4.ensures.items) refl)
+pub returns-in_err-reserve-4 : goal.returns-in_err-reserve-4
+returns-in_err-reserve-4 c =
+    let refused = c.from_residual-in_err-reserve-4.ensures.1 in
+    record {
+      answer = no_answer _ _ refused;
+      call = spared_plain _ _ _ _ (memory_refused _ refused) (branches_as_before (plain_tables c.args.self.now) _ _ _ _
+          c.reserve.ensures.items c.reserve-2.ensures.items c.reserve-3.ensures.items c.reserve-4.ensures.items);
+      spares = tt;
+    }
 
 pub invariant_of-self : goal.invariant_of-self
 invariant_of-self c = record {
@@ -114,38 +120,14 @@ invariant_of-self-2 c = record {
   counted = c.args.self.now.counted;
 }
 
-pub add_branch-requires-clause-branch : goal.add_branch-requires-clause-branch
-add_branch-requires-clause-branch c = c.requires.branch
-
-pub add_branch-requires-clause-some : goal.add_branch-requires-clause-some
-add_branch-requires-clause-some c = c.requires.some
-
-pub add_branch-requires-clause-few : goal.add_branch-requires-clause-few
-add_branch-requires-clause-few c = c.requires.few
-
-pub add_branch-requires-clause-floor : goal.add_branch-requires-clause-floor
-add_branch-requires-clause-floor c = c.requires.floor
-
-pub add_branch-requires-clause-branches : goal.add_branch-requires-clause-branches
-add_branch-requires-clause-branches c = room_for_one _ _ c.in_ok-reserve.ensures.ok
-
-pub add_branch-requires-clause-tellers : goal.add_branch-requires-clause-tellers
-add_branch-requires-clause-tellers c = c.in_ok-reserve-2.ensures.ok
-
-pub add_branch-requires-clause-accounts : goal.add_branch-requires-clause-accounts
-add_branch-requires-clause-accounts c = c.in_ok-reserve-3.ensures.ok
-
-pub add_branch-requires-clause-floors : goal.add_branch-requires-clause-floors
-add_branch-requires-clause-floors c = room_for_one _ _ c.in_ok-reserve-4.ensures.ok
-
-pub returns-in_err-reserve-clause-spares : goal.returns-in_err-reserve-clause-spares
-returns-in_err-reserve-clause-spares c = tt
-
-pub returns-in_err-reserve-2-clause-spares : goal.returns-in_err-reserve-2-clause-spares
-returns-in_err-reserve-2-clause-spares c = tt
-
-pub returns-in_err-reserve-3-clause-spares : goal.returns-in_err-reserve-3-clause-spares
-returns-in_err-reserve-3-clause-spares c = tt
-
-pub returns-in_err-reserve-4-clause-spares : goal.returns-in_err-reserve-4-clause-spares
-returns-in_err-reserve-4-clause-spares c = tt
+pub add_branch-requires : goal.add_branch-requires
+add_branch-requires c = record {
+  branch = c.requires.branch;
+  some = c.requires.some;
+  few = c.requires.few;
+  floor = c.requires.floor;
+  branches = room_for_one _ _ c.in_ok-reserve.ensures.ok;
+  tellers = c.in_ok-reserve-2.ensures.ok;
+  accounts = c.in_ok-reserve-3.ensures.ok;
+  floors = room_for_one _ _ c.in_ok-reserve-4.ensures.ok;
+}

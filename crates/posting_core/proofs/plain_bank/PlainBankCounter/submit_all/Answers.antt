@@ -1,4 +1,4 @@
-use Rattle.std.proofs.Common.{◌≡◌, [], ◌∷◌, ◌++◌, suc, length, refl, ap, ◌∙◌, List, ℕ, arith}
+use Rattle.std.proofs.Common.{◌≡◌, [], ◌∷◌, ◌++◌, suc, length, refl, ap, ◌∙◌, List, ℕ}
 use Rattle.posting_rules.specs.believed.Changes.{replies_past_all, tables_past, tables_past_all}
 use Rattle.posting_rules.specs.believed.{Tables.Tables, Runs.posts}
 use Rattle.posting_rules.proofs.Records.{all_past, all_replies, are_posts}
