@@ -31,16 +31,17 @@ impl fmt::Display for PlanFault {
     ghost output = { λ fault. Some (plan_text fault) };
 
     fn fmt<W: fmt::Write>(&self, f: &mut fmt::Formatter<W>) -> fmt::Result {
-        match self {
-            PlanFault::Header => write!(f, "plan header"),
-            PlanFault::Columns(row) => write!(f, "plan row {row} columns"),
-            PlanFault::Branch(row) => write!(f, "plan row {row} branch"),
-            PlanFault::Accounts(row) => write!(f, "plan row {row} accounts"),
-            PlanFault::Floor(row) => write!(f, "plan row {row} floor"),
-            PlanFault::Twice(row) => write!(f, "plan row {row} twice"),
-            PlanFault::Csv => write!(f, "plan unreadable"),
-            PlanFault::Memory => write!(f, "no memory"),
-        }
+        let (row, fault) = match self {
+            PlanFault::Header => return write!(f, "plan header"),
+            PlanFault::Columns(row) => (row, "columns"),
+            PlanFault::Branch(row) => (row, "branch"),
+            PlanFault::Accounts(row) => (row, "accounts"),
+            PlanFault::Floor(row) => (row, "floor"),
+            PlanFault::Twice(row) => (row, "twice"),
+            PlanFault::Csv => return write!(f, "plan unreadable"),
+            PlanFault::Memory => return write!(f, "no memory"),
+        };
+        write!(f, "plan row {row} {fault}")
     }
 }
 

@@ -35,15 +35,16 @@ impl fmt::Display for Column {
     ghost output = { λ column. Some (column_text column) };
 
     fn fmt<W: fmt::Write>(&self, f: &mut fmt::Formatter<W>) -> fmt::Result {
-        match self {
-            Column::Columns => write!(f, "columns"),
-            Column::Account => write!(f, "account"),
-            Column::Teller => write!(f, "teller"),
-            Column::Number => write!(f, "number"),
-            Column::Delta => write!(f, "delta"),
-            Column::Branch => write!(f, "branch"),
-            Column::Reference => write!(f, "reference"),
-        }
+        let name = match self {
+            Column::Columns => "columns",
+            Column::Account => "account",
+            Column::Teller => "teller",
+            Column::Number => "number",
+            Column::Delta => "delta",
+            Column::Branch => "branch",
+            Column::Reference => "reference",
+        };
+        f.write_str(name)
     }
 }
 
@@ -106,13 +107,14 @@ impl fmt::Display for SheetFault {
     ghost output = { λ fault. Some (sheet_text fault) };
 
     fn fmt<W: fmt::Write>(&self, f: &mut fmt::Formatter<W>) -> fmt::Result {
-        match self {
-            SheetFault::Header => write!(f, "postings header"),
-            SheetFault::Row(row, bad) => write!(f, "postings row {row} {bad}"),
-            SheetFault::Read => write!(f, "read failed"),
-            SheetFault::Write => write!(f, "write failed"),
-            SheetFault::Memory => write!(f, "no memory"),
-        }
+        let text = match self {
+            SheetFault::Header => "postings header",
+            SheetFault::Row(row, bad) => return write!(f, "postings row {row} {bad}"),
+            SheetFault::Read => "read failed",
+            SheetFault::Write => "write failed",
+            SheetFault::Memory => "no memory",
+        };
+        f.write_str(text)
     }
 }
 
@@ -153,18 +155,19 @@ impl fmt::Display for RepliesFault {
     ghost output = { λ fault. Some (replies_text fault) };
 
     fn fmt<W: fmt::Write>(&self, f: &mut fmt::Formatter<W>) -> fmt::Result {
-        match self {
-            RepliesFault::Truncated(n) => write!(f, "the input ends {n} bytes into a reply"),
-            RepliesFault::Reply(place, bad) => write!(f, "reply {place} {bad}"),
-            RepliesFault::Read => write!(f, "read failed"),
-            RepliesFault::Write => write!(f, "write failed"),
-            RepliesFault::Memory => write!(f, "no memory"),
-            RepliesFault::Sheet => write!(f, "postings unreadable"),
-            RepliesFault::Header => write!(f, "postings header"),
-            RepliesFault::Row(row, bad) => write!(f, "postings row {row} {bad}"),
-            RepliesFault::OtherPosting(row) => write!(f, "row {row} is another posting"),
-            RepliesFault::MoreReplies => write!(f, "more replies than rows"),
-        }
+        let text = match self {
+            RepliesFault::Truncated(n) => return write!(f, "the input ends {n} bytes into a reply"),
+            RepliesFault::Reply(place, bad) => return write!(f, "reply {place} {bad}"),
+            RepliesFault::Read => "read failed",
+            RepliesFault::Write => "write failed",
+            RepliesFault::Memory => "no memory",
+            RepliesFault::Sheet => "postings unreadable",
+            RepliesFault::Header => "postings header",
+            RepliesFault::Row(row, bad) => return write!(f, "postings row {row} {bad}"),
+            RepliesFault::OtherPosting(row) => return write!(f, "row {row} is another posting"),
+            RepliesFault::MoreReplies => "more replies than rows",
+        };
+        f.write_str(text)
     }
 }
 
