@@ -1,6 +1,6 @@
 //! A command over the files of a bank. **Not verified, review by hand**: no clause ties a connection to the path that it
 //! was opened at, and none can name a closed file, so that the contract says only how a command ends and what it prints. All that is done with the bank is done by [`command_over`].
-ghost use Rattle.std.specs.Prelude.{◌≡◌, false, IfSome};
+ghost use Rattle.std.specs.Prelude.{◌≡◌, false, IfSome, IsTrue};
 ghost use Rattle.command_line.specs.Lines.{usable_line};
 ghost use Rattle.command_line.specs.Words.{AreInRange};
 ghost use Rattle.bank_commands.specs.Commands.{TellsLine};
@@ -13,10 +13,11 @@ use crate::opened::tell_opened;
 use crate::progress::Progress;
 use crate::reasons::look_into;
 use crate::reports::why_over;
-use bank_files::open;
+use bank_files::{open, open_over};
 use command_line::{Command, CommandFault, Plans, Status, translate_replies, translate_sheet};
 use posting_core::{Clock, SystemClock};
-use sqlite::{Connection, Error, ErrorCode, FileFrom, FileStore, Start};
+use sqlite::{Connection, Error, ErrorCode, FileFrom, FileStore, Files, Start};
+use sqlite_disk::Disk;
 use std::alloc::Global;
 use std::cell::Cell;
 use std::fs::{self, File};
@@ -164,10 +165,27 @@ fn why_in<W: Write>(rt: &HostRuntime, file: &str, output: &mut W) -> Result<Stat
         (TellsLine (W.contents output.old) (W.contents output.new) usable_line result) }
 {
     look_for(rt, file)?;
-    let Ok(conn) = look_into(rt, file) else {
-        return Err(CommandFault::Store);
-    };
-    why_over(rt.alloc(), conn, output).end
+    match look_into(rt, file) {
+        Ok(files) => why_at(rt.alloc(), files, output),
+        Err(_) => Err(CommandFault::Store),
+    }
+}
+
+// Says whether the bank in files can be used. That they lie on any disk keeps the proof short.
+fn why_at<D: Disk + Drop, W: Write>(
+    alloc: Global,
+    files: Files<D>,
+    output: &mut W,
+) -> Result<Status, CommandFault>
+    requires log { IsTrue (D.Disk.is_usable files.log) }
+    requires db { IsTrue (D.Disk.is_usable files.db) }
+    ensures { PrintsNone (W.contents output.old) (W.contents output.new) result
+        (TellsLine (W.contents output.old) (W.contents output.new) usable_line result) }
+{
+    match open_over(alloc, files, 0) {
+        Ok(conn) => why_over(alloc, conn, output).end,
+        Err(_) => Err(CommandFault::Store),
+    }
 }
 
 // Looks whether a bank can be in the file: it holds more than a byte, or there is a log beside it that holds

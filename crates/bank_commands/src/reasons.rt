@@ -1,17 +1,17 @@
 //! Why a file can't be used as a bank's, as far as the system can tell. **Not verified, review by hand**: no clause says
 //! what a machine answers. It writes to standard error alone, and changes no file: what a file holds is looked at in
 //! copies of it and of its log, in memory.
-ghost use Rattle.std.specs.Prelude.{◌≡◌, false, IfOk, IsTrue};
+ghost use Rattle.std.specs.Prelude.{IfOk, IsTrue};
 ghost use Rattle.sqlite_disk.specs.Memory.{memory_is_usable};
 
 use crate::notes::{Notes, found_in};
 use bank_files::open_over;
 use command_line::{Command, Status, read_words};
 use posting_sheets::BadRow;
-use sqlite::{Connection, Error, FileStore, Files, Unknown};
+use sqlite::{Error, Files, Unknown};
 use sqlite_disk::{Disk, Memory};
 use sqlite_std_file::OpenError;
-use std::alloc::AllocError;
+use std::alloc::{AllocError, Global};
 use std::fs::{self, Metadata, OpenOptions};
 use std::io::{self, ErrorKind, IsTerminal, Write};
 use std::os::fd::AsRawFd;
@@ -154,17 +154,26 @@ fn reason_of(rt: &HostRuntime, file: &str, is_full: bool) -> Option<Reason> {
         return Some(Reason::Full);
     }
     match look_into(rt, file) {
-        Ok(_) => None,
+        Ok(files) => error_of(rt.alloc(), files).map(Reason::Database),
         Err(reason) => Some(reason),
     }
 }
 
-/// A connection to the file's database in memory, if the file can be used as a bank's.
-pub(crate) fn look_into(
-    rt: &HostRuntime,
-    path: &str,
-) -> Result<Connection<FileStore<Memory>>, Reason>
-    ensures { IfOk result (λ conn. conn.in_transaction ≡ false) }
+// Why files aren't opened, if they aren't. That they lie on any disk keeps the proof short.
+fn error_of<D: Disk + Drop>(alloc: Global, files: Files<D>) -> Option<Error>
+    requires log { IsTrue (D.Disk.is_usable files.log) }
+    requires db { IsTrue (D.Disk.is_usable files.db) }
+{
+    match open_over(alloc, files, 0) {
+        Ok(_) => None,
+        Err(error) => Some(error),
+    }
+}
+
+/// The file and its log, copied into memory, if nothing but the database in them can keep the file from being used.
+pub(crate) fn look_into(rt: &HostRuntime, path: &str) -> Result<Files<Memory>, Reason>
+    ensures log { IfOk result (λ files. IsTrue (memory_is_usable files.log)) }
+    ensures db { IfOk result (λ files. IsTrue (memory_is_usable files.db)) }
 {
     look_at(rt, path)?;
     let log = format!(in rt.alloc(); "{path}-wal")?;
@@ -172,10 +181,7 @@ pub(crate) fn look_into(
         look_at_header(fs::read(rt, path)?.as_slice())?;
     }
     look_for_others(rt, path, log.as_str())?;
-    match open_over(rt.alloc(), copies(rt, path, log.as_str())?, 0) {
-        Ok(conn) => Ok(conn),
-        Err(error) => Err(Reason::Database(error)),
-    }
+    copies(rt, path, log.as_str())
 }
 
 // What its entry in its folder tells.
