@@ -151,34 +151,35 @@ impl fmt::Display for CommandFault {
     ghost output = { λ fault. Some (fault_text fault) };
 
     fn fmt<W: fmt::Write>(&self, f: &mut fmt::Formatter<W>) -> fmt::Result {
-        match self {
-            CommandFault::Store => write!(f, "store fault"),
-            CommandFault::Memory => write!(f, "no memory"),
+        let text = match self {
+            CommandFault::Store => "store fault",
+            CommandFault::Memory => "no memory",
             CommandFault::Damaged(rule) => {
-                let number = rule.number();
-                write!(f, "damaged rule {number}")
+                let fault = Fault::Damaged(*rule);
+                return write!(f, "{fault}");
             }
-            CommandFault::Read => write!(f, "read failed"),
-            CommandFault::Write => write!(f, "write failed"),
-            CommandFault::Truncated(count) => write!(f, "truncated {count} bytes"),
-            CommandFault::Plan(fault) => write!(f, "{fault}"),
-            CommandFault::Postings(fault) => write!(f, "{fault}"),
-            CommandFault::NoSheet => write!(f, "postings unreadable"),
-            CommandFault::OtherPosting(row) => write!(f, "row {row} is another posting"),
-            CommandFault::MoreReplies => write!(f, "more replies than rows"),
-            CommandFault::Reply(place, bad) => write!(f, "reply {place} {bad}"),
-            CommandFault::NoEntry(count) => write!(f, "no entry after {count}"),
-            CommandFault::Differs(other) => write!(f, "{other}"),
-            CommandFault::AlreadyBank => write!(f, "already a bank"),
-            CommandFault::NoBank => write!(f, "no bank"),
-            CommandFault::Foreign => write!(f, "foreign tables"),
-            CommandFault::Version(version) => write!(f, "version {version}"),
-            CommandFault::NoBranches => write!(f, "no branches"),
-            CommandFault::NoAccount(account) => write!(f, "no account {account}"),
-            CommandFault::NoRequest(count) => write!(f, "no request {count}"),
-            CommandFault::Query(fault) => write!(f, "{fault}"),
-            CommandFault::Network => write!(f, "network failed"),
-        }
+            CommandFault::Read => "read failed",
+            CommandFault::Write => "write failed",
+            CommandFault::Truncated(count) => return write!(f, "truncated {count} bytes"),
+            CommandFault::Plan(fault) => return write!(f, "{fault}"),
+            CommandFault::Postings(fault) => return write!(f, "{fault}"),
+            CommandFault::NoSheet => "postings unreadable",
+            CommandFault::OtherPosting(row) => return write!(f, "row {row} is another posting"),
+            CommandFault::MoreReplies => "more replies than rows",
+            CommandFault::Reply(place, bad) => return write!(f, "reply {place} {bad}"),
+            CommandFault::NoEntry(count) => return write!(f, "no entry after {count}"),
+            CommandFault::Differs(other) => return write!(f, "{other}"),
+            CommandFault::AlreadyBank => "already a bank",
+            CommandFault::NoBank => "no bank",
+            CommandFault::Foreign => "foreign tables",
+            CommandFault::Version(version) => return write!(f, "version {version}"),
+            CommandFault::NoBranches => "no branches",
+            CommandFault::NoAccount(account) => return write!(f, "no account {account}"),
+            CommandFault::NoRequest(count) => return write!(f, "no request {count}"),
+            CommandFault::Query(fault) => return write!(f, "{fault}"),
+            CommandFault::Network => "network failed",
+        };
+        f.write_str(text)
     }
 }
 
