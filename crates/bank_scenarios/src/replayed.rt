@@ -1,6 +1,7 @@
 //! What the replay of a bank in tables says.
 use bank_replays::{Agreed, OtherTable, Replay, Unwatched, replay};
 use bank_store::Bank;
+use posting_core::Fault;
 use sqlite::Alter;
 use std::alloc::{AllocError, Global};
 
@@ -21,9 +22,14 @@ fn agreed(alloc: Global, found: &Agreed) -> Result<String, AllocError> {
     format!(in alloc; "agrees: requests {requests} digest {digits} plan {plan}")
 }
 
+/// Replays a bank. That `replay` is called here alone keeps the proofs of those who replay short.
+pub fn replay_of<S: Alter>(bank: &mut Bank<S>) -> Result<Replay, Fault> {
+    replay(bank, Unwatched)
+}
+
 /// Replays the bank, and returns how many requests it keeps, their digest and the plan's, or the first difference.
 pub fn replayed<S: Alter>(alloc: Global, bank: &mut Bank<S>) -> Result<String, AllocError> {
-    match replay(bank, Unwatched) {
+    match replay_of(bank) {
         Ok(Replay::Agrees(found)) => agreed(alloc, &found),
         Ok(Replay::Differs(difference)) => difference.to_string(alloc),
         Ok(Replay::Otherwise(table)) => OtherTable(table).to_string(alloc),

@@ -1,8 +1,9 @@
 //! What balances, statements, audits and replays have to say after parts of a history.
 use super::asking::{End, end_of};
 use super::history::{Given, Part};
+use crate::replayed::replay_of;
 use crate::sums::Entry;
-use bank_replays::{Agreed, Replay, Unwatched, replay};
+use bank_replays::{Agreed, Replay};
 use bank_reports::{ReportFault, audit, write_statement};
 use bank_store::Bank;
 use message_records::Account;
@@ -158,7 +159,7 @@ pub fn audit_after<S: Alter>(bank: &mut Bank<S>, parts: &[Part]) -> End {
 pub fn replay_between<S: Alter>(bank: &mut Bank<S>, first: &[Part], all: &[Part]) -> End {
     let (least, _, _) = totals(first);
     let (most, _, _) = totals(all);
-    match replay(bank, Unwatched) {
+    match replay_of(bank) {
         Ok(Replay::Agrees(Agreed { digest, .. }))
             if digest.requests >= least && digest.requests <= most => { End::Done }
         Ok(_) => End::Differs("a replay"),
