@@ -1,5 +1,5 @@
 -- All slots of a batch are filled.
-use Rattle.std.proofs.Common.{◌≡◌, ℕ, List, map, Ok, refl, ap, ◌∙◌}
+use Rattle.std.proofs.Common.{◌≡◌, ℕ, List, map, Ok, Err, Result, refl, ap, ◌∙◌}
 use Rattle.std.specs.{Prelude.IsSome, Prelude.⊤, List.AllByRecursion}
 use Rattle.sqlite.specs.declared.transaction.Transaction.{Transaction}
 use Rattle.sqlite_trees.specs.declared.store.Store.{Ghosts}
@@ -12,9 +12,11 @@ use Rattle.posting_batch.specs.declared.slots.{FloorSlot.FloorSlot, RequestSlot.
 use Rattle.posting_batch.specs.{Batch.HasHomes, Batch.branch_filled, Batch.floor_filled, Batch.teller_filled}
 use Rattle.posting_batch.specs.{Batch.account_filled, Batch.filled, Batch.request_filled, Overlay.Overlay}
 use Rattle.posting_batch.specs.Slots.{branch_slot_key, row_of_slot}
-use Rattle.bank_transactions.specs.{Doing.Reads, Doing.ReadsWhere, Filling.TellsBranch, Filling.emptied, Filling.known}
+use Rattle.store_rows.specs.declared.fault.TableFault.{TableFault}
+use Rattle.bank_transactions.specs.{Doing.Reads, Doing.ReadsWhere, Filling.TellsBranch, Filling.emptied, Filling.handing}
+use Rattle.bank_transactions.specs.Filling.{known}
 use Rattle.bank_transactions.specs.Filling.{emptied_account, emptied_branch, emptied_floor, emptied_request, emptied_teller}
-use Rattle.bank_transactions.proofs.{HeldSlots.know_all, LookUps.reads_both, LookUps.reads_so}
+use Rattle.bank_transactions.proofs.{HeldSlots.know_all, LookUps.reads_both, LookUps.reads_but, LookUps.reads_so}
 
 -- nothing is damaged, and each branch that is asked for has its slot
 abbrev pub So : Overlay → Tables → Type 0
@@ -91,6 +93,14 @@ to_tellers o t = with_tellers (map (teller_filled t) o.tellers) (to_floors o t)
 
 abbrev pub to_accounts : Overlay → Tables → Overlay
 to_accounts o t = with_accounts (map (account_filled t) o.accounts) (to_tellers o t)
+
+-- the slots that are filled last: their error is that of all
+pub handed_last : {S X Y Z : Type 0} {g : Ghosts S} {a b c : Transaction S} {So' So'' : Tables → Type 0}
+    {f : Tables → X} {w : Tables → Y} {w' : Tables → Z} {p : X} {y : Y} {z : Z} (r : Result (Unit {0}) TableFault)
+    → ReadsWhere g a b So' f (Ok p) → ReadsWhere g b c So'' w (handing y r)
+    → (ReadsWhere g b c So'' w (Ok y) → ReadsWhere g a c So' w' (Ok z)) → ReadsWhere g a c So' w' (handing z r)
+handed_last (Ok done) first second all = all second
+handed_last (Err e) first second all = reads_but first second
 
 -- slots of which nothing is asked of the branches
 abbrev Plain : {A : Type 0} → List A → Tables → Type 0

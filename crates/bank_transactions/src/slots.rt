@@ -359,8 +359,7 @@ pub(crate) fn fill_known<S: Alter>(
         &mut overlay.accounts,
         &overlay.branches,
         &overlay.floors,
-    )?;
-    Ok(())
+    )
 }
 
 /// Fills an overlay: each slot with what is in the tables under its key, and how many requests are decided.
@@ -387,6 +386,5 @@ pub fn fill<S: Alter>(
     ensures remembers { OnOk result (∥ Remembers S.Store tx.new.conn.now memory.new ∥₁) }
 {
     fill_known(tx, memory, overlay)?;
-    fill_all(tx, memory, &mut overlay.kept, &[], &[])?;
-    Ok(())
+    fill_all(tx, memory, &mut overlay.kept, &[], &[])
 }

@@ -1,14 +1,15 @@
 -- What is kept of requests is filled after the rest.
 use Rattle.std.proofs.Common.{List, map, sym, ap, subst, ◌∙◌}
 use Rattle.std.specs.List.{AllByRecursion}
+use Rattle.std.proofs.lemmas.Result.{on_ok_weaker}
 use Rattle.sqlite.specs.{Effect.Database, Held.state}
 use Rattle.smallvec.specs.SmallVec.{SmallVec, with_items}
 use Rattle.posting_batch.specs.{declared.slots.RequestSlot.RequestSlot, View.view}
 use Rattle.store_rows.specs.believed.Rules.{HoldsBank}
 use Rattle.bank_transactions.specs.Filling.{RequestHeld, RequestShown, emptied_request}
 use Rattle.bank_transactions.proofs.HeldSlots.{put_back}
-use Rattle.bank_transactions.proofs.{LookUps.reads_but, LookUps.reads_so}
-use Rattle.bank_transactions.proofs.FilledBatch.{emptied_kept, kept_after, nothing_asked, with_kept}
+use Rattle.bank_transactions.proofs.LookUps.{reads_so}
+use Rattle.bank_transactions.proofs.FilledBatch.{emptied_kept, handed_last, kept_after, nothing_asked, with_kept}
 use Rattle.bank_transactions.proofs.Exits.{clean_at, handed_on}
 use Rattle.bank_transactions.proofs.slots.fill.Goals as goal
 
@@ -25,19 +26,6 @@ returns-in_err-fill_known g c =
       remembers = tt;
     })
 
-pub returns-in_err-fill_all : goal.returns-in_err-fill_all
-returns-in_err-fill_all g c =
-    let rows = c.in_ok-fill_known.ensures.new_rows in
-    let same = handed_on c.from_residual-in_err-fill_all.result c.from_residual-in_err-fill_all.ensures.1 in
-    rw same (record {
-      new_rows = (rows.0, rows.1, rows.2);
-      says = reads_but c.in_ok-fill_known.ensures.says c.in_err-fill_all.ensures.says;
-      same = tt;
-      stored = tt;
-      shown = tt;
-      remembers = tt;
-    })
-
 pub returns-clause-new_rows : goal.returns-clause-new_rows
 returns-clause-new_rows g c =
     let rows = c.in_ok-fill_known.ensures.new_rows in (rows.0, rows.1, rows.2)
@@ -47,11 +35,11 @@ returns-clause-says g c =
     let p = view c.fill_known.new.overlay in
     let kv = c.fill_known.new.overlay.kept in
     let kept = ap (λ (v : SmallVec RequestSlot). v.items) c.in_ok-fill_known.ensures.new_rows.3 in
-    let all = kept_after c.in_ok-fill_known.ensures.says (c.deref_mut.ensures.value ∙ kept)
-    c.in_ok-fill_all.ensures.says in
     let held = ap (λ (slots : List RequestSlot). with_kept slots p)
     (put_back kv _ c.fill_all.new.slots c.deref_mut.ensures.value c.fill_all.auto.slots) in
-    reads_so all (λ t so. (so, λ e. held ∙ e))
+    handed_last c.fill_all.result c.in_ok-fill_known.ensures.says c.fill_all.ensures.says (λ last.
+    reads_so (kept_after c.in_ok-fill_known.ensures.says (c.deref_mut.ensures.value ∙ kept) last)
+    (λ t so. (so, λ e. held ∙ e)))
 
 -- ---- of whatever rows a file holds
 
@@ -59,17 +47,16 @@ pub returns-clause-same : goal.returns-clause-same
 returns-clause-same g c =
     let p = view c.fill_known.new.overlay in
     let kv = c.fill_known.new.overlay.kept in
-    emptied_kept p (with_items kv c.fill_all.new.slots).items
+    on_ok_weaker c.fill_all.result (λ same. emptied_kept p (with_items kv c.fill_all.new.slots).items
     (ap (map emptied_request) (put_back kv _ c.fill_all.new.slots c.deref_mut.ensures.value c.fill_all.auto.slots)
-    ∙ c.in_ok-fill_all.ensures.same ∙ ap (map emptied_request) c.deref_mut.ensures.value)
-    ∙ c.in_ok-fill_known.ensures.same
+    ∙ same ∙ ap (map emptied_request) c.deref_mut.ensures.value)
+    ∙ c.in_ok-fill_known.ensures.same) c.fill_all.ensures.same
 
 pub returns-clause-stored : goal.returns-clause-stored
-returns-clause-stored g c clean homes rows has =
+returns-clause-stored g c = on_ok_weaker c.fill_all.result (λ stored clean homes rows has.
     let kv = c.fill_known.new.overlay.kept in
     let one = c.in_ok-fill_known.ensures in
-    let two = c.in_ok-fill_all.ensures in
-    let before = clean_at two.says.says.survives clean in
+    let before = clean_at c.fill_all.ensures.says.says.survives clean in
     let first = one.stored before homes rows has in
     let has1 = subst (λ (db : Database). HoldsBank db rows) (sym (one.says.says.leaves before).0.now) has in
     record {
@@ -79,24 +66,23 @@ returns-clause-stored g c clean homes rows has =
       accounts = first.accounts;
       kept = subst (λ (slots : List RequestSlot). AllByRecursion (RequestHeld rows) slots)
           (sym (put_back kv _ c.fill_all.new.slots c.deref_mut.ensures.value c.fill_all.auto.slots))
-          (two.stored clean rows has1 (nothing_asked _));
+          (stored clean rows has1 (nothing_asked _));
       decided = first.decided;
-    }
+    }) c.fill_all.ensures.stored
 
 pub returns-clause-shown : goal.returns-clause-shown
-returns-clause-shown g c clean =
+returns-clause-shown g c = on_ok_weaker c.fill_all.result (λ shown clean.
     let kv = c.fill_known.new.overlay.kept in
     let one = c.in_ok-fill_known.ensures in
-    let two = c.in_ok-fill_all.ensures in
-    let before = clean_at two.says.says.survives clean in
-    let shown = subst (λ (db : Database). AllByRecursion (RequestShown db) c.fill_all.new.slots)
-    (one.says.says.leaves before).0.now (two.shown clean) in
+    let before = clean_at c.fill_all.ensures.says.says.survives clean in
+    let kept = subst (λ (db : Database). AllByRecursion (RequestShown db) c.fill_all.new.slots)
+    (one.says.says.leaves before).0.now (shown clean) in
     record {
       branches = one.own before;
       kept = subst (λ (slots : List RequestSlot). AllByRecursion
           (RequestShown (state g.S.Store c.args.tx.now.conn.now).now) slots)
-          (sym (put_back kv _ c.fill_all.new.slots c.deref_mut.ensures.value c.fill_all.auto.slots)) shown;
-    }
+          (sym (put_back kv _ c.fill_all.new.slots c.deref_mut.ensures.value c.fill_all.auto.slots)) kept;
+    }) c.fill_all.ensures.shown
 
 -- ---- what is remembered
 
@@ -107,4 +93,4 @@ pub fill_all-requires : goal.fill_all-requires
 fill_all-requires g c = c.in_ok-fill_known.ensures.remembers
 
 pub returns-clause-remembers : goal.returns-clause-remembers
-returns-clause-remembers g c = c.in_ok-fill_all.ensures.remembers
+returns-clause-remembers g c = c.fill_all.ensures.remembers

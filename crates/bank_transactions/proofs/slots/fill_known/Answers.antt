@@ -1,6 +1,7 @@
 -- The parts of a batch that are filled one after another, but for its requests.
 use Rattle.std.proofs.Common.{List, map, sym, ap, refl, subst, ◌∙◌}
 use Rattle.std.specs.List.{AllByRecursion}
+use Rattle.std.proofs.lemmas.Result.{on_ok_weaker}
 use Rattle.sqlite.specs.Effect.{Database}
 use Rattle.posting_rules.specs.believed.Numbering.{branch_of_account, branch_of_teller}
 use Rattle.posting_batch.specs.{declared.slots.AccountSlot.AccountSlot, declared.slots.BranchSlot.BranchSlot}
@@ -13,7 +14,7 @@ use Rattle.smallvec.specs.SmallVec.{with_items}
 use Rattle.sqlite_trees.proofs.ListLemmas.{all_both}
 use Rattle.bank_transactions.proofs.{LookUps.reads_but, LookUps.reads_so}
 use Rattle.bank_transactions.proofs.FilledBatch.{accounts_in, branches_in, count_in, floors_in, nothing_asked}
-use Rattle.bank_transactions.proofs.FilledBatch.{emptied_known, same_known, tellers_in}
+use Rattle.bank_transactions.proofs.FilledBatch.{emptied_known, handed_last, same_known, tellers_in}
 use Rattle.bank_transactions.proofs.Exits.{clean_at, handed_on, reads_fail}
 use Rattle.bank_transactions.proofs.slots.fill_known.Goals as goal
 
@@ -81,24 +82,6 @@ returns-in_err-fill_all-3 g c =
       remembers = tt;
     })
 
-pub returns-in_err-fill_all-4 : goal.returns-in_err-fill_all-4
-returns-in_err-fill_all-4 g c =
-    let bs = put_back c.args.overlay.now.branches _ c.fill_all.new.slots c.deref_mut.ensures.value
-    c.fill_all.auto.slots in
-    let s1 = count_in {g = g.S.Store} (view c.args.overlay.now) _ c.in_ok-overlay.ensures.says in
-    let s2 = branches_in s1 c.deref_mut.ensures.value c.in_ok-fill_all.ensures.says in
-    let s3 = floors_in s2 c.deref_mut-2.ensures.value c.in_ok-fill_all-2.ensures.says in
-    let s4 = tellers_in s3
-    (c.deref.ensures ∙ bs) c.deref_mut-3.ensures.value c.in_ok-fill_all-3.ensures.says in
-    rw (handed_on c.from_residual-in_err-fill_all-4.result c.from_residual-in_err-fill_all-4.ensures.1) (record {
-      new_rows = (refl, refl, refl, refl);
-      says = reads_but s4 c.in_err-fill_all-4.ensures.says;
-      same = tt;
-      stored = tt;
-      own = tt;
-      remembers = tt;
-    })
-
 pub returns-clause-says : goal.returns-clause-says
 returns-clause-says g c =
     let o = view c.args.overlay.now in
@@ -112,8 +95,6 @@ returns-clause-says g c =
     let s3 = floors_in s2 c.deref_mut-2.ensures.value c.in_ok-fill_all-2.ensures.says in
     let s4 = tellers_in s3
     (c.deref.ensures ∙ bs) c.deref_mut-3.ensures.value c.in_ok-fill_all-3.ensures.says in
-    let s5 = accounts_in s4
-    (c.deref-2.ensures ∙ bs) c.deref_mut-4.ensures.value c.in_ok-fill_all-4.ensures.says in
     let held = same_known o c.in_ok-overlay.field-0
     (with_items bv c.fill_all.new.slots).items c.fill_all.new.slots
     (with_items fv c.fill_all-2.new.slots).items c.fill_all-2.new.slots
@@ -122,13 +103,15 @@ returns-clause-says g c =
     bs (put_back fv _ c.fill_all-2.new.slots c.deref_mut-2.ensures.value c.fill_all-2.auto.slots)
     (put_back tv _ c.fill_all-3.new.slots c.deref_mut-3.ensures.value c.fill_all-3.auto.slots)
     (put_back av _ c.fill_all-4.new.slots c.deref_mut-4.ensures.value c.fill_all-4.auto.slots) in
-    reads_so s5 (λ t so. (so, λ e. held ∙ e))
+    handed_last c.fill_all-4.result s4 c.fill_all-4.ensures.says (λ last.
+    reads_so (accounts_in s4 (c.deref-2.ensures ∙ bs) c.deref_mut-4.ensures.value last)
+    (λ t so. (so, λ e. held ∙ e)))
 
 pub returns-clause-new_rows : goal.returns-clause-new_rows
 returns-clause-new_rows g c = (refl, refl, refl, refl)
 
 pub returns-clause-remembers : goal.returns-clause-remembers
-returns-clause-remembers g c = c.in_ok-fill_all-4.ensures.remembers
+returns-clause-remembers g c = c.fill_all-4.ensures.remembers
 
 -- ---- of whatever rows a file holds
 
@@ -139,7 +122,7 @@ returns-clause-same g c =
     let fv = c.args.overlay.now.floors in
     let tv = c.args.overlay.now.tellers in
     let av = c.args.overlay.now.accounts in
-    emptied_known o c.in_ok-overlay.field-0
+    on_ok_weaker c.fill_all-4.result (λ last. emptied_known o c.in_ok-overlay.field-0
     (with_items bv c.fill_all.new.slots).items (with_items fv c.fill_all-2.new.slots).items
     (with_items tv c.fill_all-3.new.slots).items
     (with_items av c.fill_all-4.new.slots).items
@@ -152,10 +135,10 @@ returns-clause-same g c =
     ∙ c.in_ok-fill_all-3.ensures.same ∙ ap (map emptied_teller) c.deref_mut-3.ensures.value)
     (ap (map emptied_account) (put_back av _ c.fill_all-4.new.slots c.deref_mut-4.ensures.value
     c.fill_all-4.auto.slots)
-    ∙ c.in_ok-fill_all-4.ensures.same ∙ ap (map emptied_account) c.deref_mut-4.ensures.value)
+    ∙ last ∙ ap (map emptied_account) c.deref_mut-4.ensures.value)) c.fill_all-4.ensures.same
 
 pub returns-clause-stored : goal.returns-clause-stored
-returns-clause-stored g c clean homes rows has =
+returns-clause-stored g c = on_ok_weaker c.fill_all-4.result (λ last clean homes rows has.
     let o = view c.args.overlay.now in
     let bv = c.args.overlay.now.branches in
     let fv = c.args.overlay.now.floors in
@@ -165,8 +148,7 @@ returns-clause-stored g c clean homes rows has =
     let one = c.in_ok-fill_all.ensures in
     let two = c.in_ok-fill_all-2.ensures in
     let three = c.in_ok-fill_all-3.ensures in
-    let four = c.in_ok-fill_all-4.ensures in
-    let clean3 = clean_at four.says.says.survives clean in
+    let clean3 = clean_at c.fill_all-4.ensures.says.says.survives clean in
     let clean2 = clean_at three.says.says.survives clean3 in
     let clean1 = clean_at two.says.says.survives clean2 in
     let clean0 = clean_at one.says.says.survives clean1 in
@@ -189,7 +171,7 @@ returns-clause-stored g c clean homes rows has =
           (c.deref.ensures ∙ bs) c.deref_mut-3.ensures.value same branches homes.tellers));
       accounts = subst (λ (slots : List AccountSlot). AllByRecursion (AccountHeld rows) slots)
           (sym (put_back av _ c.fill_all-4.new.slots c.deref_mut-4.ensures.value c.fill_all-4.auto.slots))
-          (four.stored clean rows has3
+          (last clean rows has3
           (all_both _ _ _ (λ s branch floor. (branch, floor)) _
           (know_branches (λ s. branch_of_account s.account) rows o.branches _ c.fill_all.new.slots o.accounts _
           (c.deref-2.ensures ∙ bs) c.deref_mut-4.ensures.value same branches homes.accounts)
@@ -197,16 +179,16 @@ returns-clause-stored g c clean homes rows has =
           (c.deref-3.ensures ∙ fs) c.deref_mut-4.ensures.value
           (two.same ∙ ap (map emptied_floor) c.deref_mut-2.ensures.value) floors homes.floors)));
       decided = zero.stored clean0 rows has;
-    }
+    }) c.fill_all-4.ensures.stored
 
 -- ---- whatever tables it has
 
 pub returns-clause-own : goal.returns-clause-own
-returns-clause-own g c clean =
+returns-clause-own g c = on_ok_weaker c.fill_all-4.result (λ _ clean.
     let bv = c.args.overlay.now.branches in
     let one = c.in_ok-fill_all.ensures in
-    let clean3 = clean_at c.in_ok-fill_all-4.ensures.says.says.survives clean in
+    let clean3 = clean_at c.fill_all-4.ensures.says.says.survives clean in
     let clean2 = clean_at c.in_ok-fill_all-3.ensures.says.says.survives clean3 in
     let clean1 = clean_at c.in_ok-fill_all-2.ensures.says.says.survives clean2 in
     subst (λ (slots : List BranchSlot). AllByRecursion HasOwnRow slots)
-    (sym (put_back bv _ c.fill_all.new.slots c.deref_mut.ensures.value c.fill_all.auto.slots)) (one.shown clean1)
+    (sym (put_back bv _ c.fill_all.new.slots c.deref_mut.ensures.value c.fill_all.auto.slots)) (one.shown clean1)) c.fill_all-4.ensures.remembers
