@@ -56,6 +56,35 @@ returns-in_err-write g c =
       remembers = tt;
     })
 
+pub returns-clause-wrote : goal.returns-clause-wrote
+returns-clause-wrote g c clean live records made =
+    let o = view c.judge-judged.result.overlay in
+    let j = c.judge-judged.ensures in
+    let fill = c.in_ok-fill.ensures in
+    let before : HasCleanDisk (state g.S.Store c.fill.new.tx.conn.now) =
+    elim c.if-judged-before.branch [
+      | then-judged-before+in_ok-write w ↦
+          clean_at w.in_ok-write.ensures.does.says.survives (rw w.tx-is at clean)
+      | else-judged-before w ↦ rw w.tx-is at clean
+    ] in
+    let stays = (fill.says.says.leaves before).0 in
+    let held = fill.stored before (homes_made c.args.batch records made) in
+    rw c.into_replies.ensures (answers_all _ _ c.args.batch _ records c.args.moment o c.judge-judged.result.replies.items
+    made refl fill.same (fill.shown before).branches held (λ _. (fill.shown before).kept) j.judged
+    (λ none. elim c.if-judged-before.branch [
+      | then-judged-before+in_ok-write w ↦ absurd (w.if-judged-before.true none)
+      | else-judged-before w ↦ rw w.tx-is stays.now
+    ]) j.rising
+    (elim c.if-judged-before.branch [
+      | then-judged-before+in_ok-write w ↦ inr (rw w.tx-is (ran_since stays.now
+          (adds_looked_up c.args.batch records (view c.fill.new.overlay) o _ made fill.same
+          (λ rows has. (held rows has).decided) j.next j.again.keys
+          (new_unkept _ c.args.batch _ records c.args.moment o c.judge-judged.result.replies.items made refl fill.same
+          (fill.shown before) j.judged))
+          (w.in_ok-write.ensures.ran (rw w.tx-is at clean) (still_in _ _ stays.goes_on live))))
+      | else-judged-before w ↦ inl (j.idle (omega (arith, w.if-judged-before.false)), rw w.tx-is stays.now)
+    ]))
+
 pub returns-clause-says : goal.returns-clause-says
 returns-clause-says g c records made =
     let j = c.judge-judged.ensures in
@@ -119,35 +148,6 @@ returns-clause-stored g c clean records made =
     (λ none. elim c.if-judged-before.branch [
       | then-judged-before+in_ok-write w ↦ absurd (w.if-judged-before.true none)
       | else-judged-before w ↦ rw w.tx-is ((fill.says.says.leaves before).0.now)
-    ]))
-
-pub returns-clause-wrote : goal.returns-clause-wrote
-returns-clause-wrote g c clean live records made =
-    let o = view c.judge-judged.result.overlay in
-    let j = c.judge-judged.ensures in
-    let fill = c.in_ok-fill.ensures in
-    let before : HasCleanDisk (state g.S.Store c.fill.new.tx.conn.now) =
-    elim c.if-judged-before.branch [
-      | then-judged-before+in_ok-write w ↦
-          clean_at w.in_ok-write.ensures.does.says.survives (rw w.tx-is at clean)
-      | else-judged-before w ↦ rw w.tx-is at clean
-    ] in
-    let stays = (fill.says.says.leaves before).0 in
-    let held = fill.stored before (homes_made c.args.batch records made) in
-    rw c.into_replies.ensures (answers_all _ _ c.args.batch _ records c.args.moment o c.judge-judged.result.replies.items
-    made refl fill.same (fill.shown before).branches held (λ _. (fill.shown before).kept) j.judged
-    (λ none. elim c.if-judged-before.branch [
-      | then-judged-before+in_ok-write w ↦ absurd (w.if-judged-before.true none)
-      | else-judged-before w ↦ rw w.tx-is stays.now
-    ]) j.rising
-    (elim c.if-judged-before.branch [
-      | then-judged-before+in_ok-write w ↦ inr (rw w.tx-is (ran_since stays.now
-          (adds_looked_up c.args.batch records (view c.fill.new.overlay) o _ made fill.same
-          (λ rows has. (held rows has).decided) j.next j.again.keys
-          (new_unkept _ c.args.batch _ records c.args.moment o c.judge-judged.result.replies.items made refl fill.same
-          (fill.shown before) j.judged))
-          (w.in_ok-write.ensures.ran (rw w.tx-is at clean) (still_in _ _ stays.goes_on live))))
-      | else-judged-before w ↦ inl (j.idle (omega (arith, w.if-judged-before.false)), rw w.tx-is stays.now)
     ]))
 
 pub returns-clause-count : goal.returns-clause-count

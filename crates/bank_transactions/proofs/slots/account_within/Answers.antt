@@ -1,5 +1,5 @@
 -- What the balance of an account tells.
-use Rattle.std.proofs.Common.{rules}
+use Rattle.std.proofs.Common.{rules, sym, ◌∙◌}
 use Rattle.store_rows.specs.declared.holders.Member.TheVariants.{Account}
 use Rattle.bank_transactions.proofs.{LookUps.recalled_at, LookUps.reads_after, ReadsInTurn.recall_failed}
 use Rattle.bank_transactions.proofs.{Broken.member_broken, Remembered.keeps_reading}
@@ -46,7 +46,8 @@ returns-then-is_some-is_open-clause-stored g c =
 pub returns-clause-stored : goal.returns-clause-stored
 returns-clause-stored g c clean rows has beside =
     account_held rows c.args.account c.in_ok-balance.balance c.args.floor c.args.branch
-    (c.in_ok-balance.ensures.recalls.answers clean rows has) beside (search rules) (search rules)
+    (c.in_ok-balance.ensures.recalls.answers clean rows has) beside (search rules)
+    (sym c.is_below.ensures ∙ c.if-is_below.false)
 
 -- ---- what is remembered
 
