@@ -1,19 +1,39 @@
-//! An end of a run that fails.
+//! The ends of a run, each of which fails where it is broken.
 use std::io::{self, ErrorKind, Read, Write};
 
-/// A reader whose reads fail, and a writer whose writes do.
-#[derive(Drop)]
-pub struct Broken;
+fn broken<T>() -> io::Result<T> {
+    Err(io::Error::from(ErrorKind::BrokenPipe))
+}
 
-impl Read for Broken {
-    fn read(&mut self, _buf: &mut [u8]) -> io::Result<usize> {
-        Err(io::Error::from(ErrorKind::BrokenPipe))
+/// Gives these bytes, or fails each read.
+#[derive(Drop)]
+pub struct Input<'a> {
+    pub rest: &'a [u8],
+    pub is_broken: bool,
+}
+
+impl<'a> Read for Input<'a> {
+    fn read(&mut self, buf: &mut [u8]) -> io::Result<usize> {
+        if self.is_broken {
+            return broken();
+        }
+        self.rest.read(buf)
     }
 }
 
-impl Write for Broken {
-    fn write(&mut self, _buf: &[u8]) -> io::Result<usize> {
-        Err(io::Error::from(ErrorKind::BrokenPipe))
+/// Keeps what is written, or fails each write.
+#[derive(Drop)]
+pub struct Output {
+    pub written: Vec<u8>,
+    pub is_broken: bool,
+}
+
+impl Write for Output {
+    fn write(&mut self, buf: &[u8]) -> io::Result<usize> {
+        if self.is_broken {
+            return broken();
+        }
+        self.written.write(buf)
     }
 
     fn flush(&mut self) -> io::Result<()> {

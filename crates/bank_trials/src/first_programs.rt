@@ -6,6 +6,7 @@ mod files;
 mod words;
 mod work;
 
+use crate::simulated::{Stopping, open_in_memory};
 use anyhow::{Result, bail};
 use bank_commands::{Ended, PlanFiles};
 use command_line::Status;
@@ -15,7 +16,7 @@ use endings::first_ending;
 pub use files::ask;
 use files::first_file;
 use posting_core::StoredClock;
-use sqlite::Connection;
+use sqlite_disk::{Fuse, Memory};
 use words::first_words;
 use work::first_drive;
 
@@ -28,7 +29,7 @@ pub fn play(rt: &HostRuntime, words: &str, input: &[u8], output: &mut Vec<u8>) -
         "file" => play_file(rt, files),
         "drive" => play_drive(rt, output),
         "ending" => Ok(first_ending(output, &mut rt.stderr())),
-        "commands" => play_commands(rt, files, input, output),
+        "commands" => play_commands::<Fuse<Memory>>(rt, files, input, output),
         "connections" => play_connections(rt, input, output),
         _ => bail!("no such program: {name}"),
     }
@@ -57,13 +58,13 @@ fn play_connections(rt: &HostRuntime, mut input: &[u8], output: &mut Vec<u8>) ->
     Ok(Status::Done)
 }
 
-fn play_commands(
+fn play_commands<F: Stopping>(
     rt: &HostRuntime,
     plan: &str,
     mut input: &[u8],
     output: &mut Vec<u8>,
 ) -> Result<Status> {
-    let conn = Connection::open_in_memory(rt.alloc())?;
+    let conn = open_in_memory::<F>(rt.alloc())?;
     let mut clock = StoredClock::new(Vec::new(rt.alloc()));
     let plans = PlanFiles::new(rt);
     let Ended { end, conn } = first_commands(

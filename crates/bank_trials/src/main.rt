@@ -38,9 +38,9 @@ mod simulated;
 mod tellers;
 
 use anyhow::Context;
-use bank_scenarios::play;
 use script::Script;
-use sqlite::Connection;
+use simulated::play_over;
+use sqlite_disk::{Fuse, Memory};
 use std::io;
 
 fn main(rt: HostRuntime) -> Result<(), anyhow::Error> {
@@ -65,7 +65,7 @@ fn play_runs(rt: &HostRuntime, text: &str) -> Result<(), anyhow::Error> {
 // What is above the first scenario is no step.
 fn play_scenarios(rt: &HostRuntime, text: &str) -> Result<(), anyhow::Error> {
     for scenario in text.split("\nbank ").skip(1) {
-        play(rt, Connection::open_in_memory(rt.alloc())?, scenario)?;
+        play_over::<Fuse<Memory>>(rt, scenario)?;
     }
     Ok(())
 }

@@ -1,6 +1,6 @@
 //! The lines of a script.
 use crate::asked::get;
-use crate::ends::Broken;
+use crate::ends::{Input, Output};
 use crate::first_programs;
 use crate::script_files::{compare, look, put, query, run_sql, write_lines};
 use crate::showing::tell;
@@ -111,15 +111,16 @@ impl Script {
 
     // Runs the program on these words, and keeps what it writes.
     fn run_words(&mut self, rt: &HostRuntime, words: &[&str]) -> (Status, Vec<u8>) {
-        let mut rest = self.input.as_slice();
-        let mut output = Vec::new(rt.alloc());
-        let typed = self.typed;
-        let (status, faults) = match self.fails {
-            Fails::Neither => run_between(rt, Unknown, words, &mut rest, typed, &mut output),
-            Fails::Input => run_between(rt, Unknown, words, &mut Broken, typed, &mut output),
-            Fails::Output => run_between(rt, Unknown, words, &mut rest, typed, &mut Broken),
+        let mut input = Input {
+            rest: self.input.as_slice(),
+            is_broken: matches!(self.fails, Fails::Input),
         };
-        self.output = output;
+        let mut output = Output {
+            written: Vec::new(rt.alloc()),
+            is_broken: matches!(self.fails, Fails::Output),
+        };
+        let (status, faults) = run_between(rt, Unknown, words, &mut input, self.typed, &mut output);
+        self.output = output.written;
         (status, faults)
     }
 

@@ -1,13 +1,16 @@
-//! Simulations over files in memory that crash at a call: what wasn't synced then is lost, kept, or torn.
+//! Simulations over files in memory that crash at a call: what wasn't synced then is lost, kept, or torn; and scenarios
+//! over such files that don't stop.
+ghost use Rattle.std.specs.Prelude.{◌≡◌, false, IfOk};
+
 use anyhow::{Context, Result, bail, ensure};
-use bank_scenarios::{Counts, End, Simulation};
-use sqlite::{Connection, Files, Options};
+use bank_scenarios::{Counts, End, Simulation, play as play_scenario};
+use sqlite::{Connection, FileStore, Files, Options};
 use sqlite_disk::{Crash, Disk, Fuse, Memory};
-use std::alloc::{AllocError, Global};
+use std::alloc::{Alloc, AllocError, Global};
 
 // A file that passes so many calls on, and fails each one after them. That simulations are over any such file keeps
 // their proof short.
-trait Stopping: Disk + Drop {
+pub trait Stopping: Disk + Drop {
     // A file with these bytes.
     fn over(alloc: Global, bytes: &[u8], calls: u64) -> Result<Self>;
 
@@ -214,6 +217,23 @@ fn replay_left<F: Stopping>(
     let end = replayed(alloc, simulation, files);
     ensure!(end == End::Done, "differs: a replay of what was left");
     Ok(())
+}
+
+/// A connection over new files in memory that don't stop.
+pub fn open_in_memory<F: Stopping>(alloc: Global) -> Result<Connection<FileStore<F>>>
+    ensures { IfOk result (λ conn. conn.in_transaction ≡ false) }
+{
+    let files = files_of::<F>(alloc, &Image::new(alloc), (u64::MAX, u64::MAX))?;
+    ensure!(files.may_be_used(), "new files");
+    match Connection::open_files(alloc, files, REPLAYED) {
+        Ok(conn) => Ok(conn),
+        Err((_, _left)) => bail!("new files that aren't opened"),
+    }
+}
+
+/// Plays a scenario, whose bank in tables lies in such files.
+pub fn play_over<F: Stopping>(rt: &(impl Print + Alloc<A = Global>), scenario: &str) -> Result<()> {
+    play_scenario(rt, open_in_memory::<F>(rt.alloc())?, scenario)
 }
 
 // The lives of a seed, until all is answered and found again.
