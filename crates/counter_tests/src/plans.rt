@@ -1,49 +1,55 @@
 //! Plans: sources and lists, and the plan or the fault that each gives.
 use branch_loader::{Plan, PlanFault, read_plan};
+use failing_ends::CutReader;
 use message_records::{Branch, Cents};
-use std::alloc::{Alloc, AllocError, Global};
-use std::io;
-use std::io::Read;
+use std::alloc::{Alloc, Global};
+use std::io::{ErrorKind, Read};
 use std::process::Abort;
 
-// How many rows the source's plan has, or the fault.
-fn rows_in<R: Read + Drop>(alloc: Global, mut source: R) -> Result<usize, PlanFault> {
-    Ok(read_plan(alloc, &mut source)?.rows().len())
+// The source's plan has so many rows, or this fault.
+fn is_read<R: Read>(
+    rt: &impl Alloc<A = Global>,
+    source: &mut R,
+    want: Result<usize, PlanFault>,
+) -> bool {
+    match read_plan(rt.alloc(), source) {
+        Ok(plan) => want == Ok(plan.rows().len()),
+        Err(fault) => want == Err(fault),
+    }
 }
 
-// Writes the source after a byte order mark, if there is to be one, and with these line ends.
-pub fn write(
-    text: &mut Vec<u8>,
+// The parts after a byte order mark, if there is to be one, and with these line ends.
+pub fn written(
+    rt: &(impl Abort + Alloc<A = Global>),
     mark: bool,
     line_end: &[u8],
-    source: &[u8],
-) -> Result<(), AllocError> {
+    parts: &[&[u8]],
+) -> Vec<u8> {
+    let mut text = Vec::new(rt.alloc());
     if mark {
-        text.extend_from_slice(b"\xEF\xBB\xBF")?;
+        text.extend_from_slice(b"\xEF\xBB\xBF").expect(rt, "memory");
     }
-    for byte in source {
-        if *byte == b'\n' {
-            text.extend_from_slice(line_end)?;
-        } else {
-            text.push(*byte)?;
+    for part in parts {
+        for byte in *part {
+            if *byte == b'\n' {
+                text.extend_from_slice(line_end).expect(rt, "memory");
+            } else {
+                text.push(*byte).expect(rt, "memory");
+            }
         }
     }
-    Ok(())
+    text
 }
 
 pub const LINE_ENDS: [&[u8]; 3] = [b"\n", b"\r\n", b"\r"];
 
-// The source gives this with each line end, after a byte order mark or with none.
-fn gives(
-    rt: &(impl Abort + Alloc<A = Global>),
-    mark: bool,
-    source: &[u8],
-    want: Result<usize, PlanFault>,
-) {
+// The source gives this with each line end, after a byte order mark and with none.
+fn gives(rt: &(impl Abort + Alloc<A = Global>), source: &[u8], want: Result<usize, PlanFault>) {
     for line_end in &LINE_ENDS {
-        let mut text = Vec::new(rt.alloc());
-        write(&mut text, mark, line_end, source).expect(rt, "memory");
-        assert_eq!(rt; rows_in(rt.alloc(), text.as_slice()), want);
+        for mark in [false, true] {
+            let text = written(rt, mark, line_end, &[source]);
+            assert!(rt; is_read(rt, &mut text.as_slice(), want));
+        }
     }
 }
 
@@ -110,8 +116,7 @@ const SOURCES: [(&[u8], Result<usize, PlanFault>); 36] = [
 #[test]
 fn sources(rt: HostRuntime) {
     for (source, want) in &SOURCES {
-        gives(&rt, false, source, *want);
-        gives(&rt, true, source, *want);
+        gives(&rt, source, *want);
     }
 }
 
@@ -123,81 +128,52 @@ fn rows_in_their_order(rt: HostRuntime) {
         (Branch::new(22).unwrap(), 100_000, None),
         (Branch::new(3).unwrap(), 2, None),
     ];
-    assert_eq!(rt; plan.rows(), rows.as_slice());
-}
-
-// Gives a part of its text at a time, and fails after it.
-#[derive(Drop)]
-struct Failing<'a> {
-    text: &'a [u8],
-}
-
-impl<'a> Read for Failing<'a> {
-    fn read(&mut self, buffer: &mut [u8]) -> io::Result<usize> {
-        match (self.text.split_first(), buffer.first_mut()) {
-            (Some((byte, rest)), Some(place)) => {
-                *place = *byte;
-                self.text = rest;
-                Ok(1)
-            }
-            _ => Err(io::Error::from(io::ErrorKind::BrokenPipe)),
-        }
-    }
+    assert!(rt; plan.rows() == rows.as_slice());
 }
 
 #[test]
 fn a_failing_source(rt: HostRuntime) {
     let whole = b"branch,accounts\n1,3\n2,2\n".as_slice();
-    for i in 0..whole.len() + 1 {
-        let source = Failing { text: &whole[..i] };
-        assert_eq!(rt; rows_in(rt.alloc(), source), Err(PlanFault::Csv));
+    for i in 0..=whole.len() {
+        let mut source = CutReader {
+            before: &whole[..i],
+            fault: Some(ErrorKind::BrokenPipe),
+            after: b"",
+        };
+        assert!(rt; is_read(&rt, &mut source, Err(PlanFault::Csv)));
     }
 }
 
-// How many rows the plan of these two rows has, or the fault.
+// The second row of a list whose first one is branch 1 with one account, and how many rows its plan has.
+const SECOND_ROWS: [(u64, u32, Option<i64>, Result<usize, PlanFault>); 9] = [
+    (1, 3, None, Err(PlanFault::Twice(2))),
+    (9999, 100_000, None, Ok(2)),
+    (10_000, 1, None, Err(PlanFault::Branch(2))),
+    (999_999, 0, None, Err(PlanFault::Branch(2))),
+    (2, 0, None, Err(PlanFault::Accounts(2))),
+    (2, 100_001, None, Err(PlanFault::Accounts(2))),
+    (2, 1, Some(0), Ok(2)),
+    (2, 1, Some(-999_999_999_999), Ok(2)),
+    (2, 1, Some(1), Err(PlanFault::Floor(2))),
+];
+
+// How many rows the plan of these rows has, or the fault.
 fn rows_of(
     rt: &(impl Abort + Alloc<A = Global>),
-    rows: &[(Branch, u32, Option<Cents>); 2],
+    rows: &[(Branch, u32, Option<Cents>)],
 ) -> Result<usize, PlanFault> {
     let mut list = Vec::new(rt.alloc());
     list.extend_from_slice(rows).expect(rt, "memory");
     Ok(Plan::from_list(list)?.rows().len())
 }
 
-// The second row of a list whose first one is branch 1 with one account, and how many rows its plan has.
-const SECOND_ROWS: [(u64, u32, Result<usize, PlanFault>); 6] = [
-    (1, 3, Err(PlanFault::Twice(2))),
-    (9999, 100_000, Ok(2)),
-    (10_000, 1, Err(PlanFault::Branch(2))),
-    (999_999, 0, Err(PlanFault::Branch(2))),
-    (2, 0, Err(PlanFault::Accounts(2))),
-    (2, 100_001, Err(PlanFault::Accounts(2))),
-];
-
 #[test]
 fn lists(rt: HostRuntime) {
     let first = Branch::new(1).unwrap();
-    for (branch, accounts, want) in &SECOND_ROWS {
-        let second = Branch::new(*branch).expect(&rt, "a branch");
-        let rows = [(first, 1, None), (second, *accounts, None)];
-        assert_eq!(rt; rows_of(&rt, &rows), *want);
-    }
-}
-
-// The floor of a second row, and how many rows its plan has.
-const FLOORS: [(i64, Result<usize, PlanFault>); 3] = [
-    (0, Ok(2)),
-    (-999_999_999_999, Ok(2)),
-    (1, Err(PlanFault::Floor(2))),
-];
-
-#[test]
-fn lists_with_floors(rt: HostRuntime) {
-    let first = Branch::new(1).unwrap();
-    let second = Branch::new(2).unwrap();
-    for (floor, want) in &FLOORS {
-        let floor = Cents::new(*floor).expect(&rt, "a floor");
-        let rows = [(first, 1, None), (second, 1, Some(floor))];
-        assert_eq!(rt; rows_of(&rt, &rows), *want);
+    for (branch, accounts, floor, want) in &SECOND_ROWS {
+        let branch = Branch::new(*branch).expect(&rt, "a branch");
+        let floor = floor.and_then(Cents::new);
+        let rows = [(first, 1, None), (branch, *accounts, floor)];
+        assert!(rt; rows_of(&rt, &rows) == *want);
     }
 }
