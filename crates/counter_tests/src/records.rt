@@ -1,284 +1,163 @@
 //! The formats of records by worked examples and fault by fault, and the ends of the ranges.
 use message_records::{
-    Account, Bad, BadReply, Branch, Cents, Moment, Number, Outcome, REPLY_BYTES, REQUEST_BYTES,
-    Reference, Reply, Request, Teller, decode_reply, decode_request, encode_reply, encode_request,
-    one_spelling,
+    Account, Bad, BadReply, Branch, Cents, Moment, Number, Outcome, Reference, Reply, Request,
+    Teller, decode_reply, decode_request, encode_reply, encode_request, one_spelling,
 };
 use std::process::Abort;
 
-const DEPOSIT: &[u8; 51] = b"DC01000000000001000000010000010000000001+0000000500";
+const DEPOSIT: &[u8] = b"DC01000000000001000000010000010000000001+0000000500";
 
-const RENT: &[u8; 71] = b"DC02000000000001000000010000010000000001+0000000500RENT MAY            ";
+const RENT: &[u8] = b"DC02000000000001000000010000010000000001+0000000500RENT MAY            ";
 
-const POSTED: &[u8; 72] =
-    b"DR0100000000000001000000010000010000000001+0000000500+000000000500POSTED";
+const POSTED: &[u8] = b"DR0100000000000001000000010000010000000001+0000000500+000000000500POSTED";
 
-const MALFORMED: &[u8; 75] =
+const MALFORMED: &[u8] =
     b"DR0190000000000000000000000000000000000000+0000000000+000000000000MALFORMED";
 
-// Faults field by field; those of the fillers stand in their test.
-const FAULTY_REQUESTS: [(&[u8; 51], Bad); 6] = [
+// What a record begins with, what stands at a place of it instead, and its fault; of several faults the first is told.
+const FAULTY_REQUESTS: &[(&[u8], usize, &[u8], Bad)] = &[
+    (DEPOSIT, 3, b"3", Bad::Tag),
+    (DEPOSIT, 15, b"0", Bad::Account),
+    (DEPOSIT, 19, b"A", Bad::Teller),
+    (DEPOSIT, 29, b"0", Bad::Branch),
+    (DEPOSIT, 35, b" ", Bad::Number),
+    (DEPOSIT, 40, b"-0000000000", Bad::Delta),
+    (DEPOSIT, 99, b"X", Bad::Filler),
+    (RENT, 99, b"X", Bad::Filler),
     (
-        b"DC03000000000001000000010000010000000001+0000000500",
-        Bad::Tag,
+        RENT,
+        51,
+        b"\x7fENT MAY                                        X",
+        Bad::Reference,
     ),
     (
-        b"DC01000000000000000000010000010000000001+0000000500",
-        Bad::Account,
-    ),
-    (
-        b"DC01000000000001000A00010000010000000001+0000000500",
-        Bad::Teller,
-    ),
-    (
-        b"DC01000000000001000000010000000000000001+0000000500",
-        Bad::Branch,
-    ),
-    (
-        b"DC010000000000010000000100000100000 0001+0000000500",
-        Bad::Number,
-    ),
-    (
-        b"DC01000000000001000000010000010000000001-0000000000",
+        RENT,
+        50,
+        b" \x7fENT MAY                                        X",
         Bad::Delta,
     ),
 ];
 
-const FAULTY_REPLIES: [(&[u8], BadReply); 9] = [
-    (
-        b"DR0200000000000001000000010000010000000001+0000000500+000000000500POSTED",
-        BadReply::Tag,
-    ),
-    (
-        b"DR0118000000000001000000010000010000000001+0000000500+000000000000POSTED",
-        BadReply::Outcome,
-    ),
-    (
-        b"DR0100000000000000000000010000010000000001+0000000500+000000000500POSTED",
-        BadReply::Account,
-    ),
-    (
-        b"DR0190000000000000000000010000000000000000+0000000000+000000000000MALFORMED",
-        BadReply::Teller,
-    ),
-    (
-        b"DR010000000000000100000001000A010000000001+0000000500+000000000500POSTED",
-        BadReply::Branch,
-    ),
-    (
-        b"DR0100000000000001000000010000010000000000+0000000500+000000000500POSTED",
-        BadReply::Number,
-    ),
-    (
-        b"DR0190000000000000000000000000000000000000-0000000000+000000000000MALFORMED",
-        BadReply::Delta,
-    ),
-    (
-        b"DR0115000000000001000000010000010000000001+0000000500+000000000001REUSED NUMBER",
-        BadReply::Balance,
-    ),
-    (
-        b"DR0113000000000001000000010000010000000001+0000000500+000000000000NO TELLER",
-        BadReply::Name,
-    ),
+const FAULTY_REPLIES: &[(&[u8], usize, &[u8], BadReply)] = &[
+    (POSTED, 3, b"2", BadReply::Tag),
+    (POSTED, 4, b"18", BadReply::Outcome),
+    (POSTED, 17, b"0", BadReply::Account),
+    (MALFORMED, 25, b"1", BadReply::Teller),
+    (POSTED, 29, b"A", BadReply::Branch),
+    (POSTED, 41, b"0", BadReply::Number),
+    (MALFORMED, 42, b"-", BadReply::Delta),
+    (POSTED, 4, b"15", BadReply::Balance),
+    (MALFORMED, 66, b"NO TELLER", BadReply::Name),
+    (POSTED, 82, b"a", BadReply::Filler),
 ];
 
-// A record that begins so, and goes on with spaces.
-fn record_of<const SIZE: usize>(rt: &impl Abort, front: &[u8]) -> [u8; SIZE] {
-    assert!(rt; front.len() <= SIZE);
-    let mut bytes = [b' '; SIZE];
-    let all = &mut bytes[..];
-    all[..front.len()].copy_from_slice(front);
-    bytes
+fn put(rt: &impl Abort, record: &mut [u8], at: usize, bytes: &[u8]) {
+    assert!(rt; at <= record.len() && bytes.len() <= record.len() - at);
+    record[at..at + bytes.len()].copy_from_slice(bytes);
 }
 
-fn deposit_of(delta: Cents) -> Option<Request> {
+// A record that begins so, and goes on with spaces, but has these bytes at a place.
+fn record_of<const SIZE: usize>(
+    rt: &impl Abort,
+    front: &[u8],
+    at: usize,
+    bytes: &[u8],
+) -> [u8; SIZE] {
+    let mut record = [b' '; SIZE];
+    put(rt, &mut record, 0, front);
+    put(rt, &mut record, at, bytes);
+    record
+}
+
+// A request to account 1, by teller 1 of branch 1, under the number 1.
+fn request_of(cents: i64, reference: Option<Reference>) -> Option<Request> {
     let account = Account::new(1).unwrap();
     let teller = Teller::new(1).unwrap();
     let branch = Branch::new(1).unwrap();
     let number = Number::new(1).unwrap();
-    Request::new(account, teller, branch, number, delta, None)
+    let delta = Cents::new(cents)?;
+    Request::new(account, teller, branch, number, delta, reference)
 }
 
-// The request of `DEPOSIT`.
-fn deposit() -> Option<Request> {
-    deposit_of(Cents::new(500).unwrap())
+fn is_reply(rt: &impl Abort, front: &[u8], reply: Option<Reply>) {
+    let reply = reply.expect(rt, "a reply");
+    let bytes = record_of(rt, front, 0, b"");
+    assert!(rt; decode_reply(&bytes) == Ok(reply));
+    assert!(rt; encode_reply(&reply) == bytes);
+}
+
+// The record that begins so and the request are read and written as one another. A reply shows the request without its
+// reference.
+fn is_deposit(rt: &impl Abort, front: &[u8], reference: Option<Reference>) {
+    let request = request_of(500, reference).expect(rt, "a request");
+    let bytes = record_of(rt, front, 0, b"");
+    assert!(rt; decode_request(&bytes) == Ok(request));
+    assert!(rt; encode_request(&request) == bytes);
+    let posted = Reply::new(Outcome::Posted, Some(request), Cents::new(500));
+    is_reply(rt, POSTED, posted);
 }
 
 #[test]
-fn requests(rt: HostRuntime) {
+fn requests_and_replies(rt: HostRuntime) {
     one_spelling();
-    let deposit = deposit().expect(&rt, "a request");
-    let bytes = record_of(&rt, DEPOSIT);
-    assert_eq!(rt; decode_request(&bytes), Ok(deposit));
-    assert_eq!(rt; encode_request(&deposit), bytes);
-}
-
-// The request of `RENT`.
-fn rent() -> Option<Request> {
-    let account = Account::new(1).unwrap();
-    let teller = Teller::new(1).unwrap();
-    let branch = Branch::new(1).unwrap();
-    let number = Number::new(1).unwrap();
-    let delta = Cents::new(500).unwrap();
-    let may = Reference::new(b"RENT MAY            ")?;
-    Request::new(account, teller, branch, number, delta, Some(may))
-}
-
-#[test]
-fn requests_with_a_reference(rt: HostRuntime) {
-    let rent = rent().expect(&rt, "a request");
-    let bytes: [u8; REQUEST_BYTES] = record_of(&rt, RENT);
-    assert_eq!(rt; decode_request(&bytes), Ok(rent));
-    assert_eq!(rt; encode_request(&rent), bytes);
-    // A reply shows the request without it.
-    let posted = Reply::new(Outcome::Posted, Some(rent), Cents::new(500));
-    belong_together(&rt, POSTED, &posted.expect(&rt, "a reply"));
-}
-
-// A letter behind a reference, then a byte in it that isn't printable, and then a space in the amount.
-#[test]
-fn faults_beside_a_reference(rt: HostRuntime) {
-    let mut bytes: [u8; REQUEST_BYTES] = record_of(&rt, RENT);
-    bytes[99] = b'X';
-    assert_eq!(rt; decode_request(&bytes), Err(Bad::Filler));
-    bytes[51] = 0x7f;
-    assert_eq!(rt; decode_request(&bytes), Err(Bad::Reference));
-    bytes[50] = b' ';
-    assert_eq!(rt; decode_request(&bytes), Err(Bad::Delta));
-}
-
-// Spaces alone are a reference; a byte less, a byte more or one that isn't printable are none.
-#[test]
-fn ends_of_references(rt: HostRuntime) {
-    let text = [b' '; 21];
-    assert!(rt; Reference::new(&text[..20]).is_some());
-    assert!(rt; Reference::new(&text[..19]).is_none());
-    assert!(rt; Reference::new(&text).is_none());
-    assert!(rt; Reference::new(b"~~~~~~~~~~~~~~~~~~~~").is_some());
-    assert!(rt; Reference::new(b"~~~~~~~~~~~~~~~~~~~\x1f").is_none());
-    assert!(rt; Reference::new(b"\x7f~~~~~~~~~~~~~~~~~~~").is_none());
-}
-
-// The record that begins so and the reply are read and written as one another.
-fn belong_together(rt: &impl Abort, front: &[u8], reply: &Reply) {
-    let bytes = record_of(rt, front);
-    assert_eq!(rt; decode_reply(&bytes), Ok(*reply));
-    assert_eq!(rt; encode_reply(reply), bytes);
-}
-
-#[test]
-fn replies(rt: HostRuntime) {
-    let posted = Reply::new(Outcome::Posted, deposit(), Cents::new(500));
-    belong_together(&rt, POSTED, &posted.expect(&rt, "a reply"));
-    let malformed = Reply::new(Outcome::Malformed, None, None);
-    belong_together(&rt, MALFORMED, &malformed.expect(&rt, "a reply"));
+    is_deposit(&rt, DEPOSIT, None);
+    is_deposit(&rt, RENT, Reference::new(b"RENT MAY            "));
+    is_reply(&rt, MALFORMED, Reply::new(Outcome::Malformed, None, None));
 }
 
 #[test]
 fn faulty_requests(rt: HostRuntime) {
-    for (front, fault) in &FAULTY_REQUESTS {
-        let answer = decode_request(&record_of(&rt, *front));
-        assert_eq!(rt; answer.err(), Some(*fault));
+    for &(front, at, bytes, fault) in FAULTY_REQUESTS {
+        let answer = decode_request(&record_of(&rt, front, at, bytes));
+        assert!(rt; answer.err() == Some(fault));
     }
 }
 
 #[test]
 fn faulty_replies(rt: HostRuntime) {
-    for (front, fault) in &FAULTY_REPLIES {
-        let answer = decode_reply(&record_of(&rt, front));
-        assert_eq!(rt; answer.err(), Some(*fault));
+    for &(front, at, bytes, fault) in FAULTY_REPLIES {
+        let answer = decode_reply(&record_of(&rt, front, at, bytes));
+        assert!(rt; answer.err() == Some(fault));
     }
 }
 
-#[test]
-fn faulty_fillers(rt: HostRuntime) {
-    let mut request: [u8; REQUEST_BYTES] = record_of(&rt, DEPOSIT);
-    request[99] = b'X';
-    assert_eq!(rt; decode_request(&request), Err(Bad::Filler));
-    let mut reply: [u8; REPLY_BYTES] = record_of(&rt, POSTED);
-    reply[82] = b'a';
-    assert_eq!(rt; decode_reply(&reply), Err(BadReply::Filler));
-}
-
-// Whether there is a number of each kind below its least, at its least, at its most and above that.
-fn accounts() -> [bool; 4] {
-    [
-        Account::new(0).is_some(),
-        Account::new(1).is_some(),
-        Account::new(999_999_999_999).is_some(),
-        Account::new(1_000_000_000_000).is_some(),
-    ]
-}
-
-fn tellers() -> [bool; 4] {
-    [
-        Teller::new(0).is_some(),
-        Teller::new(1).is_some(),
-        Teller::new(99_999_999).is_some(),
-        Teller::new(100_000_000).is_some(),
-    ]
-}
-
-fn branches() -> [bool; 4] {
-    [
-        Branch::new(0).is_some(),
-        Branch::new(1).is_some(),
-        Branch::new(999_999).is_some(),
-        Branch::new(1_000_000).is_some(),
-    ]
-}
-
-fn request_numbers() -> [bool; 4] {
-    [
-        Number::new(0).is_some(),
-        Number::new(1).is_some(),
-        Number::new(9_999_999_999).is_some(),
-        Number::new(10_000_000_000).is_some(),
-    ]
-}
-
-// None is below the least moment, which is 0.
-fn moments() -> [bool; 3] {
-    [
-        Moment::new(0).is_some(),
-        Moment::new(253_402_300_799).is_some(),
-        Moment::new(253_402_300_800).is_some(),
-    ]
-}
+// Spaces alone are a reference; a byte less, a byte more or one that isn't printable are none.
+const REFERENCES: [(&[u8], bool); 6] = [
+    (b"                    ", true),
+    (b"                   ", false),
+    (b"                     ", false),
+    (b"~~~~~~~~~~~~~~~~~~~~", true),
+    (b"~~~~~~~~~~~~~~~~~~~\x1f", false),
+    (b"\x7f~~~~~~~~~~~~~~~~~~~", false),
+];
 
 #[test]
-fn ends_of_numbers(rt: HostRuntime) {
-    let kinds = [accounts(), tellers(), branches(), request_numbers()];
-    assert_eq!(rt; kinds, [[false, true, true, false]; 4]);
-    assert_eq!(rt; moments(), [true, true, false]);
+fn ends_of_references(rt: HostRuntime) {
+    for (text, want) in &REFERENCES {
+        assert!(rt; Reference::new(text).is_some() == *want);
+    }
 }
 
-// Whether there is an amount below the least, at either end and above the most.
-fn amounts() -> [bool; 4] {
-    [
-        Cents::new(-1_000_000_000_000).is_some(),
-        Cents::new(-999_999_999_999).is_some(),
-        Cents::new(999_999_999_999).is_some(),
-        Cents::new(1_000_000_000_000).is_some(),
-    ]
-}
-
-// Likewise for the amounts that a request may add.
-fn deltas() -> [bool; 4] {
-    [
-        deposit_of(Cents::new(-10_000_000_000).unwrap()).is_some(),
-        deposit_of(Cents::new(-9_999_999_999).unwrap()).is_some(),
-        deposit_of(Cents::new(9_999_999_999).unwrap()).is_some(),
-        deposit_of(Cents::new(10_000_000_000).unwrap()).is_some(),
-    ]
-}
+// A number, whether it is an amount, and whether a request may add it.
+const AMOUNTS: [(i64, bool, bool); 8] = [
+    (-1_000_000_000_000, false, false),
+    (-999_999_999_999, true, false),
+    (-10_000_000_000, true, false),
+    (-9_999_999_999, true, true),
+    (9_999_999_999, true, true),
+    (10_000_000_000, true, false),
+    (999_999_999_999, true, false),
+    (1_000_000_000_000, false, false),
+];
 
 #[test]
-fn ends_of_amounts(rt: HostRuntime) {
-    let inside = [false, true, true, false];
-    assert_eq!(rt; amounts(), inside);
-    assert_eq!(rt; deltas(), inside);
+fn ends_of_amounts_and_moments(rt: HostRuntime) {
+    for (cents, is_amount, is_added) in &AMOUNTS {
+        assert!(rt; Cents::new(*cents).is_some() == *is_amount);
+        assert!(rt; request_of(*cents, None).is_some() == *is_added);
+    }
+    assert!(rt; Moment::new(0).is_some() && Moment::new(253_402_300_799).is_some());
+    assert!(rt; Moment::new(253_402_300_800).is_none());
 }
 
 // Parts of which some are missing or too many: the outcome, and whether there are a request and a balance.
@@ -294,9 +173,13 @@ const LOOSE_PARTS: [(Outcome, bool, bool); 6] = [
 #[test]
 fn parts_that_do_not_belong_together(rt: HostRuntime) {
     for (outcome, with_request, with_balance) in &LOOSE_PARTS {
-        let request = if *with_request { deposit() } else { None };
+        let request = if *with_request {
+            request_of(500, None)
+        } else {
+            None
+        };
         let balance = if *with_balance { Cents::new(500) } else { None };
-        assert_eq!(rt; Reply::new(*outcome, request, balance), None, "{outcome}");
+        assert!(rt; Reply::new(*outcome, request, balance).is_none());
     }
 }
 
@@ -307,8 +190,6 @@ fn printed(rt: HostRuntime) {
     let outcome = Outcome::ReusedNumber;
     let (bad, bad_reply) = (Bad::Delta, BadReply::Balance);
     let text = format!(in rt.alloc(); "{account} {cents} {outcome}, {bad}, {bad_reply}");
-    assert_eq!(rt;
-        text.expect(&rt, "memory").as_str(),
-        "100001 -700 REUSED NUMBER, faulty delta, faulty balance"
-    );
+    let want = "100001 -700 REUSED NUMBER, faulty delta, faulty balance";
+    assert!(rt; text.expect(&rt, "memory").as_str() == want);
 }
