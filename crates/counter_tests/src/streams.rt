@@ -1,9 +1,8 @@
 //! Streams over ends and a bank that fail, at every byte.
-use failing_ends::{CutReader, CutWriter, Failing, FailingBank, open_both};
-use message_records::{Account, Moment, REPLY_BYTES, REQUEST_BYTES};
+use failing_ends::{CutReader, CutWriter, Failing, FailingBank, balances, open_both};
+use message_records::{Moment, REPLY_BYTES, REQUEST_BYTES};
 use posting_core::{
-    Clock, Count, Counter, Fault, PlainBank, RECORDS_PER_BATCH, StoredClock, StreamFault,
-    post_stream,
+    Clock, Count, Counter, Fault, PlainBank, StoredClock, StreamFault, post_stream,
 };
 use std::alloc::{Alloc, Global};
 use std::io::{ErrorKind, Read, Write};
@@ -51,64 +50,53 @@ fn two_replies() -> [u8; 400] {
     replies
 }
 
-// So many times the same bytes.
-fn repeated(rt: &(impl Abort + Alloc<A = Global>), bytes: &[u8], times: u8) -> Vec<u8> {
-    let mut all = Vec::new(rt.alloc());
-    for _ in 0..times {
-        all.extend_from_slice(bytes).expect(rt, "memory");
-    }
-    all
-}
-
-// How a stream ended on a fresh bank, and the balances then of the accounts that the two records name.
+// How a stream ends, and the balances then of the accounts that the two records name.
 type Ended = (Result<Count, StreamFault>, (i64, i64));
 
-fn balance_of<C: Counter>(rt: &impl Abort, bank: &mut C, account: Account) -> i64 {
-    let balance = bank.balance(account).expect(rt, "a bank");
-    balance.expect(rt, "an open account").get()
-}
-
-fn streamed_to<R: Read, W: Write, C: Counter>(
+fn play<R: Read, W: Write, C: Counter>(
     rt: &(impl Abort + Alloc<A = Global>),
     reader: &mut R,
     writer: &mut W,
     bank: &mut C,
-) -> Ended {
+    (end, left): Ended,
+) {
     assert!(rt; open_both(bank).is_ok());
     let mut clock = StoredClock::new(Vec::new(rt.alloc()));
-    let result = post_stream(reader, writer, &mut clock, bank);
-    let first = balance_of(rt, bank, Account::new(1).unwrap());
-    let remote = balance_of(rt, bank, Account::new(100_001).unwrap());
-    (result, (first, remote))
+    assert!(rt; post_stream(reader, writer, &mut clock, bank) == end);
+    assert!(rt; balances(bank) == Some(left));
 }
 
-fn streamed<R: Read, W: Write>(
+// A stream on a new bank ends so.
+pub fn ends<R: Read, W: Write>(
     rt: &(impl Abort + Alloc<A = Global>),
     reader: &mut R,
     writer: &mut W,
-) -> Ended {
-    streamed_to(rt, reader, writer, &mut PlainBank::new(rt.alloc()))
+    wanted: Ended,
+) {
+    play(rt, reader, writer, &mut PlainBank::new(rt.alloc()), wanted);
 }
 
-// The reader's stream ends so, with these replies.
-fn ends<R: Read>(
+// The stream ends so where the writer has room for these replies alone, and these are what it takes.
+fn answers<R: Read>(
     rt: &(impl Abort + Alloc<A = Global>),
     reader: &mut R,
+    fault: Option<ErrorKind>,
     wanted: Ended,
     replies: &[u8],
 ) {
-    let mut output: Vec<u8> = Vec::new(rt.alloc());
-    let ended = streamed(rt, reader, &mut output);
-    assert_eq!(rt; ended, wanted);
-    assert_eq!(rt; output.as_slice(), replies);
+    let mut writer = CutWriter::new(rt.alloc(), replies.len(), fault);
+    ends(rt, reader, &mut writer, wanted);
+    assert!(rt; writer.taken.as_slice() == replies);
 }
 
 // The same record 130 times: two full buffers and a part of one.
 #[test]
 fn a_long_stream(rt: HostRuntime) {
-    let input = repeated(&rt, &first_record(), 130);
-    let replies = repeated(&rt, &first_reply(), 130);
-    ends(&rt, &mut input.as_slice(), (Ok(130), (500, 0)), &replies);
+    let input = [first_record(); 130];
+    let replies = [first_reply(); 130];
+    let mut reader = input.as_flattened();
+    let wanted = (Ok(130), (500, 0));
+    answers(&rt, &mut reader, None, wanted, replies.as_flattened());
 }
 
 // How a stream of two records and a part ends whose reader fails after so many bytes, and how many records
@@ -132,19 +120,18 @@ fn balances_after(count: usize, replies: &[u8; 400]) -> ((i64, i64), &[u8]) {
 // The reader fails between these bytes.
 fn read_in_two(
     rt: &(impl Abort + Alloc<A = Global>),
-    before: &[u8],
-    after: &[u8],
+    (before, after): (&[u8], &[u8]),
     fault: ErrorKind,
     replies: &[u8; 400],
 ) {
+    let (fault, (end, count)) = (Some(fault), ended_at(before.len(), fault));
     let mut reader = CutReader {
         before,
-        fault: Some(fault),
+        fault,
         after,
     };
-    let (result, count) = ended_at(before.len(), fault);
-    let (balances, answers) = balances_after(count, replies);
-    ends(rt, &mut reader, (Err(result), balances), answers);
+    let (balances, replies) = balances_after(count, replies);
+    answers(rt, &mut reader, None, (Err(end), balances), replies);
 }
 
 #[test]
@@ -152,82 +139,47 @@ fn a_reader_that_fails_at_each_byte(rt: HostRuntime) {
     let input = truncated_input();
     let replies = two_replies();
     for at in 0..=input.len() {
-        let (before, after) = input.split_at(at);
-        read_in_two(&rt, before, after, ErrorKind::BrokenPipe, &replies);
-        read_in_two(&rt, before, after, ErrorKind::Interrupted, &replies);
+        let parts = input.split_at(at);
+        read_in_two(&rt, parts, ErrorKind::BrokenPipe, &replies);
+        read_in_two(&rt, parts, ErrorKind::Interrupted, &replies);
     }
 }
 
 // The writer takes so many bytes of the replies, and then fails, or takes none.
-fn written_in_part(
-    rt: &(impl Abort + Alloc<A = Global>),
-    input: &[u8],
-    replies: &[u8],
-    fault: Option<ErrorKind>,
-    wanted: StreamFault,
-) {
-    let mut writer = CutWriter {
-        taken: Vec::new(rt.alloc()),
-        most: replies.len(),
-        fault,
-        writes: 0,
-    };
-    let mut reader = input;
-    let ended = streamed(rt, &mut reader, &mut writer);
-    assert_eq!(rt; ended, (Err(wanted), (500, -700)));
-    assert_eq!(rt; writer.taken.as_slice(), replies);
-}
-
 #[test]
 fn a_writer_that_fails_at_each_byte(rt: HostRuntime) {
     let input = truncated_input();
     let replies = two_replies();
-    let fault = Some(ErrorKind::BrokenPipe);
-    for most in 0..replies.len() {
-        let part = &replies[..most];
-        written_in_part(&rt, &input, part, None, StreamFault::Write);
-        written_in_part(&rt, &input, part, fault, StreamFault::Write);
+    for most in 0..=replies.len() {
+        for fault in [None, Some(ErrorKind::BrokenPipe)] {
+            // After the last byte only the flush can fail.
+            let end = match fault {
+                None if most == replies.len() => StreamFault::Truncated(50),
+                _ => StreamFault::Write,
+            };
+            let wanted = (Err(end), (500, -700));
+            answers(&rt, &mut input.as_slice(), fault, wanted, &replies[..most]);
+        }
     }
-    // After the last byte only the flush can fail.
-    written_in_part(&rt, &input, &replies, None, StreamFault::Truncated(50));
-    written_in_part(&rt, &input, &replies, fault, StreamFault::Write);
 }
 
-// How three streams of the first record end.
-fn three_streams<C: Counter>(
-    bank: &mut C,
-    clock: &mut StoredClock,
-    output: &mut Vec<u8>,
-) -> [Result<Count, StreamFault>; 3] {
-    let record = first_record();
-    [
-        post_stream(&mut record.as_slice(), output, clock, bank),
-        post_stream(&mut record.as_slice(), output, clock, bank),
-        post_stream(&mut record.as_slice(), output, clock, bank),
-    ]
-}
-
-// On a bank whose store fails in the second of them.
+// Of three streams of the first record the second meets a store that fails.
 #[test]
 fn a_store_that_fails(rt: HostRuntime) {
-    let mut bank = FailingBank {
-        bank: PlainBank::new(rt.alloc()),
-        left: 1,
-        most: RECORDS_PER_BATCH,
-        failing: Failing::Store,
-        down: false,
-    };
-    assert!(rt; open_both(&mut bank.bank).is_ok());
+    let bank = FailingBank::new(rt.alloc(), 1, Failing::Store);
+    let mut bank = bank.expect(&rt, "a bank");
     let mut clock = StoredClock::new(Vec::new(rt.alloc()));
     let mut output: Vec<u8> = Vec::new(rt.alloc());
-    let results = three_streams(&mut bank, &mut clock, &mut output);
-    let wanted = [
+    let record = first_record();
+    for wanted in [
         Ok(1),
         Err(StreamFault::Bank(Fault::Store)),
         Err(StreamFault::Bank(Fault::Down)),
-    ];
-    assert_eq!(rt; results, wanted);
-    assert_eq!(rt; output.as_slice(), first_reply().as_slice());
+    ] {
+        let end = post_stream(&mut record.as_slice(), &mut output, &mut clock, &mut bank);
+        assert!(rt; end == wanted);
+    }
+    assert!(rt; output.as_slice() == first_reply().as_slice());
 }
 
 #[test]
@@ -235,6 +187,6 @@ fn a_stored_clock(rt: HostRuntime) {
     let moments = vec![in rt.alloc(); Moment::new(1000).unwrap(), Moment::new(2000).unwrap()];
     let mut clock = StoredClock::new(moments.expect(&rt, "memory"));
     for moment in [1000, 2000, 0, 0] {
-        assert_eq!(rt; clock.now().get(), moment);
+        assert!(rt; clock.now().get() == moment);
     }
 }

@@ -1,7 +1,6 @@
 //! A client that waits for its answer before it sends more.
-use crate::streams::first_record;
-use failing_ends::{HeardWriter, WaitingReader, open_both};
-use posting_core::{PlainBank, StoredClock, post_stream};
+use crate::streams::{ends, first_record};
+use failing_ends::{HeardWriter, WaitingReader};
 use std::cell::Cell;
 
 // It sends a record three times.
@@ -21,10 +20,6 @@ fn a_client_that_waits_for_each_answer(rt: HostRuntime) {
         heard: &heard,
         taken: Vec::new(rt.alloc()),
     };
-    let mut bank = PlainBank::new(rt.alloc());
-    assert!(rt; open_both(&mut bank).is_ok());
-    let mut clock = StoredClock::new(Vec::new(rt.alloc()));
-    let answered = post_stream(&mut reader, &mut writer, &mut clock, &mut bank);
-    assert_eq!(rt; answered, Ok(3));
-    assert_eq!(rt; heard.get(), 600);
+    ends(&rt, &mut reader, &mut writer, (Ok(3), (500, 0)));
+    assert!(rt; heard.get() == 600);
 }
