@@ -18,20 +18,30 @@ use message_records::{Account, Cents, Outcome};
 use posting_core::{Counter, PlainBank, StoredClock};
 use posting_rules::Verdict;
 pub use requests::first_requests;
+use std::alloc::{Alloc, Global};
+use std::process::Abort;
 use streams::first_stream;
 use verdicts::first_verdict;
 
-#[test]
-fn a_stream_of_one_record(rt: HostRuntime) {
-    let mut bank = PlainBank::new(rt.alloc());
+fn stream_one_record<C: Counter>(rt: &(impl Abort + Alloc<A = Global>), bank: &mut C) {
     let mut clock = StoredClock::new(Vec::new(rt.alloc()));
     let mut replies = Vec::new(rt.alloc());
     let record = first_record();
-    let count = first_stream(&mut bank, &mut clock, record.as_slice(), &mut replies);
-    assert_eq!(rt; count, Ok(1));
-    assert!(rt; replies.starts_with(FIRST_REPLY));
-    let balance = bank.balance(Account::new(1).unwrap());
-    assert_eq!(rt; balance, Ok(Cents::new(500)));
+    let count = first_stream(bank, &mut clock, record.as_slice(), &mut replies);
+    assert!(rt; count == Ok(1) && replies.starts_with(FIRST_REPLY));
+    assert!(rt; bank.balance(Account::new(1).unwrap()) == Ok(Cents::new(500)));
+}
+
+fn drive_over_two_branches<C: Counter>(rt: &(impl Abort + Alloc<A = Global>), bank: &mut C) {
+    assert!(rt; open_both(bank).is_ok());
+    let driven = first_drive(rt.alloc(), bank).expect(rt, "a drive");
+    assert!(rt; driven.posted == 1_000 && driven.refused == 0);
+}
+
+#[test]
+fn a_stream_and_a_drive(rt: HostRuntime) {
+    stream_one_record(&rt, &mut PlainBank::new(rt.alloc()));
+    drive_over_two_branches(&rt, &mut PlainBank::new(rt.alloc()));
 }
 
 #[test]
@@ -43,14 +53,6 @@ fn a_batch_of_one_record(rt: HostRuntime) {
 }
 
 #[test]
-fn a_drive_over_two_branches(rt: HostRuntime) {
-    let mut bank = PlainBank::new(rt.alloc());
-    assert!(rt; open_both(&mut bank).is_ok());
-    let driven = first_drive(rt.alloc(), &mut bank).expect(&rt, "a drive");
-    assert_eq!(rt; (driven.posted, driven.refused), (1_000, 0));
-}
-
-#[test]
 fn an_open_account_and_none(rt: HostRuntime) {
     let (zero, delta) = (Cents::zero(), Cents::new(500).unwrap());
     let posted = Verdict::Posted {
@@ -58,7 +60,7 @@ fn an_open_account_and_none(rt: HostRuntime) {
         teller: delta,
         branch: delta,
     };
-    assert_eq!(rt; first_verdict(Some(zero)), (posted, Some(delta)));
+    assert!(rt; first_verdict(Some(zero)) == (posted, Some(delta)));
     let refused = Verdict::Refused(Outcome::NoAccount);
-    assert_eq!(rt; first_verdict(None), (refused, None));
+    assert!(rt; first_verdict(None) == (refused, None));
 }
