@@ -1,7 +1,7 @@
 //! The requests of known seeds, and what a long run of them names.
 use crate::first_programs::first_requests;
 use branch_loader::Plan;
-use load_driver::{Driver, DriverFault};
+use load_driver::Driver;
 use message_records::{Branch, REQUEST_BYTES, Request, decode_request};
 use std::alloc::{Alloc, Global};
 use std::process::Abort;
@@ -18,29 +18,23 @@ fn plan_of(rt: &(impl Abort + Alloc<A = Global>), list: &[(u64, u32)]) -> Plan {
     Plan::from_list(rows).expect(rt, "a plan")
 }
 
-// The driver of their plan, or its fault.
-fn driver_of(
-    rt: &(impl Abort + Alloc<A = Global>),
-    list: &[(u64, u32)],
-    seed: u64,
-) -> Result<Driver, DriverFault> {
-    Driver::new(rt.alloc(), &plan_of(rt, list), seed)
+fn driver_of(rt: &(impl Abort + Alloc<A = Global>), list: &[(u64, u32)], seed: u64) -> Driver {
+    let driver = Driver::new(rt.alloc(), &plan_of(rt, list), seed);
+    driver.expect(rt, "a driver")
 }
 
-// Whether there is a record, and it is this one with 49 spaces.
-fn is_record(record: Option<[u8; REQUEST_BYTES]>, text: &[u8; 51]) -> bool {
-    let Some(bytes) = record else {
-        return false;
-    };
-    let is_filled = bytes.iter().skip(51).all(|byte| *byte == b' ');
-    is_filled && bytes.starts_with(text.as_slice())
+// There is a record, and it is this one with 49 spaces.
+fn is_record(rt: &impl Abort, record: Option<[u8; REQUEST_BYTES]>, text: &[u8; 51]) {
+    let mut want = [b' '; REQUEST_BYTES];
+    want[..51].copy_from_slice(text);
+    assert!(rt; record == Some(want));
 }
 
 // The first records of the seed over these branches are these.
 fn draws(rt: &(impl Abort + Alloc<A = Global>), list: &[(u64, u32)], seed: u64, want: &[[u8; 51]]) {
-    let mut driver = driver_of(rt, list, seed).expect(rt, "a driver");
+    let mut driver = driver_of(rt, list, seed);
     for text in want {
-        assert!(rt; is_record(driver.next(), text));
+        is_record(rt, driver.next(), text);
     }
 }
 
@@ -68,10 +62,10 @@ fn three_branches(rt: HostRuntime) {
 // Those of the function on the driver's page are the first three of them.
 #[test]
 fn first_three(rt: HostRuntime) {
-    let plan = plan_of(&rt, &THREE_BRANCHES);
-    let records = first_requests(rt.alloc(), &plan).expect(&rt, "a driver");
+    let records = first_requests(rt.alloc(), &plan_of(&rt, &THREE_BRANCHES));
+    let records = records.expect(&rt, "a driver");
     for (record, text) in records.iter().zip(&TWELVE_RECORDS) {
-        assert!(rt; is_record(*record, text));
+        is_record(&rt, *record, text);
     }
 }
 
@@ -98,38 +92,21 @@ fn is_at_home(rt: &impl Abort, list: &[(u64, u32)], request: &Request) -> bool {
     let account = request.account().get() - 1;
     let home = account / 100_000 + 1;
     let branch = request.branch().get();
-    assert!(rt; is_open(list, home, account % 100_000));
-    assert!(rt; is_open(list, branch, 0));
-    assert_eq!(rt; (request.teller().get() - 1) / 10 + 1, branch);
+    assert!(rt; is_open(list, home, account % 100_000) && is_open(list, branch, 0));
+    assert!(rt; (request.teller().get() - 1) / 10 + 1 == branch);
     home == branch
-}
-
-// How many of so many records of the driver are of their account's own branch.
-fn at_home_among(rt: &impl Abort, driver: &mut Driver, list: &[(u64, u32)], records: u32) -> u32 {
-    let mut at_home = 0u32;
-    for _ in 0..records {
-        let bytes = driver.next().expect(rt, "a record");
-        let request = decode_request(&bytes).expect(rt, "a request");
-        if is_at_home(rt, list, &request) {
-            at_home = at_home.saturating_add(1);
-        }
-    }
-    at_home
 }
 
 #[test]
 fn the_85_15_rule(rt: HostRuntime) {
-    let records = 100_000;
-    let mut driver = driver_of(&rt, &THREE_BRANCHES, 1).expect(&rt, "a driver");
-    let at_home = at_home_among(&rt, &mut driver, &THREE_BRANCHES, records);
-    assert!(rt;
-        at_home >= 83_000 && at_home <= 87_000,
-        "{at_home} of {records} at home"
-    );
-}
-
-#[test]
-fn no_branches(rt: HostRuntime) {
-    let fault = driver_of(&rt, &[], 1).err();
-    assert_eq!(rt; fault, Some(DriverFault::Empty));
+    let mut driver = driver_of(&rt, &THREE_BRANCHES, 1);
+    let mut at_home = 0u32;
+    for _ in 0..100_000 {
+        let bytes = driver.next().expect(&rt, "a record");
+        let request = decode_request(&bytes).expect(&rt, "a request");
+        if is_at_home(&rt, &THREE_BRANCHES, &request) {
+            at_home = at_home.saturating_add(1);
+        }
+    }
+    assert!(rt; at_home >= 83_000 && at_home <= 87_000);
 }
