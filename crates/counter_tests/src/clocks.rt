@@ -1,29 +1,15 @@
-//! The program's clock over a source that is known.
-use message_records::Moment;
-use posting_core::{Clock, SystemClock};
+//! The moments of readings that are known.
+use posting_core::moment_of;
 use std::io::{self, ErrorKind};
-use std::rt::Clock as TimeSource;
-use std::time::Duration;
+use std::time::{Duration, UNIX_EPOCH};
 
-// A source that gives so many seconds and a half, or fails.
-#[derive(Drop)]
-struct Stopped(Option<u64>);
-
-impl TimeSource for Stopped {
-    fn monotonic(&self) -> io::Result<Duration> {
-        Ok(Duration::ZERO)
-    }
-
-    fn since_1970(&self) -> io::Result<Duration> {
-        match self.0 {
-            Some(seconds) => Ok(Duration::new(seconds, 500_000_000)),
-            None => Err(io::Error::from(ErrorKind::InvalidData)),
-        }
-    }
-}
-
-fn reading(seconds: Option<u64>) -> Moment {
-    SystemClock::new(&Stopped(seconds)).now()
+// The moment of a reading so many seconds and a half after 1970 began, or of one that failed.
+fn moment_at(seconds: Option<u64>) -> u64 {
+    let time = match seconds {
+        Some(seconds) => UNIX_EPOCH.checked_add(Duration::new(seconds, 500_000_000)),
+        None => None,
+    };
+    moment_of(time.ok_or(io::Error::from(ErrorKind::InvalidData))).get()
 }
 
 const READINGS: [(Option<u64>, u64); 5] = [
@@ -37,6 +23,6 @@ const READINGS: [(Option<u64>, u64); 5] = [
 #[test]
 fn whole_seconds_within_the_range(rt: HostRuntime) {
     for (seconds, want) in &READINGS {
-        assert_eq!(rt; reading(*seconds).get(), *want);
+        assert!(rt; moment_at(*seconds) == *want);
     }
 }
