@@ -1,10 +1,6 @@
 //! The ends of a run, each of which fails where it is broken.
 use std::io::{self, ErrorKind, Read, Write};
 
-fn broken<T>() -> io::Result<T> {
-    Err(io::Error::from(ErrorKind::BrokenPipe))
-}
-
 /// Gives these bytes, or fails each read.
 #[derive(Drop)]
 pub struct Input<'a> {
@@ -15,7 +11,7 @@ pub struct Input<'a> {
 impl<'a> Read for Input<'a> {
     fn read(&mut self, buf: &mut [u8]) -> io::Result<usize> {
         if self.is_broken {
-            return broken();
+            return Err(io::Error::from(ErrorKind::BrokenPipe));
         }
         self.rest.read(buf)
     }
@@ -31,7 +27,7 @@ pub struct Output {
 impl Write for Output {
     fn write(&mut self, buf: &[u8]) -> io::Result<usize> {
         if self.is_broken {
-            return broken();
+            return Err(io::Error::from(ErrorKind::BrokenPipe));
         }
         self.written.write(buf)
     }
