@@ -118,7 +118,7 @@ pub fn serve_connection<R: Source, W: Sink, K: Clock, C: Followed>(
     ensures honest { (C.seen bank.new).honest → (C.seen bank.old).honest }
     ensures spares { C.spares bank.old bank.new }
 {
-    let Ok(routes) = Routes::new(alloc) else {
+    let Some(routes) = Routes::new(alloc) else {
         return Err(ServeFault::Memory);
     };
     let Ok(mut buffer) = vec![in alloc; 0u8; BUFFER] else {

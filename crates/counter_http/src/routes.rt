@@ -1,10 +1,12 @@
 //! The routes, which are made once.
-ghost use Rattle.std.specs.Prelude.{◌≡◌, [], OnOk};
+ghost use Rattle.std.specs.Prelude.{◌≡◌, [], Ok, true};
+ghost use Rattle.matchit.specs.Route.{parse_route};
+ghost use Rattle.matchit.specs.Router.{InsertsRead};
 ghost use Rattle.counter_http.specs.believed.Paths.{route_of, path_of};
 ghost use Rattle.counter_http.specs.Paths.{path_end};
 ghost use Rattle.counter_http.specs.Rows.{all_routes};
 
-use matchit::{InsertError, Router};
+use matchit::Router;
 use std::alloc::Global;
 
 /// What a path leads to.
@@ -29,10 +31,16 @@ pub(crate) enum Route {
 }
 
 /// The routes.
-#[derive(Drop)]
 pub(crate) struct Routes {
     router: Router<Route>,
     ghost rows: { router ≡ all_routes },
+}
+
+// It is written out, so that a caller does not prove again how each part is dropped.
+impl Drop for Routes {
+    fn drop(self) {
+        let Routes { router: _ } = self;
+    }
 }
 
 // Where the path of a target ends.
@@ -52,28 +60,44 @@ pub(crate) fn path_of(target: &[u8]) -> &[u8]
     &target[..end_of_path(target)]
 }
 
-// Puts every route into a router that has none.
-fn insert_all(router: &mut Router<Route>) -> Result<(), InsertError>
-    requires { router.old ≡ [] }
-    ensures { OnOk result (router.new ≡ all_routes) }
+// Puts one more route into a router, where those before it went in, and answers whether it went in too.
+fn insert(router: &mut Router<Route>, going: bool, path: &str, route: Route) -> bool
+    ensures { result ≡ true
+        → (going ≡ true) × InsertsRead (parse_route path.now) route router.old router.new (Ok tt) }
 {
-    router.insert("/post", Route::Posting)?;
-    router.insert("/account/{id}", Route::Account)?;
-    router.insert("/branches", Route::Branches)?;
-    router.insert("/health", Route::Health)?;
-    router.insert("/log/{after}", Route::Log)?;
-    router.insert("/plan", Route::Plan)?;
-    router.insert("/teller/{id}", Route::Teller)?;
-    router.insert("/metrics", Route::Metrics)?;
-    Ok(())
+    if !going {
+        return false;
+    }
+    match router.insert(path, route) {
+        Ok(()) => true,
+        Err(_) => false,
+    }
+}
+
+// Puts every route into a router that has none, and answers whether all went in.
+fn insert_all(router: &mut Router<Route>) -> bool
+    requires { router.old ≡ [] }
+    ensures { result ≡ true → router.new ≡ all_routes }
+{
+    let going = insert(router, true, "/post", Route::Posting);
+    let going = insert(router, going, "/account/{id}", Route::Account);
+    let going = insert(router, going, "/branches", Route::Branches);
+    let going = insert(router, going, "/health", Route::Health);
+    let going = insert(router, going, "/log/{after}", Route::Log);
+    let going = insert(router, going, "/plan", Route::Plan);
+    let going = insert(router, going, "/teller/{id}", Route::Teller);
+    insert(router, going, "/metrics", Route::Metrics)
 }
 
 impl Routes {
-    /// Makes the routes.
-    pub(crate) fn new(alloc: Global) -> Result<Self, InsertError> {
+    /// Makes the routes, where there is memory for them.
+    pub(crate) fn new(alloc: Global) -> Option<Self> {
         let mut router = Router::new(alloc);
-        insert_all(&mut router)?;
-        Ok(Routes { router })
+        if insert_all(&mut router) {
+            Some(Routes { router })
+        } else {
+            None
+        }
     }
 
     /// The route of a path.

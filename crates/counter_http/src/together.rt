@@ -327,7 +327,7 @@ pub fn serve_together<D: Clients, K: Clock, C: Followed>(
     ensures come { OnOk result (HaveCome (D.calls door.old) (D.calls door.new) connections) }
     ensures spares { C.spares bank.old bank.new }
 {
-    let Ok(routes) = Routes::new(alloc) else {
+    let Some(routes) = Routes::new(alloc) else {
         return Err(ListenFault::Bank(Fault::Memory));
     };
     let mut here = Vec::new(alloc);
