@@ -89,6 +89,18 @@ fn line_of(alloc: Global, listing: Listing, line: &BranchLine) -> Result<String,
     }
 }
 
+// Puts the line of a branch behind those before it.
+fn put_line(
+    alloc: Global,
+    listing: Listing,
+    line: &BranchLine,
+    body: &mut String,
+) -> Result<(), AllocError>
+    ensures { OnOk result (string_bytes body.new ≡ string_bytes body.old ++ shown_line listing line.now) }
+{
+    body.push_str(line_of(alloc, listing, line)?.as_str())
+}
+
 // The lines, below their names if they have some.
 fn named(alloc: Global, listing: Listing, lines: String) -> Result<String, AllocError>
     ensures { IfOk result (λ text. string_bytes text ≡ names_of listing ++ string_bytes lines) }
@@ -118,7 +130,7 @@ pub(crate) fn all_lines<C: Counter>(
     let mut body = String::new(alloc);
     let mut after = 0;
     while let Some(line) = bank.next_branch(after)? {
-        body.push_str(line_of(alloc, listing, &line)?.as_str())?;
+        put_line(alloc, listing, &line, &mut body)?;
         after = line.branch.get() as u32;
     }
     Ok(named(alloc, listing, body)?)
