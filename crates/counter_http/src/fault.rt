@@ -24,12 +24,13 @@ impl fmt::Display for ServeFault {
     ghost output = { λ fault. Some (fault_text fault) };
 
     fn fmt<W: fmt::Write>(&self, f: &mut fmt::Formatter<W>) -> fmt::Result {
-        match self {
-            ServeFault::Read => write!(f, "read failed"),
-            ServeFault::Write => write!(f, "write failed"),
-            ServeFault::Bank(fault) => write!(f, "{fault}"),
-            ServeFault::Memory => write!(f, "no memory"),
-        }
+        let text = match self {
+            ServeFault::Read => "read failed",
+            ServeFault::Write => "write failed",
+            ServeFault::Bank(fault) => return write!(f, "{fault}"),
+            ServeFault::Memory => "no memory",
+        };
+        f.write_str(text)
     }
 }
 

@@ -6,18 +6,23 @@ use crate::figures::{Figures, Tally};
 use std::alloc::{AllocError, Global};
 use std::fmt;
 
-const POSTINGS: &str = "Records replied to with outcome 00; one that is sent again counts again.";
+const POSTINGS: &str =
+    "# HELP bank_postings_total Records replied to with outcome 00; one that is sent again counts again.\n# TYPE bank_postings_total counter\n";
 
 const REFUSALS: &str =
     "# HELP bank_refusals_total Records replied to with another outcome; one that is sent again counts again.\n# TYPE bank_refusals_total counter\n";
 
-const RECORDS: &str = "Records replied to.";
+const RECORDS: &str =
+    "# HELP bank_records_total Records replied to.\n# TYPE bank_records_total counter\n";
 
-const COMMITS: &str = "Transactions by which those records were taken.";
+const COMMITS: &str =
+    "# HELP bank_commits_total Transactions by which those records were taken.\n# TYPE bank_commits_total counter\n";
 
-const CONNECTIONS: &str = "Clients that are connected.";
+const CONNECTIONS: &str =
+    "# HELP bank_connections Clients that are connected.\n# TYPE bank_connections gauge\n";
 
-const UPTIME: &str = "Seconds since the counter began to serve.";
+const UPTIME: &str =
+    "# HELP bank_uptime_seconds Seconds since the counter began to serve.\n# TYPE bank_uptime_seconds gauge\n";
 
 // A number with its name.
 #[derive(Clone, Copy)]
@@ -33,25 +38,6 @@ impl fmt::Display for Sample {
         let name = self.0;
         let value = self.1;
         write!(f, "{name} {value}\n")
-    }
-}
-
-// A number with its name, what it is, and of which kind.
-#[derive(Clone, Copy)]
-struct Metric(&'static str, &'static str, &'static str, u64);
-
-impl fmt::Display for Metric {
-    ghost use Rattle.std.specs.Prelude.{Some};
-    ghost use Rattle.counter_http.specs.Figures.{metric};
-
-    ghost output = { λ it. Some (metric it.0.now it.1.now it.2.now it.3) };
-
-    fn fmt<W: fmt::Write>(&self, f: &mut fmt::Formatter<W>) -> fmt::Result {
-        let name = self.0;
-        let help = self.1;
-        let kind = self.2;
-        let sample = Sample(name, self.3);
-        write!(f, "# HELP {name} {help}\n# TYPE {name} {kind}\n{sample}")
     }
 }
 
@@ -87,15 +73,15 @@ impl fmt::Display for Figures {
 
     fn fmt<W: fmt::Write>(&self, f: &mut fmt::Formatter<W>) -> fmt::Result {
         let tally = self.tally;
-        let postings = Metric("bank_postings_total", POSTINGS, "counter", tally.posted);
+        let posted = Sample("bank_postings_total", tally.posted);
         let refusals = Refusals(tally);
-        let records = Metric("bank_records_total", RECORDS, "counter", tally.records);
-        let commits = Metric("bank_commits_total", COMMITS, "counter", tally.commits);
-        let connections = Metric("bank_connections", CONNECTIONS, "gauge", self.connections);
-        let uptime = Metric("bank_uptime_seconds", UPTIME, "gauge", self.seconds);
+        let records = Sample("bank_records_total", tally.records);
+        let commits = Sample("bank_commits_total", tally.commits);
+        let connections = Sample("bank_connections", self.connections);
+        let uptime = Sample("bank_uptime_seconds", self.seconds);
         write!(
             f,
-            "{postings}{refusals}{records}{commits}{connections}{uptime}"
+            "{POSTINGS}{posted}{refusals}{RECORDS}{records}{COMMITS}{commits}{CONNECTIONS}{connections}{UPTIME}{uptime}"
         )
     }
 }
