@@ -47,3 +47,11 @@ sent_broken Write r r' w w' w'' h a = more_failed IsWriteFailure (through_more h
 sent_broken (Bank fault) r r' w w' w'' h a = more_last IsFlush (through_more h) a
 sent_broken Read r r' w w' w'' h a = absurd a
 sent_broken Memory r r' w w' w'' h a = absurd a
+
+-- ---- errors
+
+pub error_is : {A E : Type 0} (e f : E) → (let r : Result A E = Err e in r) ≡ Err f → e ≡ f
+error_is e f same = cc
+
+pub ok_is_no_error : {A E : Type 0} (a : A) (f : E) → (let r : Result A E = Ok a in r) ≡ Err f → ⊥
+ok_is_no_error a f same = cc

@@ -33,25 +33,25 @@ struct Answered {
 // Takes the clients in that wait for it, where there is room for them.
 fn take_in<D: Clients>(
     alloc: Global,
-    door: &mut D,
+    listener: &mut D,
     came: &mut u64,
     connections: u64,
     here: &mut Vec<Client<D::Reader, D::Writer>>,
 ) -> Result<(), ListenFault>
     requires { came.old ≤ connections }
-    ensures come { HaveMoved ⊥ [] (record { calls = D.calls door.old; came = came.old; here = here.old.items })
-        (record { calls = D.calls door.new; came = came.new; here = here.new.items }) }
+    ensures come { HaveMoved ⊥ [] (record { calls = D.calls listener.old; came = came.old; here = here.old.items })
+        (record { calls = D.calls listener.new; came = came.new; here = here.new.items }) }
     ensures few { came.new ≤ connections }
     ensures fault { OnErr result (result ≡ Err ListenFault.Network) }
-    ensures refused { OnErr result (HasRefused (D.calls door.old) (D.calls door.new)) }
+    ensures refused { OnErr result (HasRefused (D.calls listener.old) (D.calls listener.new)) }
 {
     'openings: while *came < connections && here.len() < MOST_CLIENTS {
-        match door.open(*came) {
+        match listener.open(*came) {
             Ok(Some((reader, writer))) => {
                 let client = Client::new(alloc, *came, reader, writer);
                 *came += 1;
                 if let Err(refused) = here.push(client) {
-                    close(door, refused.value, Parting::Memory);
+                    close(listener, refused.value, Parting::Memory);
                     return Ok(());
                 }
             }
@@ -63,12 +63,12 @@ fn take_in<D: Clients>(
 }
 
 // Closes the connection of a client, for this cause, unless it is over.
-fn close<D: Clients>(door: &mut D, client: Client<D::Reader, D::Writer>, cause: Parting)
-    ensures { Closes (D.calls door.old) (D.calls door.new) client cause }
+fn close<D: Clients>(listener: &mut D, client: Client<D::Reader, D::Writer>, cause: Parting)
+    ensures { Closes (D.calls listener.old) (D.calls listener.new) client cause }
 {
     let number = client.number();
     let (reader, writer, _) = client.part(cause);
-    door.close(number, reader, writer);
+    listener.close(number, reader, writer);
 }
 
 // Writes what is left of its answers, and then reads, where its stream may be ready.
@@ -98,13 +98,13 @@ fn go_on<R: Source + Drop, W: Sink + Drop>(here: &mut [Client<R, W>], readiness:
 
 // Closes the connections of those that are given up.
 fn give_up<D: Clients>(
-    door: &mut D,
+    listener: &mut D,
     here: &mut Vec<Client<D::Reader, D::Writer>>,
     readiness: &[Readiness],
 )
     ensures { (came : ℕ) → HaveMoved ⊥ (given_up (numbers here.old.items) readiness.now)
-        (record { calls = D.calls door.old; came = came; here = here.old.items })
-        (record { calls = D.calls door.new; came = came; here = here.new.items }) }
+        (record { calls = D.calls listener.old; came = came; here = here.old.items })
+        (record { calls = D.calls listener.new; came = came; here = here.new.items }) }
 {
     let mut place = 0;
     for found in readiness {
@@ -114,7 +114,7 @@ fn give_up<D: Clients>(
         match found {
             Readiness::GivenUp => {
                 let client = here.remove(place);
-                close(door, client, Parting::GivenUp);
+                close(listener, client, Parting::GivenUp);
             }
             _ => place += 1,
         }
@@ -219,15 +219,15 @@ fn answer<R: Source + Drop, W: Sink + Drop, K: Clock, C: Followed>(
 }
 
 // Closes the connections of those for whom nothing more is done.
-fn part<D: Clients>(door: &mut D, here: &mut Vec<Client<D::Reader, D::Writer>>)
-    ensures { (came : ℕ) → HaveMoved ⊥ [] (record { calls = D.calls door.old; came = came; here = here.old.items })
-        (record { calls = D.calls door.new; came = came; here = here.new.items }) }
+fn part<D: Clients>(listener: &mut D, here: &mut Vec<Client<D::Reader, D::Writer>>)
+    ensures { (came : ℕ) → HaveMoved ⊥ [] (record { calls = D.calls listener.old; came = came; here = here.old.items })
+        (record { calls = D.calls listener.new; came = came; here = here.new.items }) }
 {
     let mut place = 0;
     'clients: while place < here.len() {
         if here[place].is_over() {
             let client = here.remove(place);
-            close(door, client, Parting::Stopped);
+            close(listener, client, Parting::Stopped);
         } else {
             place += 1;
         }
@@ -235,14 +235,14 @@ fn part<D: Clients>(door: &mut D, here: &mut Vec<Client<D::Reader, D::Writer>>)
 }
 
 // Closes the connections of all.
-fn part_from_all<D: Clients>(door: &mut D, here: &mut Vec<Client<D::Reader, D::Writer>>)
+fn part_from_all<D: Clients>(listener: &mut D, here: &mut Vec<Client<D::Reader, D::Writer>>)
     ensures leave { (came : ℕ) → HaveMoved (here.old.items ≢ []) []
-        (record { calls = D.calls door.old; came = came; here = here.old.items })
-        (record { calls = D.calls door.new; came = came; here = here.new.items }) }
+        (record { calls = D.calls listener.old; came = came; here = here.old.items })
+        (record { calls = D.calls listener.new; came = came; here = here.new.items }) }
     ensures none { here.new.items ≡ [] }
 {
     'clients: while let Some(client) = here.pop() {
-        close(door, client, Parting::Stopped);
+        close(listener, client, Parting::Stopped);
     }
 }
 
@@ -258,22 +258,22 @@ fn write<R: Source + Drop, W: Sink + Drop>(here: &mut [Client<R, W>])
 // Serves clients, round by round.
 fn serve_rounds<D: Clients, K: Clock, C: Followed>(
     alloc: Global,
-    door: &mut D,
+    listener: &mut D,
     connections: u64,
     routes: &Routes,
     here: &mut Vec<Client<D::Reader, D::Writer>>,
+    readiness: &mut Vec<Readiness>,
+    batch: &mut Batch,
     clock: &mut K,
     bank: &mut C,
 ) -> Result<(), ListenFault>
     requires { here.old.items ≡ [] }
     ensures serves { ServesRounds C.seen C.reason
         (known_ends D.Reader.remaining D.Reader.calls D.Reader.beside D.Writer.contents D.Writer.calls)
-        (D.calls door.old) (D.calls door.new) (K.readings clock.old) (K.readings clock.new) bank.old bank.new
+        (D.calls listener.old) (D.calls listener.new) (K.readings clock.old) (K.readings clock.new) bank.old bank.new
         connections here.new.items result }
     ensures spares { C.spares bank.old bank.new }
 {
-    let mut readiness = Vec::new(alloc);
-    let mut batch = Batch::new();
     let mut tally = Tally::new();
     let mut came = 0;
     let mut first = 0;
@@ -281,20 +281,20 @@ fn serve_rounds<D: Clients, K: Clock, C: Followed>(
         if came == connections && here.is_empty() {
             return Ok(());
         }
-        door.wait(here, came < connections, &mut readiness);
-        go_on(here, &readiness);
-        give_up(door, here, &readiness);
-        take_in(alloc, door, &mut came, connections, here)?;
-        let seconds = door.seconds();
+        listener.wait(here, came < connections, readiness);
+        go_on(here, readiness);
+        give_up(listener, here, readiness);
+        take_in(alloc, listener, &mut came, connections, here)?;
+        let seconds = listener.seconds();
         let answered = answer(
-            alloc, routes, here, first, &mut batch, &mut tally, seconds, clock, bank,
+            alloc, routes, here, first, batch, &mut tally, seconds, clock, bank,
         );
         write(here);
-        part(door, here);
+        part(listener, here);
         match answered {
             Ok(it) => {
                 first = it.next;
-                door.posted(it.postings);
+                listener.posted(it.postings);
             }
             Err(fault) => return Err(ListenFault::Bank(fault)),
         }
@@ -315,23 +315,35 @@ fn serve_rounds<D: Clients, K: Clock, C: Followed>(
 ///   fault; or, with `Memory`, memory was refused before any client was taken in.
 pub fn serve_together<D: Clients, K: Clock, C: Followed>(
     alloc: Global,
-    door: &mut D,
+    listener: &mut D,
     connections: u64,
     clock: &mut K,
     bank: &mut C,
 ) -> Result<(), ListenFault>
     ensures serves { ServesTogether C.seen C.reason
         (known_ends D.Reader.remaining D.Reader.calls D.Reader.beside D.Writer.contents D.Writer.calls)
-        (D.calls door.old) (D.calls door.new) (K.readings clock.old) (K.readings clock.new) bank.old bank.new
+        (D.calls listener.old) (D.calls listener.new) (K.readings clock.old) (K.readings clock.new) bank.old bank.new
         connections result }
-    ensures come { OnOk result (HaveCome (D.calls door.old) (D.calls door.new) connections) }
+    ensures come { OnOk result (HaveCome (D.calls listener.old) (D.calls listener.new) connections) }
     ensures spares { C.spares bank.old bank.new }
 {
     let Some(routes) = Routes::new(alloc) else {
         return Err(ListenFault::Bank(Fault::Memory));
     };
     let mut here = Vec::new(alloc);
-    let served = serve_rounds(alloc, door, connections, &routes, &mut here, clock, bank);
-    part_from_all(door, &mut here);
+    let mut readiness = Vec::new(alloc);
+    let mut batch = Batch::new();
+    let served = serve_rounds(
+        alloc,
+        listener,
+        connections,
+        &routes,
+        &mut here,
+        &mut readiness,
+        &mut batch,
+        clock,
+        bank,
+    );
+    part_from_all(listener, &mut here);
     served
 }

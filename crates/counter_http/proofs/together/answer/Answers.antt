@@ -1,11 +1,14 @@
 use Rattle.std.proofs.lemmas.Result.{err_from_is_err_and}
 use Rattle.counter_http.proofs.Gathering.{gathers_then}
 use Rattle.counter_http.proofs.Still.{all_of_none, as_many, differ_still, none_given}
-use Rattle.std.proofs.Common.{arith}
+use Rattle.std.proofs.Common.{◌≡◌, ◌≤◌, ◌∙◌, ℕ, arith}
 use Rattle.counter_http.specs.together.Submitting.{IsFrom}
 use Rattle.counter_http.proofs.Moves.{all_move}
 use Rattle.counter_http.proofs.OneRound.{figured_by, round_as, round_err, round_refused, round_submitted}
 use Rattle.counter_http.proofs.together.answer.Goals as goal
+
+at_most : (count n : ℕ) → count ≡ n → n ≤ count
+at_most count n same = omega arith
 
 -- the batch is empty, and the places are those of clients
 pub gather-requires : goal.gather-requires
@@ -40,63 +43,58 @@ submit-requires g c = record {
 }
 
 -- the bank refused a call while the first half was gathered
-pub returns-in_err-gather-clause-answers : goal.returns-in_err-gather-clause-answers
-returns-in_err-gather-clause-answers g c =
+pub returns-in_err-gather : goal.returns-in_err-gather
+returns-in_err-gather g c =
     let failed = err_from_is_err_and c.from_residual.result c.from_residual.ensures.1 in
-    rw (failed.1, failed.2) (round_refused g.C.Counter.seen c.args.bank.now c.gather.new.bank c.args.here.now.items
-    c.gather.new.here.items c.args.tally.now c.args.seconds c.gather.new.batch _
-    (figured_by c.len-count.result (omega (arith, c.len-count.ensures)) c.in_err-gather.ensures.gathers))
+    record {
+      answers = rw (failed.1, failed.2) (round_refused g.C.Counter.seen c.args.bank.now c.gather.new.bank c.args.here.now.items
+          c.gather.new.here.items c.args.tally.now c.args.seconds c.gather.new.batch _
+          (figured_by c.len-count.result (c.len-count.ensures ∙ c.args.here.now.ok.0) c.in_err-gather.ensures.gathers));
+      spares = c.in_err-gather.ensures.spares;
+    }
 
 -- and the second
-pub returns-in_err-gather-2-clause-answers : goal.returns-in_err-gather-2-clause-answers
-returns-in_err-gather-2-clause-answers g c =
+pub returns-in_err-gather-2 : goal.returns-in_err-gather-2
+returns-in_err-gather-2 g c =
     let failed = err_from_is_err_and c.from_residual-in_err-gather-2.result c.from_residual-in_err-gather-2.ensures.1 in
-    rw (failed.1, failed.2) (round_refused g.C.Counter.seen c.args.bank.now c.gather-2.new.bank c.args.here.now.items
-    c.gather-2.new.here.items c.args.tally.now c.args.seconds c.gather-2.new.batch _
-    (figured_by c.len-count.result (omega (arith, c.len-count.ensures)) (gathers_then g.C.Counter.seen c.args.bank.now c.gather.new.bank c.gather-2.new.bank c.args.here.now.items
-    c.gather.new.here.items c.gather-2.new.here.items c.gather.new.batch c.gather-2.new.batch _
-    c.in_ok-gather.ensures.gathers c.in_err-gather-2.ensures.gathers)))
+    record {
+      answers = rw (failed.1, failed.2) (round_refused g.C.Counter.seen c.args.bank.now c.gather-2.new.bank c.args.here.now.items
+          c.gather-2.new.here.items c.args.tally.now c.args.seconds c.gather-2.new.batch _
+          (figured_by c.len-count.result (c.len-count.ensures ∙ c.args.here.now.ok.0) (gathers_then g.C.Counter.seen c.args.bank.now c.gather.new.bank c.gather-2.new.bank c.args.here.now.items
+          c.gather.new.here.items c.gather-2.new.here.items c.gather.new.batch c.gather-2.new.batch _
+          c.in_ok-gather.ensures.gathers c.in_err-gather-2.ensures.gathers)));
+      spares = g.met.C.Counter.spares_then c.args.bank.now c.gather.new.bank c.gather-2.new.bank c.in_ok-gather.ensures.spares
+          c.in_err-gather-2.ensures.spares;
+    }
 
 -- it refused the records
-pub returns-in_err-submit-clause-answers : goal.returns-in_err-submit-clause-answers
-returns-in_err-submit-clause-answers g c =
+pub returns-in_err-submit : goal.returns-in_err-submit
+returns-in_err-submit g c =
     let failed = err_from_is_err_and c.from_residual-in_err-submit.result c.from_residual-in_err-submit.ensures.1 in
-    rw (failed.1, failed.2) (round_err (round_submitted g.C.Counter.seen c.args.bank.now c.gather-2.new.bank
-    c.submit.new.bank c.args.here.now.items c.gather-2.new.here.items c.submit.new.here.items c.args.seconds c.gather-2.new.batch _
-    (figured_by c.len-count.result (omega (arith, c.len-count.ensures)) (gathers_then g.C.Counter.seen c.args.bank.now c.gather.new.bank c.gather-2.new.bank c.args.here.now.items
-    c.gather.new.here.items c.gather-2.new.here.items c.gather.new.batch c.gather-2.new.batch _
-    c.in_ok-gather.ensures.gathers c.in_ok-gather-2.ensures.gathers)) c.in_err-submit.ensures.submits tt))
+    record {
+      answers = rw (failed.1, failed.2) (round_err (round_submitted g.C.Counter.seen c.args.bank.now c.gather-2.new.bank
+          c.submit.new.bank c.args.here.now.items c.gather-2.new.here.items c.submit.new.here.items c.args.seconds c.gather-2.new.batch _
+          (figured_by c.len-count.result (c.len-count.ensures ∙ c.args.here.now.ok.0) (gathers_then g.C.Counter.seen c.args.bank.now c.gather.new.bank c.gather-2.new.bank c.args.here.now.items
+          c.gather.new.here.items c.gather-2.new.here.items c.gather.new.batch c.gather-2.new.batch _
+          c.in_ok-gather.ensures.gathers c.in_ok-gather-2.ensures.gathers)) c.in_err-submit.ensures.submits tt));
+      spares = g.met.C.Counter.spares_then c.args.bank.now c.gather-2.new.bank c.submit.new.bank
+          (g.met.C.Counter.spares_then c.args.bank.now c.gather.new.bank c.gather-2.new.bank c.in_ok-gather.ensures.spares
+          c.in_ok-gather-2.ensures.spares) c.in_err-submit.ensures.spares;
+    }
 
-pub returns-clause-answers : goal.returns-clause-answers
-returns-clause-answers g c =
-    round_as _ (round_submitted g.C.Counter.seen c.args.bank.now c.gather-2.new.bank
-    c.submit.new.bank c.args.here.now.items c.gather-2.new.here.items c.submit.new.here.items c.args.seconds c.gather-2.new.batch _
-    (figured_by c.len-count.result (omega (arith, c.len-count.ensures)) (gathers_then g.C.Counter.seen c.args.bank.now c.gather.new.bank c.gather-2.new.bank c.args.here.now.items
-    c.gather.new.here.items c.gather-2.new.here.items c.gather.new.batch c.gather-2.new.batch _
-    c.in_ok-gather.ensures.gathers c.in_ok-gather-2.ensures.gathers)) c.in_ok-submit.ensures.submits
-    (all_move c.args.here.now.items c.gather.new.here.items c.gather-2.new.here.items c.submit.new.here.items
-    c.min-first.result c.len-count.result c.clear.new.self c.gather.new.batch c.gather-2.new.batch
-    c.in_ok-submit.ensures.submits.did.posts (omega (arith, c.len-count.ensures)) c.in_ok-gather.ensures.looks
-    c.in_ok-gather-2.ensures.looks c.in_ok-submit.ensures.none c.in_ok-submit.ensures.submits.did.moves))
-
--- ---- what no call touches
-
-pub returns-in_err-gather-clause-spares : goal.returns-in_err-gather-clause-spares
-returns-in_err-gather-clause-spares g c = c.in_err-gather.ensures.spares
-
-pub returns-in_err-gather-2-clause-spares : goal.returns-in_err-gather-2-clause-spares
-returns-in_err-gather-2-clause-spares g c =
-    g.met.C.Counter.spares_then c.args.bank.now c.gather.new.bank c.gather-2.new.bank c.in_ok-gather.ensures.spares
-    c.in_err-gather-2.ensures.spares
-
-pub returns-in_err-submit-clause-spares : goal.returns-in_err-submit-clause-spares
-returns-in_err-submit-clause-spares g c =
-    g.met.C.Counter.spares_then c.args.bank.now c.gather-2.new.bank c.submit.new.bank
-    (g.met.C.Counter.spares_then c.args.bank.now c.gather.new.bank c.gather-2.new.bank c.in_ok-gather.ensures.spares
-    c.in_ok-gather-2.ensures.spares) c.in_err-submit.ensures.spares
-
-pub returns-clause-spares : goal.returns-clause-spares
-returns-clause-spares g c =
-    g.met.C.Counter.spares_then c.args.bank.now c.gather-2.new.bank c.submit.new.bank
-    (g.met.C.Counter.spares_then c.args.bank.now c.gather.new.bank c.gather-2.new.bank c.in_ok-gather.ensures.spares
-    c.in_ok-gather-2.ensures.spares) c.in_ok-submit.ensures.spares
+pub returns : goal.returns
+returns g c =
+    record {
+      answers = round_as _ (round_submitted g.C.Counter.seen c.args.bank.now c.gather-2.new.bank
+          c.submit.new.bank c.args.here.now.items c.gather-2.new.here.items c.submit.new.here.items c.args.seconds c.gather-2.new.batch _
+          (figured_by c.len-count.result (c.len-count.ensures ∙ c.args.here.now.ok.0) (gathers_then g.C.Counter.seen c.args.bank.now c.gather.new.bank c.gather-2.new.bank c.args.here.now.items
+          c.gather.new.here.items c.gather-2.new.here.items c.gather.new.batch c.gather-2.new.batch _
+          c.in_ok-gather.ensures.gathers c.in_ok-gather-2.ensures.gathers)) c.in_ok-submit.ensures.submits
+          (all_move c.args.here.now.items c.gather.new.here.items c.gather-2.new.here.items c.submit.new.here.items
+          c.min-first.result c.len-count.result c.clear.new.self c.gather.new.batch c.gather-2.new.batch
+          c.in_ok-submit.ensures.submits.did.posts (at_most _ _ (c.len-count.ensures ∙ c.args.here.now.ok.0)) c.in_ok-gather.ensures.looks
+          c.in_ok-gather-2.ensures.looks c.in_ok-submit.ensures.none c.in_ok-submit.ensures.submits.did.moves));
+      spares = g.met.C.Counter.spares_then c.args.bank.now c.gather-2.new.bank c.submit.new.bank
+          (g.met.C.Counter.spares_then c.args.bank.now c.gather.new.bank c.gather-2.new.bank c.in_ok-gather.ensures.spares
+          c.in_ok-gather-2.ensures.spares) c.in_ok-submit.ensures.spares;
+    }

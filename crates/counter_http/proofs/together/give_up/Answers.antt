@@ -12,7 +12,7 @@ loop-found-preserved g c =
     omega (arith, c.if-place-len.false, c.len.ensures, c.loop-found.here.ok.0) in
     elim c.match-found.branch [
       | in-GivenUp w ↦
-          rw (w.door-is, w.here-is, w.place-is) (record {
+          rw (w.listener-is, w.here-is, w.place-is) (record {
             moved = λ came. moved_then (c.loop-found.invariant.moved came)
                 (left_at c.loop-found.here.items w.remove-client.new.self.items c.loop-found.place w.remove-client.result
                 parting.GivenUp within w.remove-client.ensures.value w.remove-client.ensures.by_index.2
@@ -26,7 +26,7 @@ loop-found-preserved g c =
                 w.remove-client.ensures.by_index.2;
           })
       | in_default w ↦
-          rw (w.door-is, w.here-is, w.place-is) (record {
+          rw (w.listener-is, w.here-is, w.place-is) (record {
             moved = c.loop-found.invariant.moved;
             rest = rest_stays c.loop-found.here.items c.args.here.now.items c.loop-found.place c.loop-found.found-index
                 c.loop-found.invariant.rest within;

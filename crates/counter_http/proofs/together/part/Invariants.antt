@@ -7,5 +7,5 @@ decreases-clients g l = vec_len l.here - l.place
 
 abbrev pub invariant-clients : goal.invariant-clients
 invariant-clients g l = (came : ℕ)
-    → HaveMoved ⊥ [] (record { calls = g.D.Clients.calls l.fn.door; came = came; here = l.fn.here.items })
-    (record { calls = g.D.Clients.calls l.door; came = came; here = l.here.items })
+    → HaveMoved ⊥ [] (record { calls = g.D.Clients.calls l.fn.listener; came = came; here = l.fn.here.items })
+    (record { calls = g.D.Clients.calls l.listener; came = came; here = l.here.items })

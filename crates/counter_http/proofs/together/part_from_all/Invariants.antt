@@ -10,7 +10,7 @@ abbrev pub invariant-clients : goal.invariant-clients
 invariant-clients g l = record {
   moved : (came : ℕ)
       → HaveMoved (l.fn.here.items ≢ []) []
-      (record { calls = g.D.Clients.calls l.fn.door; came = came; here = l.fn.here.items })
-      (record { calls = g.D.Clients.calls l.door; came = came; here = l.here.items });
+      (record { calls = g.D.Clients.calls l.fn.listener; came = came; here = l.fn.here.items })
+      (record { calls = g.D.Clients.calls l.listener; came = came; here = l.here.items });
   some : l.here.items ≢ [] → l.fn.here.items ≢ [];
 }

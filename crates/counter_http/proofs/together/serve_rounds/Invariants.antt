@@ -7,7 +7,7 @@ abbrev pub invariant-rounds : goal.invariant-rounds
 invariant-rounds g l = record {
   rounding : Rounding g.C.Counter.seen
       (known_ends g.D.Reader.Source.remaining g.D.Reader.Source.calls g.D.Reader.Source.beside
-      g.D.Writer.Sink.contents g.D.Writer.Sink.calls) (g.D.Clients.calls l.fn.door) (g.D.Clients.calls l.door)
+      g.D.Writer.Sink.contents g.D.Writer.Sink.calls) (g.D.Clients.calls l.fn.listener) (g.D.Clients.calls l.listener)
       (g.K.Clock.readings l.fn.clock) (g.K.Clock.readings l.clock) l.fn.bank l.bank l.connections l.came
       l.here.items l.tally l.counter;
   spares : g.C.Counter.spares l.fn.bank l.bank;

@@ -40,3 +40,6 @@ pub returns-in-Err-clause-refused : goal.returns-in-Err-clause-refused
 returns-in-Err-clause-refused g c =
     refused_last _ _ _ (moved_grows _ _ c.openings.invariant.came)
     (one_refused _ _ (error_kind c.in-Err.field-0) c.in-Err.ensures)
+
+pub returns-in-Ok-None-clause-refused : goal.returns-in-Ok-None-clause-refused
+returns-in-Ok-None-clause-refused g c = tt

@@ -8,6 +8,6 @@ decreases-openings g l = l.connections - l.came
 abbrev pub invariant-openings : goal.invariant-openings
 invariant-openings g l = record {
   few : l.came ≤ l.connections;
-  came : HaveMoved ⊥ [] (record { calls = g.D.Clients.calls l.fn.door; came = l.fn.came; here = l.fn.here.items })
-      (record { calls = g.D.Clients.calls l.door; came = l.came; here = l.here.items });
+  came : HaveMoved ⊥ [] (record { calls = g.D.Clients.calls l.fn.listener; came = l.fn.came; here = l.fn.here.items })
+      (record { calls = g.D.Clients.calls l.listener; came = l.came; here = l.here.items });
 }
