@@ -13,7 +13,7 @@ use Rattle.counter_http.proofs.Prompts.{HasRead, has_failed, has_read, message_o
 use Rattle.counter_http.proofs.Prompts.{read_on}
 use Rattle.counter_http.proofs.Connected.{end_finished, end_unread, end_closed, short_read, hopeless_walk, end_told}
 use Rattle.counter_http.proofs.Connected.{end_untold}
-use Rattle.counter_http.proofs.{AnsweredTurns.why_after, BrokenOff.end_broken, Sent.ended_at, Sent.sent_broken}
+use Rattle.counter_http.proofs.{AnsweredTurns.why_after, BrokenOff.end_broken, Sent.ended_at, Sent.error_is, Sent.sent_broken}
 use Rattle.counter_http.proofs.connection.serve.Goals as goal
 use Rattle.counter_http.proofs.connection.serve.Goals.{in-Ok, in-Err}
 
@@ -83,38 +83,74 @@ reads-init g c = record {
 }
 
 -- the reader was asked too often
-pub returns-clause-served : goal.returns-clause-served
-returns-clause-served g c =
-    end_unread g.C.Counter.seen c.args.bank.now c.reads.bank _ c.reads.invariant.prompted.going
-    (unfinished_none _ c.reads.invariant.waits) c.reads.invariant.idle
+pub returns : goal.returns
+returns g c =
+    record {
+      served = end_unread g.C.Counter.seen c.args.bank.now c.reads.bank _ c.reads.invariant.prompted.going
+          (unfinished_none _ c.reads.invariant.waits) c.reads.invariant.idle;
+      why = tt;
+      ends = (inr (made_many c.reads.invariant.made (omega arith)), c.reads.invariant.through);
+      prompt = prompt_so_far [] refl (λ h. h) c.reads.invariant.prompted;
+      spares = c.reads.invariant.spares;
+    }
 
 -- the reader failed
-pub returns-in-Err-2-clause-served : goal.returns-in-Err-2-clause-served
-returns-in-Err-2-clause-served g c =
-    end_unread g.C.Counter.seen c.args.bank.now c.reads.bank _
-    (going_filled c.reads.buffer c.fill_buffer_beside.new.buffer c.reads.filled c.reads.filled 0
-    c.reads.invariant.prompted.going
-    (nothing_read _ _ c.reads.buffer c.fill_buffer_beside.new.buffer c.reads.filled c.in-Err.ensures.err)
-    (same_place c.reads.filled c.reads.filled 0 refl refl))
-    (unfinished_none _ (subst (λ (t : List ℕ). IsUnfinished t c.reads.shows_body) (sym c.in-Err.ensures.err.1)
-    c.reads.invariant.waits)) c.reads.invariant.idle
+pub returns-in-Err-2 : goal.returns-in-Err-2
+returns-in-Err-2 g c =
+    let old = c.reads.buffer in
+    let new = c.fill_buffer_beside.new.buffer in
+    record {
+      served = end_unread g.C.Counter.seen c.args.bank.now c.reads.bank _
+          (going_filled c.reads.buffer c.fill_buffer_beside.new.buffer c.reads.filled c.reads.filled 0
+          c.reads.invariant.prompted.going
+          (nothing_read _ _ c.reads.buffer c.fill_buffer_beside.new.buffer c.reads.filled c.in-Err.ensures.err)
+          (same_place c.reads.filled c.reads.filled 0 refl refl))
+          (unfinished_none _ (subst (λ (t : List ℕ). IsUnfinished t c.reads.shows_body) (sym c.in-Err.ensures.err.1)
+          c.reads.invariant.waits)) c.reads.invariant.idle;
+      why = tt;
+      ends = (
+        read_failed c.fill_buffer_beside.result c.in-Err.e c.reads.invariant.made c.fill_buffer_beside.ensures.tells c.in-Err.is
+            (other_kind c.kind.result c.in-Err.e c.if-eq.ensures c.kind.ensures),
+        c.reads.invariant.through,
+      );
+      prompt = prompt_so_far [] refl (λ h. h) (read_on _ (take c.reads.filled new) c.fill_buffer_beside.result c.reads.invariant.prompted
+          (unfinished_none _ c.reads.invariant.waits) c.reads.invariant.through
+          (has_failed old new c.reads.filled c.reads.filled c.fill_buffer_beside.result c.in-Err.e c.in-Err.is
+          c.in-Err.ensures.err refl) c.fill_buffer_beside.ensures.tells c.fill_buffer_beside.ensures.beside);
+      spares = c.reads.invariant.spares;
+    }
 
 -- the input ended
-pub returns-in-Ok-eq0-clause-served : goal.returns-in-Ok-eq0-clause-served
-returns-in-Ok-eq0-clause-served g c =
+pub returns-in-Ok-eq0 : goal.returns-in-Ok-eq0
+returns-in-Ok-eq0 g c =
     let n = c.in-Ok-eq0.field-0 in
     let none : c.in-Ok-eq0.field-0 ≡ 0 = c.in-Ok-eq0.field-0-test in
     let empty : c.reads.filled ≡ 0 = c.if-filled-eq0.true in
-    end_finished g.C.Counter.seen c.args.bank.now c.reads.bank (take c.reads.filled c.fill_buffer_beside.new.buffer)
-    (going_filled c.reads.buffer c.fill_buffer_beside.new.buffer c.reads.filled c.reads.filled n
-    c.reads.invariant.prompted.going
-    (at_ok _ c.fill_buffer_beside.result n c.in-Ok-eq0.is c.fill_buffer_beside.ensures.ok)
-    (same_place c.reads.filled c.reads.filled n refl none))
-    (ended_at c.fill_buffer_beside.result n c.reads.invariant.made c.fill_buffer_beside.ensures.tells c.in-Ok-eq0.is none
-    c.fill_buffer_beside.ensures.end) (rw empty refl) c.reads.invariant.idle
+    let old = c.reads.buffer in
+    let new = c.fill_buffer_beside.new.buffer in
+    record {
+      served = end_finished g.C.Counter.seen c.args.bank.now c.reads.bank (take c.reads.filled c.fill_buffer_beside.new.buffer)
+          (going_filled c.reads.buffer c.fill_buffer_beside.new.buffer c.reads.filled c.reads.filled n
+          c.reads.invariant.prompted.going
+          (at_ok _ c.fill_buffer_beside.result n c.in-Ok-eq0.is c.fill_buffer_beside.ensures.ok)
+          (same_place c.reads.filled c.reads.filled n refl none))
+          (ended_at c.fill_buffer_beside.result n c.reads.invariant.made c.fill_buffer_beside.ensures.tells c.in-Ok-eq0.is none
+          c.fill_buffer_beside.ensures.end) (rw empty refl) c.reads.invariant.idle;
+      why = tt;
+      ends = c.reads.invariant.through;
+      prompt = prompt_so_far [] refl (λ h. h) (read_on _ (take c.reads.filled new) c.fill_buffer_beside.result c.reads.invariant.prompted
+          (unfinished_none _ c.reads.invariant.waits) c.reads.invariant.through
+          (has_read old new c.reads.filled c.reads.filled n c.fill_buffer_beside.result c.in-Ok-eq0.is
+          (at_ok _ c.fill_buffer_beside.result n c.in-Ok-eq0.is c.fill_buffer_beside.ensures.fits)
+          (held_within c.reads.filled (length old) c.reads.invariant.few c.reads.invariant.room)
+          (at_ok _ c.fill_buffer_beside.result n c.in-Ok-eq0.is c.fill_buffer_beside.ensures.ok)
+          (same_place c.reads.filled c.reads.filled n refl c.in-Ok-eq0.field-0-test))
+          c.fill_buffer_beside.ensures.tells c.fill_buffer_beside.ensures.beside);
+      spares = c.reads.invariant.spares;
+    }
 
-pub returns-in-Ok-eq0-2-clause-served : goal.returns-in-Ok-eq0-2-clause-served
-returns-in-Ok-eq0-2-clause-served g c =
+pub returns-in-Ok-eq0-2 : goal.returns-in-Ok-eq0-2
+returns-in-Ok-eq0-2 g c =
     let short =
     short_read c.reads.buffer c.fill_buffer_beside.new.buffer c.reads.filled c.in-Ok-eq0.field-0 c.fill_buffer_beside.result
     c.reads.invariant.prompted.going
@@ -123,12 +159,28 @@ returns-in-Ok-eq0-2-clause-served g c =
     (held_within c.reads.filled (length c.reads.buffer) c.reads.invariant.few c.reads.invariant.room)
     (sym c.fill_buffer_beside.auto.buffer)
     c.reads.invariant.waits in
-    end_told g.C.Counter.seen c.args.bank.now c.reads.bank c.reads.shows_body _
-    (take c.reads.filled c.fill_buffer_beside.new.buffer)
-    short.0 short.1 c.in_ok-refuse-in-Ok-eq0-2.ensures.written refl c.reads.invariant.idle
+    let n = c.in-Ok-eq0.field-0 in
+    let old = c.reads.buffer in
+    let new = c.fill_buffer_beside.new.buffer in
+    record {
+      served = end_told g.C.Counter.seen c.args.bank.now c.reads.bank c.reads.shows_body _
+          (take c.reads.filled c.fill_buffer_beside.new.buffer)
+          short.0 short.1 c.in_ok-refuse-in-Ok-eq0-2.ensures.written refl c.reads.invariant.idle;
+      why = tt;
+      ends = through_batch c.reads.invariant.through c.in_ok-refuse-in-Ok-eq0-2.ensures.ends;
+      prompt = prompt_so_far [] refl (λ h. h) (read_on _ (take c.reads.filled new) c.fill_buffer_beside.result c.reads.invariant.prompted
+          (unfinished_none _ c.reads.invariant.waits) c.reads.invariant.through
+          (has_read old new c.reads.filled c.reads.filled n c.fill_buffer_beside.result c.in-Ok-eq0.is
+          (at_ok _ c.fill_buffer_beside.result n c.in-Ok-eq0.is c.fill_buffer_beside.ensures.fits)
+          (held_within c.reads.filled (length old) c.reads.invariant.few c.reads.invariant.room)
+          (at_ok _ c.fill_buffer_beside.result n c.in-Ok-eq0.is c.fill_buffer_beside.ensures.ok)
+          (same_place c.reads.filled c.reads.filled n refl c.in-Ok-eq0.field-0-test))
+          c.fill_buffer_beside.ensures.tells c.fill_buffer_beside.ensures.beside);
+      spares = c.reads.invariant.spares;
+    }
 
-pub returns-in_err-refuse-in-Ok-eq0-2-clause-served : goal.returns-in_err-refuse-in-Ok-eq0-2-clause-served
-returns-in_err-refuse-in-Ok-eq0-2-clause-served g c =
+pub returns-in_err-refuse-in-Ok-eq0-2 : goal.returns-in_err-refuse-in-Ok-eq0-2
+returns-in_err-refuse-in-Ok-eq0-2 g c =
     let short =
     short_read c.reads.buffer c.fill_buffer_beside.new.buffer c.reads.filled c.in-Ok-eq0.field-0 c.fill_buffer_beside.result
     c.reads.invariant.prompted.going
@@ -140,10 +192,27 @@ returns-in_err-refuse-in-Ok-eq0-2-clause-served g c =
     let failed = err_from_is_err_and c.from_residual.result c.from_residual.ensures.1 in
     let w = c.in_err-refuse-in-Ok-eq0-2.ensures.written in
     let write : c.in_err-refuse-in-Ok-eq0-2.field-0.0 ≡ Write =
-    cc (c.in_err-refuse-in-Ok-eq0-2.ensures.fault) in
-    rw (failed.1, failed.2, write) (end_untold g.C.Counter.seen c.args.bank.now c.reads.bank c.reads.shows_body
-    w.0
-    (take c.reads.filled c.fill_buffer_beside.new.buffer) short.0 short.1 w.1 c.reads.invariant.idle)
+    error_is _ _ c.in_err-refuse-in-Ok-eq0-2.ensures.fault in
+    let n = c.in-Ok-eq0.field-0 in
+    let old = c.reads.buffer in
+    let new = c.fill_buffer_beside.new.buffer in
+    record {
+      served = rw (failed.1, failed.2, write) (end_untold g.C.Counter.seen c.args.bank.now c.reads.bank c.reads.shows_body
+          w.0
+          (take c.reads.filled c.fill_buffer_beside.new.buffer) short.0 short.1 w.1 c.reads.invariant.idle);
+      why = rw (failed.1, failed.2, write) tt;
+      ends = rw (failed.1, failed.2) (sent_broken c.in_err-refuse-in-Ok-eq0-2.field-0.0 _ _ _ _ _ c.reads.invariant.through
+          c.in_err-refuse-in-Ok-eq0-2.ensures.ends);
+      prompt = prompt_so_far [] refl (λ h. h) (read_on _ (take c.reads.filled new) c.fill_buffer_beside.result c.reads.invariant.prompted
+          (unfinished_none _ c.reads.invariant.waits) c.reads.invariant.through
+          (has_read old new c.reads.filled c.reads.filled n c.fill_buffer_beside.result c.in-Ok-eq0.is
+          (at_ok _ c.fill_buffer_beside.result n c.in-Ok-eq0.is c.fill_buffer_beside.ensures.fits)
+          (held_within c.reads.filled (length old) c.reads.invariant.few c.reads.invariant.room)
+          (at_ok _ c.fill_buffer_beside.result n c.in-Ok-eq0.is c.fill_buffer_beside.ensures.ok)
+          (same_place c.reads.filled c.reads.filled n refl c.in-Ok-eq0.field-0-test))
+          c.fill_buffer_beside.ensures.tells c.fill_buffer_beside.ensures.beside);
+      spares = c.reads.invariant.spares;
+    }
 
 -- ---- messages
 
@@ -215,39 +284,72 @@ messages-preserved g c =
       through = through_batch c.messages.invariant.through answered.dealt.ends;
     }
 
-pub returns-in_err-answer_message-in-Message-clause-served :
-    goal.returns-in_err-answer_message-in-Message-clause-served
-returns-in_err-answer_message-in-Message-clause-served g c =
+pub returns-in_err-answer_message-in-Message : goal.returns-in_err-answer_message-in-Message
+returns-in_err-answer_message-in-Message g c =
     let fault = c.in_err-answer_message-in-Message.field-0.0 in
     let failed = err_from_is_err_and c.from_residual-in_err-answer_message-in-Message.result
     c.from_residual-in_err-answer_message-in-Message.ensures.1 in
-    rw (failed.1, failed.2) (end_broken g.C.Counter.seen fault c.args.bank.now c.messages.bank
-    c.answer_message.new.bank _ c.in-Message.message c.messages.invariant.prompted.going c.messages.invariant.idle
-    c.in-Message.ensures c.in_err-answer_message-in-Message.ensures.answers)
+    let before = c.messages.invariant.prompted.going.answered in
+    record {
+      served = rw (failed.1, failed.2) (end_broken g.C.Counter.seen fault c.args.bank.now c.messages.bank
+          c.answer_message.new.bank _ c.in-Message.message c.messages.invariant.prompted.going c.messages.invariant.idle
+          c.in-Message.ensures c.in_err-answer_message-in-Message.ensures.answers);
+      why = rw (failed.1, failed.2)
+          (why_after g.C.Counter.seen g.C.Counter.reason c.args.bank.now c.messages.bank c.answer_message.new.bank
+          _ before.takes before.honest c.messages.invariant.idle c.in_err-answer_message-in-Message.field-0.0
+          c.in_err-answer_message-in-Message.ensures.answers.dealt.why);
+      ends = rw (failed.1, failed.2) (sent_broken fault _ _ _ _ _ c.messages.invariant.through
+          c.in_err-answer_message-in-Message.ensures.answers.dealt.ends);
+      prompt = prompt_so_far _ c.in_err-answer_message-in-Message.ensures.answers.clock
+          c.in_err-answer_message-in-Message.ensures.answers.dealt.honest c.messages.invariant.prompted;
+      spares = g.met.C.Counter.spares_then c.args.bank.now c.messages.bank c.answer_message.new.bank
+          c.messages.invariant.spares c.in_err-answer_message-in-Message.ensures.spares;
+    }
 
-pub returns-then-message-clause-served : goal.returns-then-message-clause-served
-returns-then-message-clause-served g c =
-    end_closed g.C.Counter.seen c.args.bank.now c.messages.bank c.answer_message.new.bank _ _
-    c.in-Message.message c.messages.invariant.prompted.going c.messages.invariant.idle c.in-Message.ensures
-    c.if-message.true refl c.in_ok-answer_message-in-Message.ensures.answers
+pub returns-then-message : goal.returns-then-message
+returns-then-message g c =
+    record {
+      served = end_closed g.C.Counter.seen c.args.bank.now c.messages.bank c.answer_message.new.bank _ _
+          c.in-Message.message c.messages.invariant.prompted.going c.messages.invariant.idle c.in-Message.ensures
+          c.if-message.true refl c.in_ok-answer_message-in-Message.ensures.answers;
+      why = tt;
+      ends = through_batch c.messages.invariant.through c.in_ok-answer_message-in-Message.ensures.answers.dealt.ends;
+      prompt = prompt_so_far _ c.in_ok-answer_message-in-Message.ensures.answers.clock
+          c.in_ok-answer_message-in-Message.ensures.answers.dealt.honest c.messages.invariant.prompted;
+      spares = g.met.C.Counter.spares_then c.args.bank.now c.messages.bank c.answer_message.new.bank
+          c.messages.invariant.spares c.in_ok-answer_message-in-Message.ensures.spares;
+    }
 
-pub returns-in_err-refuse-in-Refused-clause-served : goal.returns-in_err-refuse-in-Refused-clause-served
-returns-in_err-refuse-in-Refused-clause-served g c =
+pub returns-in_err-refuse-in-Refused : goal.returns-in_err-refuse-in-Refused
+returns-in_err-refuse-in-Refused g c =
     let failed = err_from_is_err_and c.from_residual-in_err-refuse-in-Refused.result
     c.from_residual-in_err-refuse-in-Refused.ensures.1 in
     let w = c.in_err-refuse-in-Refused.ensures.written in
     let write : c.in_err-refuse-in-Refused.field-0.0 ≡ Write =
-    cc (c.in_err-refuse-in-Refused.ensures.fault) in
+    error_is _ _ c.in_err-refuse-in-Refused.ensures.fault in
     let going = c.messages.invariant.prompted.going in
-    rw (failed.1, failed.2, write) (end_untold g.C.Counter.seen c.args.bank.now c.messages.bank c.in-Refused.shows
-    w.0 _ going (hopeless_walk _ going c.in-Refused.ensures) w.1 c.messages.invariant.idle)
+    record {
+      served = rw (failed.1, failed.2, write) (end_untold g.C.Counter.seen c.args.bank.now c.messages.bank c.in-Refused.shows
+          w.0 _ going (hopeless_walk _ going c.in-Refused.ensures) w.1 c.messages.invariant.idle);
+      why = rw (failed.1, failed.2, write) tt;
+      ends = rw (failed.1, failed.2) (sent_broken c.in_err-refuse-in-Refused.field-0.0 _ _ _ _ _
+          c.messages.invariant.through c.in_err-refuse-in-Refused.ensures.ends);
+      prompt = prompt_so_far [] refl (λ h. h) c.messages.invariant.prompted;
+      spares = c.messages.invariant.spares;
+    }
 
-pub returns-in-Refused-clause-served : goal.returns-in-Refused-clause-served
-returns-in-Refused-clause-served g c =
+pub returns-in-Refused : goal.returns-in-Refused
+returns-in-Refused g c =
     let w = c.in_ok-refuse-in-Refused.ensures.written in
     let going = c.messages.invariant.prompted.going in
-    end_told g.C.Counter.seen c.args.bank.now c.messages.bank c.in-Refused.shows _ _ going
-    (hopeless_walk _ going c.in-Refused.ensures) w refl c.messages.invariant.idle
+    record {
+      served = end_told g.C.Counter.seen c.args.bank.now c.messages.bank c.in-Refused.shows _ _ going
+          (hopeless_walk _ going c.in-Refused.ensures) w refl c.messages.invariant.idle;
+      why = tt;
+      ends = through_batch c.messages.invariant.through c.in_ok-refuse-in-Refused.ensures.ends;
+      prompt = prompt_so_far [] refl (λ h. h) c.messages.invariant.prompted;
+      spares = c.messages.invariant.spares;
+    }
 
 pub reads-preserved : goal.reads-preserved
 reads-preserved g c =
@@ -268,128 +370,6 @@ reads-preserved g c =
       made = made_one _ _ c.reads.invariant.made c.fill_buffer_beside.ensures.tells refl;
       through = c.messages.invariant.through;
     }
-
--- ---- what the ends told
-
-pub returns-clause-ends : goal.returns-clause-ends
-returns-clause-ends g c = (inr (made_many c.reads.invariant.made (omega arith)), c.reads.invariant.through)
-
-pub returns-in-Err-2-clause-ends : goal.returns-in-Err-2-clause-ends
-returns-in-Err-2-clause-ends g c = (
-  read_failed c.fill_buffer_beside.result c.in-Err.e c.reads.invariant.made c.fill_buffer_beside.ensures.tells c.in-Err.is
-      (other_kind c.kind.result c.in-Err.e c.if-eq.ensures c.kind.ensures),
-  c.reads.invariant.through,
-)
-
-pub returns-in-Ok-eq0-clause-ends : goal.returns-in-Ok-eq0-clause-ends
-returns-in-Ok-eq0-clause-ends g c = c.reads.invariant.through
-
-pub returns-in-Ok-eq0-2-clause-ends : goal.returns-in-Ok-eq0-2-clause-ends
-returns-in-Ok-eq0-2-clause-ends g c =
-    through_batch c.reads.invariant.through c.in_ok-refuse-in-Ok-eq0-2.ensures.ends
-
-pub returns-in_err-refuse-in-Ok-eq0-2-clause-ends : goal.returns-in_err-refuse-in-Ok-eq0-2-clause-ends
-returns-in_err-refuse-in-Ok-eq0-2-clause-ends g c =
-    let failed = err_from_is_err_and c.from_residual.result c.from_residual.ensures.1 in
-    rw (failed.1, failed.2) (sent_broken c.in_err-refuse-in-Ok-eq0-2.field-0.0 _ _ _ _ _ c.reads.invariant.through
-    c.in_err-refuse-in-Ok-eq0-2.ensures.ends)
-
-pub returns-in_err-answer_message-in-Message-clause-ends :
-    goal.returns-in_err-answer_message-in-Message-clause-ends
-returns-in_err-answer_message-in-Message-clause-ends g c =
-    let fault = c.in_err-answer_message-in-Message.field-0.0 in
-    let failed = err_from_is_err_and c.from_residual-in_err-answer_message-in-Message.result
-    c.from_residual-in_err-answer_message-in-Message.ensures.1 in
-    rw (failed.1, failed.2) (sent_broken fault _ _ _ _ _ c.messages.invariant.through
-    c.in_err-answer_message-in-Message.ensures.answers.dealt.ends)
-
-pub returns-then-message-clause-ends : goal.returns-then-message-clause-ends
-returns-then-message-clause-ends g c =
-    through_batch c.messages.invariant.through c.in_ok-answer_message-in-Message.ensures.answers.dealt.ends
-
-pub returns-in_err-refuse-in-Refused-clause-ends : goal.returns-in_err-refuse-in-Refused-clause-ends
-returns-in_err-refuse-in-Refused-clause-ends g c =
-    let failed = err_from_is_err_and c.from_residual-in_err-refuse-in-Refused.result
-    c.from_residual-in_err-refuse-in-Refused.ensures.1 in
-    rw (failed.1, failed.2) (sent_broken c.in_err-refuse-in-Refused.field-0.0 _ _ _ _ _
-    c.messages.invariant.through c.in_err-refuse-in-Refused.ensures.ends)
-
-pub returns-in-Refused-clause-ends : goal.returns-in-Refused-clause-ends
-returns-in-Refused-clause-ends g c =
-    through_batch c.messages.invariant.through c.in_ok-refuse-in-Refused.ensures.ends
-
--- ---- what was written as each read was made
-
-pub returns-clause-prompt : goal.returns-clause-prompt
-returns-clause-prompt g c = prompt_so_far [] refl (λ h. h) c.reads.invariant.prompted
-
-pub returns-in-Err-2-clause-prompt : goal.returns-in-Err-2-clause-prompt
-returns-in-Err-2-clause-prompt g c =
-    let old = c.reads.buffer in
-    let new = c.fill_buffer_beside.new.buffer in
-    prompt_so_far [] refl (λ h. h) (read_on _ (take c.reads.filled new) c.fill_buffer_beside.result c.reads.invariant.prompted
-    (unfinished_none _ c.reads.invariant.waits) c.reads.invariant.through
-    (has_failed old new c.reads.filled c.reads.filled c.fill_buffer_beside.result c.in-Err.e c.in-Err.is
-    c.in-Err.ensures.err refl) c.fill_buffer_beside.ensures.tells c.fill_buffer_beside.ensures.beside)
-
-pub returns-in-Ok-eq0-clause-prompt : goal.returns-in-Ok-eq0-clause-prompt
-returns-in-Ok-eq0-clause-prompt g c =
-    let n = c.in-Ok-eq0.field-0 in
-    let old = c.reads.buffer in
-    let new = c.fill_buffer_beside.new.buffer in
-    prompt_so_far [] refl (λ h. h) (read_on _ (take c.reads.filled new) c.fill_buffer_beside.result c.reads.invariant.prompted
-    (unfinished_none _ c.reads.invariant.waits) c.reads.invariant.through
-    (has_read old new c.reads.filled c.reads.filled n c.fill_buffer_beside.result c.in-Ok-eq0.is
-    (at_ok _ c.fill_buffer_beside.result n c.in-Ok-eq0.is c.fill_buffer_beside.ensures.fits)
-    (held_within c.reads.filled (length old) c.reads.invariant.few c.reads.invariant.room)
-    (at_ok _ c.fill_buffer_beside.result n c.in-Ok-eq0.is c.fill_buffer_beside.ensures.ok)
-    (same_place c.reads.filled c.reads.filled n refl c.in-Ok-eq0.field-0-test))
-    c.fill_buffer_beside.ensures.tells c.fill_buffer_beside.ensures.beside)
-
-pub returns-in-Ok-eq0-2-clause-prompt : goal.returns-in-Ok-eq0-2-clause-prompt
-returns-in-Ok-eq0-2-clause-prompt g c =
-    let n = c.in-Ok-eq0.field-0 in
-    let old = c.reads.buffer in
-    let new = c.fill_buffer_beside.new.buffer in
-    prompt_so_far [] refl (λ h. h) (read_on _ (take c.reads.filled new) c.fill_buffer_beside.result c.reads.invariant.prompted
-    (unfinished_none _ c.reads.invariant.waits) c.reads.invariant.through
-    (has_read old new c.reads.filled c.reads.filled n c.fill_buffer_beside.result c.in-Ok-eq0.is
-    (at_ok _ c.fill_buffer_beside.result n c.in-Ok-eq0.is c.fill_buffer_beside.ensures.fits)
-    (held_within c.reads.filled (length old) c.reads.invariant.few c.reads.invariant.room)
-    (at_ok _ c.fill_buffer_beside.result n c.in-Ok-eq0.is c.fill_buffer_beside.ensures.ok)
-    (same_place c.reads.filled c.reads.filled n refl c.in-Ok-eq0.field-0-test))
-    c.fill_buffer_beside.ensures.tells c.fill_buffer_beside.ensures.beside)
-
-pub returns-in_err-refuse-in-Ok-eq0-2-clause-prompt : goal.returns-in_err-refuse-in-Ok-eq0-2-clause-prompt
-returns-in_err-refuse-in-Ok-eq0-2-clause-prompt g c =
-    let n = c.in-Ok-eq0.field-0 in
-    let old = c.reads.buffer in
-    let new = c.fill_buffer_beside.new.buffer in
-    prompt_so_far [] refl (λ h. h) (read_on _ (take c.reads.filled new) c.fill_buffer_beside.result c.reads.invariant.prompted
-    (unfinished_none _ c.reads.invariant.waits) c.reads.invariant.through
-    (has_read old new c.reads.filled c.reads.filled n c.fill_buffer_beside.result c.in-Ok-eq0.is
-    (at_ok _ c.fill_buffer_beside.result n c.in-Ok-eq0.is c.fill_buffer_beside.ensures.fits)
-    (held_within c.reads.filled (length old) c.reads.invariant.few c.reads.invariant.room)
-    (at_ok _ c.fill_buffer_beside.result n c.in-Ok-eq0.is c.fill_buffer_beside.ensures.ok)
-    (same_place c.reads.filled c.reads.filled n refl c.in-Ok-eq0.field-0-test))
-    c.fill_buffer_beside.ensures.tells c.fill_buffer_beside.ensures.beside)
-
-pub returns-in_err-answer_message-in-Message-clause-prompt :
-    goal.returns-in_err-answer_message-in-Message-clause-prompt
-returns-in_err-answer_message-in-Message-clause-prompt g c =
-    prompt_so_far _ c.in_err-answer_message-in-Message.ensures.answers.clock
-    c.in_err-answer_message-in-Message.ensures.answers.dealt.honest c.messages.invariant.prompted
-
-pub returns-then-message-clause-prompt : goal.returns-then-message-clause-prompt
-returns-then-message-clause-prompt g c =
-    prompt_so_far _ c.in_ok-answer_message-in-Message.ensures.answers.clock
-    c.in_ok-answer_message-in-Message.ensures.answers.dealt.honest c.messages.invariant.prompted
-
-pub returns-in_err-refuse-in-Refused-clause-prompt : goal.returns-in_err-refuse-in-Refused-clause-prompt
-returns-in_err-refuse-in-Refused-clause-prompt g c = prompt_so_far [] refl (λ h. h) c.messages.invariant.prompted
-
-pub returns-in-Refused-clause-prompt : goal.returns-in-Refused-clause-prompt
-returns-in-Refused-clause-prompt g c = prompt_so_far [] refl (λ h. h) c.messages.invariant.prompted
 
 -- ---- numbers that fit, and what the calls require
 
@@ -434,44 +414,3 @@ overflow_add-used g c =
     (message_long c.in-Message.ensures).1
     (range_long c.fill_buffer_beside.new.buffer c.messages.used c.match-fill_buffer_beside.filled fits)
     c.messages.invariant.order c.messages.invariant.fits
-
--- ---- why a call was refused
-
-pub returns-in_err-answer_message-in-Message-clause-why :
-    goal.returns-in_err-answer_message-in-Message-clause-why
-returns-in_err-answer_message-in-Message-clause-why g c =
-    let failed = err_from_is_err_and c.from_residual-in_err-answer_message-in-Message.result
-    c.from_residual-in_err-answer_message-in-Message.ensures.1 in
-    let before = c.messages.invariant.prompted.going.answered in
-    rw (failed.1, failed.2)
-    (why_after g.C.Counter.seen g.C.Counter.reason c.args.bank.now c.messages.bank c.answer_message.new.bank
-    _ before.takes before.honest c.messages.invariant.idle c.in_err-answer_message-in-Message.field-0.0
-    c.in_err-answer_message-in-Message.ensures.answers.dealt.why)
-
-pub returns-in_err-refuse-in-Ok-eq0-2-clause-why : goal.returns-in_err-refuse-in-Ok-eq0-2-clause-why
-returns-in_err-refuse-in-Ok-eq0-2-clause-why g c =
-    let failed = err_from_is_err_and c.from_residual.result c.from_residual.ensures.1 in
-    let write : c.in_err-refuse-in-Ok-eq0-2.field-0.0 ≡ Write =
-    cc (c.in_err-refuse-in-Ok-eq0-2.ensures.fault) in
-    rw (failed.1, failed.2, write) tt
-
-pub returns-in_err-refuse-in-Refused-clause-why : goal.returns-in_err-refuse-in-Refused-clause-why
-returns-in_err-refuse-in-Refused-clause-why g c =
-    let failed = err_from_is_err_and c.from_residual-in_err-refuse-in-Refused.result
-    c.from_residual-in_err-refuse-in-Refused.ensures.1 in
-    let write : c.in_err-refuse-in-Refused.field-0.0 ≡ Write =
-    cc (c.in_err-refuse-in-Refused.ensures.fault) in
-    rw (failed.1, failed.2, write) tt
-
--- ---- what no call of the bank touches
-
-pub returns-in_err-answer_message-in-Message-clause-spares :
-    goal.returns-in_err-answer_message-in-Message-clause-spares
-returns-in_err-answer_message-in-Message-clause-spares g c =
-    g.met.C.Counter.spares_then c.args.bank.now c.messages.bank c.answer_message.new.bank
-    c.messages.invariant.spares c.in_err-answer_message-in-Message.ensures.spares
-
-pub returns-then-message-clause-spares : goal.returns-then-message-clause-spares
-returns-then-message-clause-spares g c =
-    g.met.C.Counter.spares_then c.args.bank.now c.messages.bank c.answer_message.new.bank
-    c.messages.invariant.spares c.in_ok-answer_message-in-Message.ensures.spares

@@ -15,21 +15,26 @@ not_none : {P : Type 0} {rs all : List (List ℕ)} {empty : Bool} → rs ≡ all
 not_none {rs = rs} same is some none = absurd (omega (arith, ap length same, some_of rs (sym is ∙ some), none))
 
 -- there is no record
-pub returns-then-is_empty-clause-submits : goal.returns-then-is_empty-clause-submits
-returns-then-is_empty-clause-submits g c =
+pub returns-then-is_empty : goal.returns-then-is_empty
+returns-then-is_empty g c =
     let none : length c.as_slice-records.result.now ≡ 0 =
-    eqb-true (length c.as_slice-records.result.now) 0 (sym c.is_empty.ensures ∙ c.if-is_empty.true) in record {
-      readings = [];
-      once = omega arith;
-      clock = refl;
-      few = omega (arith, c.as_slice-records.ensures.fits, ap length c.as_slice-records.ensures.value);
-      did = rw (sym c.as_slice-records.ensures.value, none)
-          (submitted_nothing g.C.Counter.seen [] c.args.bank.now c.args.here.now.items c.args.tally.now);
+    eqb-true (length c.as_slice-records.result.now) 0 (sym c.is_empty.ensures ∙ c.if-is_empty.true) in
+    record {
+      submits = record {
+        readings = [];
+        once = omega arith;
+        clock = refl;
+        few = omega (arith, c.as_slice-records.ensures.fits, ap length c.as_slice-records.ensures.value);
+        did = rw (sym c.as_slice-records.ensures.value, none)
+            (submitted_nothing g.C.Counter.seen [] c.args.bank.now c.args.here.now.items c.args.tally.now);
+      };
+      none = λ none. refl;
+      spares = g.met.C.Counter.spares_itself c.args.bank.now;
     }
 
 -- the bank took them
-pub returns-in-Ok-clause-submits : goal.returns-in-Ok-clause-submits
-returns-in-Ok-clause-submits g c =
+pub returns-in-Ok : goal.returns-in-Ok
+returns-in-Ok g c =
     let ss = c.args.self.now.senders.items in
     let rs = c.as_slice-records.result.now in
     let here = c.args.here.now.items in
@@ -38,51 +43,65 @@ returns-in-Ok-clause-submits g c =
     let some : 0 < length rs =
     some_of rs (sym c.is_empty.ensures ∙ c.if-is_empty.false) in
     record {
-      readings = c.now-moment.result ∷ [];
-      once = omega arith;
-      clock = (c.now-moment.ensures.0, c.now-moment.ensures.1);
-      few = omega (arith, c.as_slice-records.ensures.fits, ap length c.as_slice-records.ensures.value);
-      did = rw (sym c.as_slice-records.ensures.value)
-          (taken_all g.C.Counter.seen g.C.Counter.contents g.C.Counter.reason c.now-moment.result c.args.bank.now
-          c.submit_all.new.self here c.answer.new.here.items c.args.tally.now c.count_commit.new.self ss rs given
-          c.requires.gives.apart c.deref.result.now c.in-Ok.replies c.requires.others c.in-Ok.ensures.call
-          (λ h log shown. c.deref.ensures.value ∙ c.in-Ok.ensures.answer h log shown) c.answer.ensures
-          (rw (c.deref-in-Ok.ensures.value, sym c.deref.ensures.value) at c.count_commit.ensures) some);
+      submits = record {
+        readings = c.now-moment.result ∷ [];
+        once = omega arith;
+        clock = (c.now-moment.ensures.0, c.now-moment.ensures.1);
+        few = omega (arith, c.as_slice-records.ensures.fits, ap length c.as_slice-records.ensures.value);
+        did = rw (sym c.as_slice-records.ensures.value)
+            (taken_all g.C.Counter.seen g.C.Counter.contents g.C.Counter.reason c.now-moment.result c.args.bank.now
+            c.submit_all.new.self here c.answer.new.here.items c.args.tally.now c.count_commit.new.self ss rs given
+            c.requires.gives.apart c.deref.result.now c.in-Ok.replies c.requires.others c.in-Ok.ensures.call
+            (λ h log shown. c.deref.ensures.value ∙ c.in-Ok.ensures.answer h log shown) c.answer.ensures
+            (rw (c.deref-in-Ok.ensures.value, sym c.deref.ensures.value) at c.count_commit.ensures) some);
+      };
+      none = not_none c.as_slice-records.ensures.value c.is_empty.ensures c.if-is_empty.false;
+      spares = c.in-Ok.ensures.spares;
     }
 
 -- memory was refused for all of them together
-pub returns-in-Err-Memory-clause-submits : goal.returns-in-Err-Memory-clause-submits
-returns-in-Err-Memory-clause-submits g c = record {
-  readings = c.now-moment.result ∷ [];
-  once = omega arith;
-  clock = (c.now-moment.ensures.0, c.now-moment.ensures.1);
-  few = omega (arith, c.as_slice-records.ensures.fits, ap length c.as_slice-records.ensures.value);
-  did = submitted_after g.C.Counter.seen (c.now-moment.result ∷ []) c.args.bank.now c.submit_all.new.self
-      c.submit_each.new.bank c.args.here.now.items c.args.here.now.items c.submit_each.new.here.items
-      (length c.args.self.now.records.items) c.submit_each.result
-      (spared_all g.C.Counter.seen g.C.Counter.contents g.C.Counter.reason (c.now-moment.result ∷ []) c.args.bank.now
-      c.submit_all.new.self c.args.here.now.items _ c.args.tally.now c.in-Err-Memory.field-0
-      c.in-Err-Memory.field-0-is c.in-Err-Memory.ensures.call) c.submit_each.ensures.submits;
-}
+pub returns-in-Err-Memory : goal.returns-in-Err-Memory
+returns-in-Err-Memory g c =
+    record {
+      submits = record {
+        readings = c.now-moment.result ∷ [];
+        once = omega arith;
+        clock = (c.now-moment.ensures.0, c.now-moment.ensures.1);
+        few = omega (arith, c.as_slice-records.ensures.fits, ap length c.as_slice-records.ensures.value);
+        did = submitted_after g.C.Counter.seen (c.now-moment.result ∷ []) c.args.bank.now c.submit_all.new.self
+            c.submit_each.new.bank c.args.here.now.items c.args.here.now.items c.submit_each.new.here.items
+            (length c.args.self.now.records.items) c.submit_each.result
+            (spared_all g.C.Counter.seen g.C.Counter.contents g.C.Counter.reason (c.now-moment.result ∷ []) c.args.bank.now
+            c.submit_all.new.self c.args.here.now.items _ c.args.tally.now c.in-Err-Memory.field-0
+            c.in-Err-Memory.field-0-is c.in-Err-Memory.ensures.call) c.submit_each.ensures.submits;
+      };
+      none = not_none c.as_slice-records.ensures.value c.is_empty.ensures c.if-is_empty.false;
+      spares = g.met.C.Counter.spares_then c.args.bank.now c.submit_all.new.self c.submit_each.new.bank
+          c.in-Err-Memory.ensures.spares c.submit_each.ensures.spares;
+    }
 
 -- the bank refused them
-pub returns-in-Err-clause-submits : goal.returns-in-Err-clause-submits
-returns-in-Err-clause-submits g c =
+pub returns-in-Err : goal.returns-in-Err
+returns-in-Err g c =
     let ss = c.args.self.now.senders.items in
     let rs = c.as_slice-records.result.now in
     let here = c.args.here.now.items in
     let given : AreGiven here ss rs =
     subst (λ (l : List (List ℕ)). AreGiven here ss l) (sym c.as_slice-records.ensures.value) c.requires.gives.given in
     record {
-      readings = c.now-moment.result ∷ [];
-      once = omega arith;
-      clock = (c.now-moment.ensures.0, c.now-moment.ensures.1);
-      few = omega (arith, c.as_slice-records.ensures.fits, ap length c.as_slice-records.ensures.value);
-      did = rw (sym c.as_slice-records.ensures.value)
-          (refused_all g.C.Counter.seen g.C.Counter.contents g.C.Counter.reason c.now-moment.result c.args.bank.now
-          c.submit_all.new.self here c.refuse.new.here.items c.args.tally.now c.args.tally.now ss rs given
-          c.requires.gives.apart c.in-Err.fault
-          c.requires.others c.in-Err.ensures.call c.refuse.ensures);
+      submits = record {
+        readings = c.now-moment.result ∷ [];
+        once = omega arith;
+        clock = (c.now-moment.ensures.0, c.now-moment.ensures.1);
+        few = omega (arith, c.as_slice-records.ensures.fits, ap length c.as_slice-records.ensures.value);
+        did = rw (sym c.as_slice-records.ensures.value)
+            (refused_all g.C.Counter.seen g.C.Counter.contents g.C.Counter.reason c.now-moment.result c.args.bank.now
+            c.submit_all.new.self here c.refuse.new.here.items c.args.tally.now c.args.tally.now ss rs given
+            c.requires.gives.apart c.in-Err.fault
+            c.requires.others c.in-Err.ensures.call c.refuse.ensures);
+      };
+      none = not_none c.as_slice-records.ensures.value c.is_empty.ensures c.if-is_empty.false;
+      spares = c.in-Err.ensures.spares;
     }
 
 -- ---- what the calls ask for
@@ -95,34 +114,3 @@ submit_each-requires g c = record { others = c.requires.others; gives = c.requir
 
 pub refuse-requires : goal.refuse-requires
 refuse-requires g c = c.requires.gives
-
--- ---- there is a record, and what no call touches
-
-pub returns-then-is_empty-clause-none : goal.returns-then-is_empty-clause-none
-returns-then-is_empty-clause-none g c = λ none. refl
-
-pub returns-then-is_empty-clause-spares : goal.returns-then-is_empty-clause-spares
-returns-then-is_empty-clause-spares g c = g.met.C.Counter.spares_itself c.args.bank.now
-
-pub returns-in-Ok-clause-none : goal.returns-in-Ok-clause-none
-returns-in-Ok-clause-none g c =
-    not_none c.as_slice-records.ensures.value c.is_empty.ensures c.if-is_empty.false
-
-pub returns-in-Ok-clause-spares : goal.returns-in-Ok-clause-spares
-returns-in-Ok-clause-spares g c = c.in-Ok.ensures.spares
-
-pub returns-in-Err-Memory-clause-none : goal.returns-in-Err-Memory-clause-none
-returns-in-Err-Memory-clause-none g c =
-    not_none c.as_slice-records.ensures.value c.is_empty.ensures c.if-is_empty.false
-
-pub returns-in-Err-Memory-clause-spares : goal.returns-in-Err-Memory-clause-spares
-returns-in-Err-Memory-clause-spares g c =
-    g.met.C.Counter.spares_then c.args.bank.now c.submit_all.new.self c.submit_each.new.bank
-    c.in-Err-Memory.ensures.spares c.submit_each.ensures.spares
-
-pub returns-in-Err-clause-none : goal.returns-in-Err-clause-none
-returns-in-Err-clause-none g c =
-    not_none c.as_slice-records.ensures.value c.is_empty.ensures c.if-is_empty.false
-
-pub returns-in-Err-clause-spares : goal.returns-in-Err-clause-spares
-returns-in-Err-clause-spares g c = c.in-Err.ensures.spares

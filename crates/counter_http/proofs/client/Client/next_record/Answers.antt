@@ -13,30 +13,54 @@ messages-init g c = record {
 }
 
 -- many answers are left
-pub returns-then-untaken-gt-UNTAKEN-clause-answers : goal.returns-then-untaken-gt-UNTAKEN-clause-answers
-returns-then-untaken-gt-UNTAKEN-clause-answers g c = answered_as _ c.messages.invariant.answered
+pub returns-then-untaken-gt-UNTAKEN : goal.returns-then-untaken-gt-UNTAKEN
+returns-then-untaken-gt-UNTAKEN g c =
+    record {
+      answers = answered_as _ c.messages.invariant.answered;
+      «record» = tt;
+      rests = λ none. inl (inr (inl (omega (arith, c.untaken.ensures, c.if-untaken-gt-UNTAKEN.true))));
+      spares = c.messages.invariant.spares;
+    }
 
 -- the bank refused a call
-pub returns-in_err-answer_front-clause-answers : goal.returns-in_err-answer_front-clause-answers
-returns-in_err-answer_front-clause-answers g c =
+pub returns-in_err-answer_front : goal.returns-in_err-answer_front
+returns-in_err-answer_front g c =
     let failed = err_from_is_err_and c.from_residual.result c.from_residual.ensures.1 in
-    rw (failed.1, failed.2) (answered_err (answered_then g.C.Counter.seen c.args.bank.now c.messages.bank
-    c.answer_front.new.bank c.args.self.now c.messages.self c.answer_front.new.self _ c.messages.invariant.answered
-    c.in_err-answer_front.ensures.answers))
+    record {
+      answers = rw (failed.1, failed.2) (answered_err (answered_then g.C.Counter.seen c.args.bank.now c.messages.bank
+          c.answer_front.new.bank c.args.self.now c.messages.self c.answer_front.new.self _ c.messages.invariant.answered
+          c.in_err-answer_front.ensures.answers));
+      «record» = rw failed.1 tt;
+      rests = rw failed.1 tt;
+      spares = g.met.C.Counter.spares_then c.args.bank.now c.messages.bank c.answer_front.new.bank c.messages.invariant.spares
+          c.in_err-answer_front.ensures.spares;
+    }
 
 -- no more can be done now
-pub returns-in-Nothing-clause-answers : goal.returns-in-Nothing-clause-answers
-returns-in-Nothing-clause-answers g c =
-    answered_as _ (answered_then g.C.Counter.seen c.args.bank.now c.messages.bank
-    c.answer_front.new.bank c.args.self.now c.messages.self c.answer_front.new.self _ c.messages.invariant.answered
-    c.in_ok-answer_front.ensures.answers)
+pub returns-in-Nothing : goal.returns-in-Nothing
+returns-in-Nothing g c =
+    record {
+      answers = answered_as _ (answered_then g.C.Counter.seen c.args.bank.now c.messages.bank
+          c.answer_front.new.bank c.args.self.now c.messages.self c.answer_front.new.self _ c.messages.invariant.answered
+          c.in_ok-answer_front.ensures.answers);
+      «record» = tt;
+      rests = λ none. inl (rw c.in-Nothing.is at c.in_ok-answer_front.ensures.rests);
+      spares = g.met.C.Counter.spares_then c.args.bank.now c.messages.bank c.answer_front.new.bank c.messages.invariant.spares
+          c.in_ok-answer_front.ensures.spares;
+    }
 
 -- a record
-pub returns-in-Record-clause-answers : goal.returns-in-Record-clause-answers
-returns-in-Record-clause-answers g c =
-    answered_as _ (answered_then g.C.Counter.seen c.args.bank.now c.messages.bank
-    c.answer_front.new.bank c.args.self.now c.messages.self c.answer_front.new.self _ c.messages.invariant.answered
-    c.in_ok-answer_front.ensures.answers)
+pub returns-in-Record : goal.returns-in-Record
+returns-in-Record g c =
+    record {
+      answers = answered_as _ (answered_then g.C.Counter.seen c.args.bank.now c.messages.bank
+          c.answer_front.new.bank c.args.self.now c.messages.self c.answer_front.new.self _ c.messages.invariant.answered
+          c.in_ok-answer_front.ensures.answers);
+      «record» = rw c.in-Record.is at c.in_ok-answer_front.ensures.record;
+      rests = λ none. cc none;
+      spares = g.met.C.Counter.spares_then c.args.bank.now c.messages.bank c.answer_front.new.bank c.messages.invariant.spares
+          c.in_ok-answer_front.ensures.spares;
+    }
 
 pub messages-preserved : goal.messages-preserved
 messages-preserved g c =
@@ -51,61 +75,11 @@ messages-preserved g c =
     }
 
 -- two were answered
-pub returns-clause-rests : goal.returns-clause-rests
-returns-clause-rests g c = λ none. inr (omega (arith, c.messages.invariant.few))
-
-pub returns-in-Nothing-clause-rests : goal.returns-in-Nothing-clause-rests
-returns-in-Nothing-clause-rests g c = λ none. inl (rw c.in-Nothing.is at c.in_ok-answer_front.ensures.rests)
-
--- ---- what is given, and what no call touches
-
-pub returns-then-untaken-gt-UNTAKEN-clause-record : goal.returns-then-untaken-gt-UNTAKEN-clause-record
-returns-then-untaken-gt-UNTAKEN-clause-record g c = tt
-
-pub returns-then-untaken-gt-UNTAKEN-clause-rests : goal.returns-then-untaken-gt-UNTAKEN-clause-rests
-returns-then-untaken-gt-UNTAKEN-clause-rests g c =
-    λ none. inl (inr (inl (omega (arith, c.untaken.ensures, c.if-untaken-gt-UNTAKEN.true))))
-
-pub returns-then-untaken-gt-UNTAKEN-clause-spares : goal.returns-then-untaken-gt-UNTAKEN-clause-spares
-returns-then-untaken-gt-UNTAKEN-clause-spares g c = c.messages.invariant.spares
-
-pub returns-in_err-answer_front-clause-record : goal.returns-in_err-answer_front-clause-record
-returns-in_err-answer_front-clause-record g c =
-    let failed = err_from_is_err_and c.from_residual.result c.from_residual.ensures.1 in rw failed.1 tt
-
-pub returns-in_err-answer_front-clause-rests : goal.returns-in_err-answer_front-clause-rests
-returns-in_err-answer_front-clause-rests g c =
-    let failed = err_from_is_err_and c.from_residual.result c.from_residual.ensures.1 in rw failed.1 tt
-
-pub returns-in_err-answer_front-clause-spares : goal.returns-in_err-answer_front-clause-spares
-returns-in_err-answer_front-clause-spares g c =
-    g.met.C.Counter.spares_then c.args.bank.now c.messages.bank c.answer_front.new.bank c.messages.invariant.spares
-    c.in_err-answer_front.ensures.spares
-
-pub returns-in-Nothing-clause-record : goal.returns-in-Nothing-clause-record
-returns-in-Nothing-clause-record g c = tt
-
-pub returns-in-Nothing-clause-spares : goal.returns-in-Nothing-clause-spares
-returns-in-Nothing-clause-spares g c =
-    g.met.C.Counter.spares_then c.args.bank.now c.messages.bank c.answer_front.new.bank c.messages.invariant.spares
-    c.in_ok-answer_front.ensures.spares
-
-pub returns-in-Record-clause-record : goal.returns-in-Record-clause-record
-returns-in-Record-clause-record g c = rw c.in-Record.is at c.in_ok-answer_front.ensures.record
-
-pub returns-in-Record-clause-rests : goal.returns-in-Record-clause-rests
-returns-in-Record-clause-rests g c = λ none. cc none
-
-pub returns-in-Record-clause-spares : goal.returns-in-Record-clause-spares
-returns-in-Record-clause-spares g c =
-    g.met.C.Counter.spares_then c.args.bank.now c.messages.bank c.answer_front.new.bank c.messages.invariant.spares
-    c.in_ok-answer_front.ensures.spares
-
-pub returns-clause-answers : goal.returns-clause-answers
-returns-clause-answers g c = answered_as _ c.messages.invariant.answered
-
-pub returns-clause-record : goal.returns-clause-record
-returns-clause-record g c = tt
-
-pub returns-clause-spares : goal.returns-clause-spares
-returns-clause-spares g c = c.messages.invariant.spares
+pub returns : goal.returns
+returns g c =
+    record {
+      answers = answered_as _ c.messages.invariant.answered;
+      «record» = tt;
+      rests = λ none. inr (omega (arith, c.messages.invariant.few));
+      spares = c.messages.invariant.spares;
+    }
