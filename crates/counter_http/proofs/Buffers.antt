@@ -3,7 +3,7 @@ use Rattle.std.proofs.Common.{◌≡◌, ℕ, ◌+◌, ◌-◌, ◌≤◌, List,
 use Rattle.std.proofs.Common.{Ok, Err, sym, ap, subst, ◌∙◌, append-nil, arith, false}
 use Rattle.std.specs.{Prelude.◌≢◌, Prelude.OnOk, Prelude.is_err, declared.io.Error.Error}
 use Rattle.std.specs.Io.KnownBytes.{Appends, Keeps, WriteAppends}
-use Rattle.std.proofs.lemmas.List.{drop-append-le, drop-take, take_all, nil_from_length}
+use Rattle.std.proofs.lemmas.List.{drop-append-le, drop-take, length-append, take_all, nil_from_length}
 use Rattle.std.proofs.lemmas.{Bool.true≢false, Slice.between_to_end}
 use Rattle.std.proofs.Math.ListN.{length-drop}
 use Rattle.posting_core.specs.believed.EndCalls.{EndsWith, GrowsBy}
@@ -21,6 +21,16 @@ told_onto (Ok done) old new text written within ok wrote =
     ap (drop written) (wrote.1 ∙ ap (λ (x : List ℕ). old ++ x) (take_all wrote.0 text (omega (arith, wrote.2))))
     ∙ drop-append-le written old text within
 told_onto (Err e) old new text written within ok wrote = absurd (true≢false (sym ok))
+
+-- what was told stands behind what was written
+pub told_within : (old new text : List ℕ) (written : ℕ) → written ≤ length old → Appends (Some old) (Some new) text
+    → written ≤ length new
+told_within old new text written within wrote = omega (arith, ap length wrote, length-append old text)
+
+-- no more is left of what was read
+pub left_within : (items old new : List ℕ) (filled long : ℕ) → items ≡ new → length new ≡ length old
+    → filled ≤ length old → filled - long ≤ length items
+left_within items old new filled long is same within = rw (is, same) (omega arith)
 
 -- the message at the front is passed
 pub moved_front : (old new : List ℕ) (filled long : ℕ) → long ≤ filled

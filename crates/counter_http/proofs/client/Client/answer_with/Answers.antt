@@ -1,8 +1,8 @@
-use Rattle.std.proofs.Common.{◌≡◌, ℕ, List, [], false, ◌-◌, ◌∙◌, ap, refl, take, arith}
+use Rattle.std.proofs.Common.{◌≡◌, ℕ, List, [], false, ◌-◌, ◌∙◌, ap, refl, take, length, arith}
 use Rattle.std.proofs.Math.Dec.{ltb}
 use Rattle.std.proofs.lemmas.Bool.{ltb-false}
 use Rattle.std.proofs.lemmas.List.{with_items_is}
-use Rattle.counter_http.proofs.Buffers.{moved_front, told_onto}
+use Rattle.counter_http.proofs.Buffers.{left_within, moved_front, told_onto, told_within}
 use Rattle.counter_http.proofs.client.Client.answer_with.Goals as goal
 
 nothing_left : (filled : ℕ) (items : List ℕ) → ltb 0 filled ≡ false → take filled items ≡ []
@@ -49,3 +49,34 @@ move_to_front-requires-clause-order g c = c.requires
 
 pub overflow_sub-self : goal.overflow_sub-self
 overflow_sub-self g c = c.requires
+
+-- ---- what stands in its buffers
+
+pub invariant_of-self : goal.invariant_of-self
+invariant_of-self g c = record {
+  filled_within = c.args.self.now.filled_within;
+  written_within = told_within c.args.self.now.output.items c.tell.new.writer.items _ c.args.self.now.written
+      c.args.self.now.written_within c.tell.ensures.written.1;
+}
+
+pub invariant_of-self-then-head : goal.invariant_of-self-then-head
+invariant_of-self-then-head g c =
+    let old = c.args.self.now in
+    record {
+      filled_within = left_within _ old.input.items c.move_to_front.new.buffer old.filled c.args.head.length
+          (with_items_is old.input c.move_to_front.new.buffer (c.move_to_front.auto.buffer ∙ c.deref_mut.ensures.len))
+          (c.move_to_front.auto.buffer ∙ ap length c.deref_mut.ensures.value) old.filled_within;
+      written_within = told_within old.output.items c.tell.new.writer.items _ old.written old.written_within
+          c.tell.ensures.written.1;
+    }
+
+pub invariant_of-self-else-head : goal.invariant_of-self-else-head
+invariant_of-self-else-head g c =
+    let old = c.args.self.now in
+    record {
+      filled_within = left_within _ old.input.items c.move_to_front.new.buffer old.filled c.args.head.length
+          (with_items_is old.input c.move_to_front.new.buffer (c.move_to_front.auto.buffer ∙ c.deref_mut.ensures.len))
+          (c.move_to_front.auto.buffer ∙ ap length c.deref_mut.ensures.value) old.filled_within;
+      written_within = told_within old.output.items c.tell.new.writer.items _ old.written old.written_within
+          c.tell.ensures.written.1;
+    }

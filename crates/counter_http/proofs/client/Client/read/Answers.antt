@@ -28,6 +28,83 @@ is_end r n is none = subst (λ (x : Result ℕ Error). IsEndOfInput (read_call x
 is_failure : (r : Result ℕ Error) (e : Error) → r ≡ Err e → error_kind e ≢ Interrupted → IsReadFailure (read_call r)
 is_failure r e is kind = subst (λ (x : Result ℕ Error). IsReadFailure (read_call x)) (sym is) kind
 
+still_within : (items old new : List ℕ) (n : ℕ) → items ≡ new → length new ≡ length old → n ≤ length old
+    → n ≤ length items
+still_within items old new n e same within = rw (e, same) within
+
+now_within : (items new : List ℕ) (n : ℕ) → items ≡ new → n ≤ length new → n ≤ length items
+now_within items new n e within = rw e within
+
+-- ---- what stands in its buffers
+
+pub invariant_of-self : goal.invariant_of-self
+invariant_of-self g c = record {
+  filled_within = c.args.self.now.filled_within;
+  written_within = c.args.self.now.written_within;
+}
+
+pub invariant_of-self-then-self-len : goal.invariant_of-self-then-self-len
+invariant_of-self-then-self-len g c = record {
+  filled_within = c.args.self.now.filled_within;
+  written_within = c.args.self.now.written_within;
+}
+
+pub invariant_of-self-in-Ok : goal.invariant_of-self-in-Ok
+invariant_of-self-in-Ok g c =
+    let old = c.args.self.now in
+    let fill = c.fill_buffer_beside in
+    record {
+      filled_within = now_within _ fill.new.buffer (old.filled + c.in-Ok.n) (with_items_is old.input fill.new.buffer
+          (fill.auto.buffer ∙ c.deref_mut.ensures.len)) c.in-Ok.ensures.fits;
+      written_within = old.written_within;
+    }
+
+pub invariant_of-self-then-eq : goal.invariant_of-self-then-eq
+invariant_of-self-then-eq g c =
+    let old = c.args.self.now in
+    let fill = c.fill_buffer_beside in
+    record {
+      filled_within = still_within _ old.input.items fill.new.buffer old.filled (with_items_is old.input fill.new.buffer
+          (fill.auto.buffer ∙ c.deref_mut.ensures.len)) (fill.auto.buffer ∙ ap length c.deref_mut.ensures.value)
+          old.filled_within;
+      written_within = old.written_within;
+    }
+
+pub invariant_of-self-in-Err : goal.invariant_of-self-in-Err
+invariant_of-self-in-Err g c =
+    let old = c.args.self.now in
+    let fill = c.fill_buffer_beside in
+    record {
+      filled_within = still_within _ old.input.items fill.new.buffer old.filled (with_items_is old.input fill.new.buffer
+          (fill.auto.buffer ∙ c.deref_mut.ensures.len)) (fill.auto.buffer ∙ ap length c.deref_mut.ensures.value)
+          old.filled_within;
+      written_within = old.written_within;
+    }
+
+pub invariant_of-self-then-self-eq0 : goal.invariant_of-self-then-self-eq0
+invariant_of-self-then-self-eq0 g c =
+    let old = c.args.self.now in
+    let fill = c.fill_buffer_beside in
+    record {
+      filled_within = still_within _ old.input.items fill.new.buffer old.filled (with_items_is old.input fill.new.buffer
+          (fill.auto.buffer ∙ c.deref_mut.ensures.len)) (fill.auto.buffer ∙ ap length c.deref_mut.ensures.value)
+          old.filled_within;
+      written_within = old.written_within;
+    }
+
+pub invariant_of-self-else-self-eq0 : goal.invariant_of-self-else-self-eq0
+invariant_of-self-else-self-eq0 g c =
+    let old = c.args.self.now in
+    let fill = c.fill_buffer_beside in
+    record {
+      filled_within = still_within _ old.input.items fill.new.buffer old.filled (with_items_is old.input fill.new.buffer
+          (fill.auto.buffer ∙ c.deref_mut.ensures.len)) (fill.auto.buffer ∙ ap length c.deref_mut.ensures.value)
+          old.filled_within;
+      written_within = old.written_within;
+    }
+
+-- ---- what was read
+
 -- bytes came
 pub returns-in-Ok : goal.returns-in-Ok
 returns-in-Ok g c =
@@ -46,7 +123,7 @@ returns-in-Ok g c =
           (none_at_end old.output.items old.written c.if-not-is_written.ensures) refl refl refl read.got read.long
           fill.ensures.tells fill.ensures.beside;
       goes_on = none_if old.parting c.is_some.result c.is_some.ensures c.if-is_some.false;
-      more = λ e. cc e;
+      more = λ e. absurd (true≢false e);
       shows = refl;
       added = ap (take (old.filled + c.in-Ok.n)) (with_items_is old.input fill.new.buffer
           (fill.auto.buffer ∙ c.deref_mut.ensures.len)) ∙ read.all_is;
