@@ -264,3 +264,26 @@ pub reading_as : (P : Type 0) (c : Seen) (read : Result Reading Fault) (answer :
     → IfOk read (λ reading. P → (log : List Command) → ShowsLog c log → said_in reading ≡ answer_to log a)
 reading_as P c (Ok reading) answer a same is = λ h log s. is h log s ∙ sym (same log)
 reading_as P c (Err fault) answer a same is = tt
+
+-- this was read for a message, which submits nothing and asks for no figures
+pub record IsReadFor {C : Type 0} (seen : C → Seen) (reason : Fault → C → C → Type 0) (old new : C) (a : Asked)
+    (read : Result Reading Fault) : Type 0 where
+  pub posts : is_posting a ≡ false
+  pub figures : asks_figures a ≡ false
+  pub asked : IsAsked seen reason old new read
+  pub says : IfOk read (λ reading. (seen new).honest → (log : List Command) → ShowsLog (seen old) log
+      → said_in reading ≡ answer_to log a)
+
+pub read_for : {C : Type 0} (seen : C → Seen) {reason : Fault → C → C → Type 0} (old new : C) (a : Asked)
+    (read : Result Reading Fault) (answer : List Command → Answer)
+    → ((submits (route_of (path_of a.target)) a ≡ false)
+    × ((log : List Command) → answer_on log (route_of (path_of a.target)) a ≡ answer log)
+    × (asks_on (route_of (path_of a.target)) a ≡ false)) → IsAsked seen reason old new read
+    → IfOk read (λ reading. (seen new).honest → (log : List Command) → ShowsLog (seen old) log
+    → said_in reading ≡ answer log) → IsReadFor seen reason old new a read
+read_for seen old new a read answer task asked is = record {
+  posts = submits_as a false task.0;
+  figures = asks_as a false task.2;
+  asked = asked;
+  says = reading_as (seen new).honest (seen old) read answer a (λ log. answers_as a log (answer log) (task.1 log)) is;
+}

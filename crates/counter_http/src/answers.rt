@@ -247,21 +247,13 @@ pub(crate) fn answer_message<W: Sink, K: Clock, C: Followed>(
         bank.old bank.new (asked message.now) result }
     ensures spares { C.spares bank.old bank.new }
 {
-    match task_of(message, routes) {
-        Task::Say(response) => say(message, &response, writer),
-        Task::Submit(record) => answer_posting(message, record, writer, clock, bank),
-        Task::Balance(holder) => {
-            let read = read_balance(alloc, holder, bank);
-            answer_reading(message, read, writer)
-        }
-        Task::Branches(listing) => {
-            let read = read_branches(alloc, listing, bank);
-            answer_reading(message, read, writer)
-        }
-        Task::Entries(after) => {
-            let read = read_entries(after, bank);
-            answer_reading(message, read, writer)
-        }
-        Task::Metrics => say(message, &not_found(), writer),
-    }
+    let read = match task_of(message, routes) {
+        Task::Say(response) => return say(message, &response, writer),
+        Task::Submit(record) => return answer_posting(message, record, writer, clock, bank),
+        Task::Metrics => return say(message, &not_found(), writer),
+        Task::Balance(holder) => read_balance(alloc, holder, bank),
+        Task::Branches(listing) => read_branches(alloc, listing, bank),
+        Task::Entries(after) => read_entries(after, bank),
+    };
+    answer_reading(message, read, writer)
 }

@@ -343,26 +343,18 @@ impl<R: Source + Drop, W: Sink + Drop> Client<R, W> {
                     shows_body: !is_head(message.method),
                     closes: message.closes,
                 };
-                match task_of(&message, routes) {
-                    Task::Submit(bytes) => Ok(Front::Record(Record {
-                        bytes: *bytes,
-                        head,
-                    })),
-                    Task::Say(response) => Ok(self.say(&response, head)),
-                    Task::Balance(holder) => {
-                        let read = read_balance(alloc, holder, bank);
-                        self.answer_reading(read, head)
+                let read = match task_of(&message, routes) {
+                    Task::Submit(bytes) => {
+                        let bytes = *bytes;
+                        return Ok(Front::Record(Record { bytes, head }));
                     }
-                    Task::Branches(listing) => {
-                        let read = read_branches(alloc, listing, bank);
-                        self.answer_reading(read, head)
-                    }
-                    Task::Entries(after) => {
-                        let read = read_entries(after, bank);
-                        self.answer_reading(read, head)
-                    }
-                    Task::Metrics => Ok(self.say_figures(alloc, figures, head)),
-                }
+                    Task::Say(response) => return Ok(self.say(&response, head)),
+                    Task::Metrics => return Ok(self.say_figures(alloc, figures, head)),
+                    Task::Balance(holder) => read_balance(alloc, holder, bank),
+                    Task::Branches(listing) => read_branches(alloc, listing, bank),
+                    Task::Entries(after) => read_entries(after, bank),
+                };
+                self.answer_reading(read, head)
             }
             Next::Unfinished(shows) => {
                 self.shows_body = shows;
