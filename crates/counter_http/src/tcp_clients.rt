@@ -237,11 +237,8 @@ impl<'l, T: Clock, V: ServeWatch + Drop> TcpClients<'l, T, V> {
         let timeout = if at_once { 0 } else { millis(left) };
         poll(self.asked.as_mut_slice(), timeout);
         self.is_waited_for = self.is_ready(0);
-        for _client in clients {
-            if readiness.push(Readiness::Waits).is_err() {
-                readiness.clear();
-                return false;
-            }
+        if readiness.resize(clients.len(), Readiness::Waits).is_err() {
+            return false;
         }
         let mut is_busy = false;
         for (nth, place) in self.places.iter().enumerate() {
@@ -293,8 +290,9 @@ impl<'l, T: Clock, V: ServeWatch + Drop> TcpClients<'l, T, V> {
             return;
         };
         self.looked = Some(then);
+        let must_give_way = is_full && self.is_waited_for;
         for (place, it) in readiness.iter_mut().enumerate() {
-            let gives_way = is_full && self.is_waited_for && idle == Some(place);
+            let gives_way = must_give_way && idle == Some(place);
             if let Some(patience) = self.patience.get_mut(place) {
                 if *it == Readiness::Ready {
                     patience.is_awake = true;
