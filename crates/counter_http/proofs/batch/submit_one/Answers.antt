@@ -3,13 +3,6 @@ use Rattle.std.proofs.lemmas.Option.{slice_get_within}
 use Rattle.counter_http.proofs.Submitted.{refused_all, spared_each, taken_all}
 use Rattle.counter_http.proofs.batch.submit_one.Goals as goal
 
--- the sender is at the place of a client
-pub answer_at-requires : goal.answer_at-requires
-answer_at-requires g c = slice_get_within c.args.here.now.items c.args.sender.place c.requires.gives.client c.requires.gives.at
-
-pub refuse_at-requires : goal.refuse_at-requires
-refuse_at-requires g c = slice_get_within c.args.here.now.items c.args.sender.place c.requires.gives.client c.requires.gives.at
-
 -- the bank took it
 pub returns-in-Ok : goal.returns-in-Ok
 returns-in-Ok g c = record {
@@ -44,3 +37,10 @@ returns-in_default g c = record {
   only = record { client = c.refuse_at.ensures.after; is = c.refuse_at.ensures.is };
   spares = c.in-Err.ensures.spares;
 }
+
+-- the sender is at the place of a client
+pub answer_at-requires : goal.answer_at-requires
+answer_at-requires g c = slice_get_within c.args.here.now.items c.args.sender.place c.requires.gives.client c.requires.gives.at
+
+pub refuse_at-requires : goal.refuse_at-requires
+refuse_at-requires g c = slice_get_within c.args.here.now.items c.args.sender.place c.requires.gives.client c.requires.gives.at
