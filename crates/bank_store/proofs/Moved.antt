@@ -1,11 +1,10 @@
 -- What the changed tables show, why they aren't changed, and what a transaction leaves that changes them.
 use Rattle.std.proofs.Common.{◌≡◌, ℕ, pos, [], ◌∷◌, true, false, None, Some, Option, is_some, Ok, Err, refl, ap, ◌∙◌}
-use Rattle.std.proofs.Common.{subst, sym, inl, inr, arith}
+use Rattle.std.proofs.Common.{subst, sym, inl, inr}
 use Rattle.std.specs.Prelude.{IsTrue}
 use Rattle.std.proofs.lemmas.Bool.{cases_Bool}
 use Rattle.sqlite.specs.{Effect.Database, Held.Held, Held.state, Tree.Trees, declared.error.Error.Error}
 use Rattle.sqlite.specs.State.{State, HasCleanDisk, KeepsCommit, Survives, Shows as StateShows}
-use Rattle.sqlite.proofs.{Callers.survives_begin, StateLemmas.survives_then}
 use Rattle.sqlite_trees.specs.declared.store.Store.{Ghosts}
 use Rattle.posting_rules.specs.believed.Tables.{Tables}
 use Rattle.posting_rules.specs.declared.{open_fault.OpenFault.TheVariants.Damaged, fault.Rule.TheVariants.Meta}
@@ -19,7 +18,7 @@ use Rattle.store_rows.specs.believed.View.{Shows, ShowsTrees, contents_of, meta_
 use Rattle.bank_transactions.proofs.Blamed.{comes, same_moment}
 use Rattle.bank_store.specs.Migration.{BankIsMoved, ChangesTables, HasMoved, IsUnmoved, KeepsRows}
 use Rattle.bank_store.specs.{OpenFaults.of_the_store, OpenFaults.unmoved_by, StoreFaults.KnowsCause}
-use Rattle.bank_store.proofs.{FoundEarlier.meta_there, Unmade.own_error}
+use Rattle.bank_store.proofs.{FoundEarlier.meta_there, Settled.begun_survives, Unmade.own_error}
 
 -- ---- a table isn't made
 
@@ -130,14 +129,11 @@ module _ {S : Type 0} (from : ℕ) (g : Ghosts S) (old begun last new : Held S)
       → ChangesTables from (state g begun).now (state g last).now (Ok tt))
       → Survives (state g old) (state g new) (HasMoved from (state g old).now)
   stops first then changed =
-      survives_begin g old (state g new) (HasMoved from (state g old).now)
-      (subst (λ (h : Held S). Survives (state g h) (state g new) (HasMoved from (state g old).now)) is
-      (survives_then (state g begun) (state g last) (state g new) (λ _. ⊥) (MayLeave (state g last).now)
-      (HasMoved from (state g old).now) (λ clean left none. absurd none)
+      begun_survives g old begun last new is (MayLeave (state g last).now) (HasMoved from (state g old).now)
       (λ clean left made.
-      let it = changed_at changed (omega (arith, then.clean)) in
+      let it = changed_at changed clean in
       ((λ t was. made.1 t (it.0 t was).0), ((state g last).now, made.0, it.1)))
-      first then))
+      first then
 
   -- the bank is moved once it is committed
   pub bank_moved : (HasCleanDisk (state g last) → IsTrue (state g begun).in_transaction

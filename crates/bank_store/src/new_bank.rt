@@ -19,7 +19,7 @@ use bank_transactions::{begin, note_settled};
 use posting_rules::OpenFault;
 use sqlite::{Alter, Connection};
 use std::alloc::Global;
-use store_rows::{BankTable, create_tables, probe_table};
+use store_rows::{BankTable, commit, create_tables, probe_table};
 
 // Makes the tables of a bank and the first row of meta, in one transaction.
 fn make_tables<S: Alter>(conn: &mut Connection<S>) -> Result<(), OpenFault>
@@ -31,7 +31,7 @@ fn make_tables<S: Alter>(conn: &mut Connection<S>) -> Result<(), OpenFault>
         Ok(()) => {}
         Err(e) => return Err(unmade(&e)),
     }
-    match tx.commit() {
+    match commit(tx) {
         Ok(()) => Ok(()),
         Err(_) => Err(OpenFault::Store),
     }
