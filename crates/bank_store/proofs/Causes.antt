@@ -4,7 +4,7 @@ use Rattle.std.specs.Prelude.{IfErr, IsTrue}
 use Rattle.std.proofs.lemmas.Bool.{cases_Bool}
 use Rattle.sqlite.specs.{Table.Table, Tree.Trees, State.State, State.HasCleanDisk, State.Survives, Held.Held}
 use Rattle.sqlite.specs.{Held.state, Steps.FailsToCommit, declared.error.Error.Error}
-use Rattle.sqlite.proofs.StateLemmas.{survives_then}
+use Rattle.sqlite.proofs.StateLemmas.{survives_then, survives_weaker}
 use Rattle.sqlite_trees.specs.declared.store.Store.{Ghosts}
 use Rattle.store_rows.specs.{Calls.Probes, Creation.CreatesBank, believed.Failures.Committing, Failures.HasReason}
 use Rattle.store_rows.specs.{declared.fault.TableFault.TableFault, declared.metas.StoredMeta.StoredMeta}
@@ -132,6 +132,17 @@ module _ {S X Y : Type 0} (g : Ghosts S) (old mid new : Held S) (inner : Result 
 
   pub looks_then : LooksIn g mid new inner → LooksIn g old new result
   looks_then = call_then (λ _. ⊥) (λ _. ⊥) (λ clean left none. none)
+
+-- a look commits nothing
+pub only_looked : {S X Y : Type 0} (g : Ghosts S) (old new : Held S) (Commits : Trees → Type 0)
+    (inner : Result X OpenFault) (result : Result Y OpenFault)
+    → (IfErr inner (KnowsCause g old new) → IfErr result (KnowsCause g old new)) → LooksIn g old new inner
+    → IsOpenCall g old new Commits result
+only_looked g old new Commits inner result answers it = record {
+  cause = answers it.cause;
+  mode = it.mode;
+  survives = survives_weaker (state g old) (state g new) (λ _. ⊥) Commits (λ clean left none. absurd none) it.survives;
+}
 
 -- a probe after a call
 module _ {S X : Type 0} (g : Ghosts S) (old mid new : Held S) (Commits : Trees → Type 0) (inner : Result X OpenFault)

@@ -29,6 +29,7 @@ use Rattle.bank_store.specs.MetaRow.{ChecksCount, ChecksOnly, HasOnlyRow, IsNoCo
 use Rattle.bank_store.specs.Migration.{BankIsMoved, HasEarlier, HasEarlierTables, IsCounted, IsFrom, IsOfEarlier}
 use Rattle.bank_store.specs.Migration.{IsUnmoved, Migrates, Misplaces, MissesEarlier, TellsNoEarlier, IsUncounted}
 use Rattle.bank_store.specs.Migration.{MovesFound, SeeksEarlier, ShowsEarlier, earlier_probes}
+use Rattle.bank_store.specs.declared.migration.Migrated.TheVariants.{Moved}
 use Rattle.bank_store.specs.TablePresence.{IsPresent, Lacks, OneOf}
 use Rattle.bank_store.specs.declared.presence.Presence.TheVariants.{Absent, Partial, Whole}
 use Rattle.bank_store.proofs.FoundBank.{decided_in, has_its_table, known, not_outside, reads_at, version_in}
@@ -73,6 +74,10 @@ module _ (from : ℕ) (old mid new : State) (tables : IsPresent old.now (earlier
   counted m read (Err fault) (is, outside) =
       subst (λ (f : OpenFault). SeeksEarlier from old new (Err f)) (sym is)
       ((tables, inl (row_is (Some m) read IsUncounted (inr (m, refl, outside)))), as_before old mid new first then)
+
+  pub missing : ((rows : List Entry) → HoldsRows mid.now bank.meta rows → None ≡ meta_in rows)
+      → SeeksEarlier from old new (Err (Damaged Meta))
+  missing read = ((tables, inl (row_is None read IsUncounted (inl refl))), as_before old mid new first then)
 
 -- the row of the bank isn't the only one, or that isn't known
 pub not_only : (from : ℕ) (old mid new : State) → HasEarlierTables from old.now → IsAsBefore old mid
@@ -120,6 +125,12 @@ module _ (from : ℕ) (old mid new : State) (version : ℤ) (is : IsFrom version
     ),
     reads_at old mid found.1 new fault h.1,
   )
+
+  pub moved_at : MovesFound from mid new (Ok tt) → Migrates old new (Ok (Moved version))
+  moved_at done other told =
+      let same : from ≡ other = (let it = sym is.0 ∙ told.0 in cc) in
+      let it = subst (λ (db : Database). HasEarlier from db × BankIsMoved from db new) found.1.now_is done in
+      subst (λ n. IsOfEarlier n old × HasEarlier n old.now × BankIsMoved n old.now new) same (was_earlier, it.0, it.1)
 
 -- ---- where a log is shown
 

@@ -1,5 +1,5 @@
 -- What is found is moved, if it has an earlier version.
-use Rattle.std.proofs.Common.{◌≡◌, ℕ, ℤ, Err, Result, rules, subst}
+use Rattle.std.proofs.Common.{◌≡◌, ℕ, ℤ, Err, Result, rules, subst, inl}
 use Rattle.std.specs.Prelude.{IfErr}
 use mir.Val.{to_z, of_z}
 use mir.Syntax.{w64}
@@ -8,7 +8,8 @@ use Rattle.sqlite_trees.specs.declared.store.Store.{Ghosts}
 use Rattle.posting_rules.specs.declared.open_fault.OpenFault.{OpenFault, TheVariants.Version}
 use Rattle.bank_store.specs.{FoundBank.SeeksBank, StoreFaults.IsOpenCall, StoreFaults.KnowsCause}
 use Rattle.bank_store.specs.Migration.{HasCarriedOver, HasMoved, IsFrom}
-use Rattle.bank_store.proofs.{Causes.call_then, Causes.still_clean, FoundEarlier.unmoved_at, FoundEarlier.was_earlier}
+use Rattle.bank_store.proofs.Causes.{call_then, only_looked, still_clean}
+use Rattle.bank_store.proofs.FoundEarlier.{moved_at, unmoved_at, was_earlier}
 use Rattle.bank_store.proofs.migration.find_or_move.Goals as goal
 
 -- a bank is moved after a look at its version
@@ -53,11 +54,57 @@ returns-in_err-move_found-in-Some g c =
           (λ knows. knows);
     })
 
-pub returns-in_ok-move_found-in-Some-clause-call : goal.returns-in_ok-move_found-in-Some-clause-call
-returns-in_ok-move_found-in-Some-clause-call g c =
+pub returns-in_ok-move_found-in-Some : goal.returns-in_ok-move_found-in-Some
+returns-in_ok-move_found-in-Some g c =
+    let s = state g.S.Store in
+    let old = c.args.conn.now in
+    let mid = c.find_bank.new.conn in
+    let new = c.move_found.new.conn in
     let first = c.in-Err-Version in
     let same : to_z w64 (of_z w64 first.version) ≡ first.version = search rules in
     let from : IsFrom first.version c.in-Some.from = rw same at c.in-Some.ensures.some in
-    moves_on g.S.Store c.args.conn.now c.find_bank.new.conn c.move_found.new.conn first.version c.in-Some.from from
-    first.field-0 first.field-0-is first.ensures.answers first.ensures.looks.survives c.move_found.result
-    c.move_found.ensures.call _ (λ _. tt)
+    let done = c.in_ok-move_found-in-Some.ensures in
+    record {
+      answers = λ clean. rw same (moved_at c.in-Some.from (s old) (s mid) (s new) first.version from
+          (subst (λ (f : OpenFault). SeeksBank (s old) (s mid) (Err f)) first.field-0-is
+          (first.ensures.answers (still_clean done.call.survives clean))) (done.answers clean));
+      from = (c.in-Some.from, c.in-Some.ensures.some);
+      call =
+          moves_on g.S.Store old mid new first.version c.in-Some.from from first.field-0 first.field-0-is
+          first.ensures.answers first.ensures.looks.survives c.move_found.result c.move_found.ensures.call _ (λ _. tt);
+    }
+
+-- ---- nothing is moved
+
+pub returns-in-Ok : goal.returns-in-Ok
+returns-in-Ok g c = record {
+  answers = c.in-Ok.ensures.answers;
+  from = tt;
+  call = only_looked g.S.Store c.args.conn.now c.find_bank.new.conn (HasCarriedOver (state g.S.Store c.args.conn.now))
+      c.find_bank.result _ (λ _. tt) c.find_bank.ensures.looks;
+}
+
+pub returns-in-None : goal.returns-in-None
+returns-in-None g c =
+    let s = state g.S.Store in
+    let old = c.args.conn.now in
+    let new = c.find_bank.new.conn in
+    let first = c.in-Err-Version in
+    let same : to_z w64 (of_z w64 first.version) ≡ first.version = search rules in
+    record {
+      answers = λ clean.
+          let found = subst (λ (f : OpenFault). SeeksBank (s old) (s new) (Err f)) first.field-0-is
+          (first.ensures.answers clean) in
+          rw same (inl (found.0, rw same at (c.earlier.ensures.none c.in-None.is)), found.1);
+      from = tt;
+      call = only_looked g.S.Store old new (HasCarriedOver (s old)) c.find_bank.result _ (λ _. tt)
+          c.find_bank.ensures.looks;
+    }
+
+pub returns-in-Err-clause-from : goal.returns-in-Err-clause-from
+returns-in-Err-clause-from g c = tt
+
+pub returns-in-Err-clause-call : goal.returns-in-Err-clause-call
+returns-in-Err-clause-call g c =
+    only_looked g.S.Store c.args.conn.now c.find_bank.new.conn (HasCarriedOver (state g.S.Store c.args.conn.now))
+    (Err c.in-Err.fault) (Err c.in-Err.fault) (λ knows. knows) c.in-Err.ensures.looks
