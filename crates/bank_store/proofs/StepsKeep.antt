@@ -1,5 +1,5 @@
 -- What several steps of a walk leave of a connection.
-use Rattle.std.proofs.Common.{◌≡◌, Result, Ok, Err, List, sym, subst, ◌∙◌, inl, inr, IsTrue}
+use Rattle.std.proofs.Common.{◌≡◌, Result, Ok, Err, List, refl, sym, subst, ◌∙◌, inl, inr, IsTrue}
 use Rattle.std.specs.Prelude.{IfErr, OnOk, false}
 use Rattle.std.proofs.lemmas.Result.{on_ok_weaker}
 use Rattle.sqlite.specs.{Table.Table, Effect.Database, State.State, State.IsUnchanged}
@@ -40,6 +40,9 @@ still_undone old new a is_open =
       committed_is = a.1;
       mode = a.2;
     }
+
+pub untouched : (s : State) → IsUntouchedIfOpen s s
+untouched s = still_undone s s (refl, refl, refl, refl)
 
 -- ---- rows were read outside a transaction
 

@@ -2,6 +2,7 @@
 use Rattle.std.proofs.Common.{◌≡◌, ◌≤◌, ◌≤ℤ◌, ◌+ℤ◌, ◌+◌, pos, subst, ℕ, ℤ, zero, suc, List, [], ◌∷◌, ◌++◌, map, drop}
 use Rattle.std.proofs.Common.{length, slice_get, Some, None, Option, Result, Ok, Err, sym, ap, ◌∙◌, arith}
 use Rattle.std.proofs.lemmas.List.{drop_all}
+use Rattle.std.specs.Prelude.{◌≢◌}
 use Rattle.posting_rules.specs.declared.fault.{Fault.Fault, Rule.Rule}
 use Rattle.posting_rules.specs.declared.fault.Fault.TheVariants as fault
 use Rattle.sqlite.specs.declared.error.Error.{Error}
@@ -18,6 +19,14 @@ pub told_of : {X : Type 0} (Because : Error → Type 0) (Breaks : Rule → X →
     → BreaksFirst Because Breaks items f → IsToldFault Because Breaks items fault
 told_of Because Breaks items (Sqlite e) fault tells broke = rw tells (e, broke)
 told_of Because Breaks items (Damaged broken) fault tells broke = rw tells broke
+
+-- and is of this walk, and not of memory
+pub told_of_this : (f : TableFault) (told : Fault) → TellsFault f told
+    → (told ≢ fault.Down) × (told ≢ fault.Memory)
+told_of_this (Sqlite e) told tells =
+    ((λ down. let both = sym tells ∙ down in cc), (λ memory. let both = sym tells ∙ memory in cc))
+told_of_this (Damaged broken) told tells =
+    ((λ down. let both = sym tells ∙ down in cc), (λ memory. let both = sym tells ∙ memory in cc))
 
 -- the fault that is told is a step's
 pub faulty_step : {R X : Type 0} (item : R → X) (Because : Error → Type 0) (Breaks : Rule → X → Type 0)

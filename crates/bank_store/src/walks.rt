@@ -291,7 +291,7 @@ pub fn each_account<S: Alter>(bank: &mut Bank<S>) -> Result<Walk<'_, S, StoredAc
     ensures begins { BeginsWalk S.Store entry_key account_entry (λ of e. true)
         (λ db rows. HasStoredRows db account_table rows) None bank.entry.ghost_name bank.old result }
 {
-    each_row(bank)
+    begin_walk(bank, None)
 }
 
 /// Begins a walk over the postings of an account: its rows of `history`, in the order in which they were
@@ -329,5 +329,5 @@ pub fn each_history<S: Alter>(
         (λ db pairs. HasPairs db history_table request_table pairs) None bank.entry.ghost_name bank.old
         result }
 {
-    each_row(bank)
+    begin_walk(bank, None)
 }

@@ -1,12 +1,12 @@
 -- One table after another.
-use Rattle.std.proofs.Common.{◌≡◌, length, map, take, rules, arith, sym, subst}
+use Rattle.std.proofs.Common.{◌≡◌, length, map, take, arith, sym, subst}
 use Rattle.std.proofs.Math.Seq.{take-length}
 use Rattle.sqlite.specs.Held.{state}
 use Rattle.bank_store.specs.Connections.{IsAsBefore}
 use Rattle.store_rows.specs.Probes.{probe_of}
 use Rattle.bank_store.specs.TablePresence.{joined, presence_of, IsPresent}
 use Rattle.bank_store.proofs.Causes.{fails_then, probe_failed, still_clean}
-use Rattle.bank_store.proofs.Probed.{next_probe, one_more, probed}
+use Rattle.bank_store.proofs.{Probed.next_probe, Probed.one_more, Probed.probed, StepsKeep.quiet_then}
 use Rattle.bank_store.proofs.presence.count_tables.Goals as goal
 
 pub loop-table-init : goal.loop-table-init
@@ -37,7 +37,12 @@ loop-table-preserved g c =
           (one_more g.S.Store old c.loop-table.conn new (probe_of c.args.first)
           (map probe_of (take at others)) _ there is
           (c.loop-table.invariant.answers (still_clean here.survives clean)) here clean));
-      looks = record { cause = tt; mode = here.mode c.loop-table.invariant.looks.mode; survives = search rules };
+      looks = record {
+        cause = tt;
+        mode = here.mode c.loop-table.invariant.looks.mode;
+        survives = quiet_then (state g.S.Store old) (state g.S.Store c.loop-table.conn) (state g.S.Store new)
+            c.loop-table.invariant.looks.survives here.survives;
+      };
     }
 
 pub returns-clause-answers : goal.returns-clause-answers

@@ -1,6 +1,9 @@
 -- What a step gives.
 use Rattle.std.proofs.Common.{◌≡◌, None, Err, filter, refl, sym, rules, ◌∙◌}
 use Rattle.walked_rows.specs.Rows.{items_after}
+use Rattle.walked_rows.proofs.Causes.{nothing_called}
+use Rattle.bank_store.specs.Walking.{lent_state}
+use Rattle.bank_store.proofs.StepsKeep.{untouched}
 use Rattle.bank_store.proofs.WalkSteps.{err_not_ok, failed_not_ended, faulty_step, gives_next}
 use Rattle.bank_store.proofs.WalkSteps.{none_after_end, none_to_come, not_ended, not_failed, ok_no_err}
 use Rattle.bank_store.proofs.WalkSteps.{rises_next, same_fault, some_not_none, store_told}
@@ -11,9 +14,9 @@ returns-in-Failed g c = record {
   bank = record {
     same_reference = refl;
     same = λ clean. tt;
-    undone = search rules;
+    undone = λ clean. untouched (lent_state g.S.Store c.args.self.now);
     up = refl;
-    survives = search rules;
+    survives = nothing_called (lent_state g.S.Store c.args.self.now);
   };
   answers = λ clean rows has. refl;
   store = λ clean rows has no. absurd (let it = no in cc);
@@ -33,9 +36,9 @@ returns-in-Ended g c = record {
   bank = record {
     same_reference = refl;
     same = λ clean. (refl, refl, refl, refl);
-    undone = search rules;
+    undone = λ clean. untouched (lent_state g.S.Store c.args.self.now);
     up = refl;
-    survives = search rules;
+    survives = nothing_called (lent_state g.S.Store c.args.self.now);
   };
   answers =
       λ clean rows has.

@@ -4,7 +4,10 @@ use Rattle.std.proofs.lemmas.{Int.to_z-of_z, List.drop_all}
 use Rattle.sqlite.specs.Held.{state}
 use Rattle.sql_meanings.specs.StatementAnswers.{IsStoreError}
 use Rattle.walked_rows.specs.StepOutcomes.{BreaksFirst}
-use Rattle.bank_store.proofs.WalkSteps.{from_rest, refilled, rises_on, told_of}
+use Rattle.walked_rows.proofs.Causes.{nothing_called}
+use Rattle.bank_store.specs.Walking.{lent_state}
+use Rattle.bank_store.proofs.StepsKeep.{untouched}
+use Rattle.bank_store.proofs.WalkSteps.{from_rest, refilled, rises_on, told_of, told_of_this}
 use Rattle.bank_store.proofs.walks.Walk.refill.Goals as goal
 
 pub returns-then-self-len : goal.returns-then-self-len
@@ -12,9 +15,9 @@ returns-then-self-len g c = record {
   bank = record {
     same_reference = refl;
     same = λ clean. (refl, refl, refl, refl);
-    undone = search rules;
+    undone = λ clean. untouched (lent_state g.S.Store c.args.self.now);
     up = refl;
-    survives = search rules;
+    survives = nothing_called (lent_state g.S.Store c.args.self.now);
   };
   answers = λ clean rows has. refl;
   rises = λ k before. before;
@@ -28,13 +31,13 @@ returns-in_default g c = record {
   bank = record {
     same_reference = refl;
     same = λ clean. (refl, refl, refl, refl);
-    undone = search rules;
+    undone = λ clean. untouched (lent_state g.S.Store c.args.self.now);
     up = refl;
-    survives = search rules;
+    survives = nothing_called (lent_state g.S.Store c.args.self.now);
   };
   answers = λ clean rows has. refl;
   rises = λ k before. before;
-  rest = search rules;
+  rest = λ low. c.in_default.is;
   going = c.requires;
   failed = tt;
 }
@@ -94,5 +97,5 @@ returns-in-Err g c =
       rises = λ k before. tt;
       rest = tt;
       going = tt;
-      failed = search rules;
+      failed = (let this = told_of_this _ _ c.fault_of.ensures in (refl, this.0, this.1));
     }
