@@ -1,11 +1,12 @@
 -- A bank whose database is left as it was found, stands where it stood, and spares the tables of other products.
-use Rattle.std.proofs.Common.{Result, Ok, Err, arith, inl, refl, sym, subst, ◌∙◌, ◌≡◌}
+use Rattle.std.proofs.Common.{Result, Ok, Err, arith, refl, sym, subst, ◌∙◌, ◌≡◌}
 use Rattle.std.specs.Prelude.{IsTrue}
 use Rattle.sqlite.specs.{Effect.Database, Held.Held, Held.state, State.HasCleanDisk, State.Survives, Tree.Trees}
 use Rattle.sqlite.proofs.StateLemmas.{survives_then, survives_weaker}
 use Rattle.sqlite_trees.specs.declared.store.Store.{Ghosts}
 use Rattle.posting_rules.specs.declared.fault.Fault.{Fault}
 use Rattle.sql_meanings.proofs.Sparing.{spares_itself}
+use Rattle.walked_rows.proofs.Causes.{nothing_called}
 use Rattle.store_rows.specs.believed.Sparing.{SparesOthers, bank_names}
 use Rattle.bank_transactions.specs.Undone.{IsUndone}
 use Rattle.bank_store.specs.Leaving.{CommitsAsFound, LeavesAsFound, OnlyReads}
@@ -15,17 +16,7 @@ use Rattle.bank_store.specs.believed.Seen.{connection_of, database_of, file_of}
 module _ {S : Type 0} (g : Ghosts S) where
   -- nothing was done
   pub idle_as_found : (bank : Bank S g) → LeavesAsFound g bank bank
-  idle_as_found bank = record {
-    now = λ clean is_open. refl;
-    left = record {
-      clean = omega arith;
-      shield = λ h. h;
-      counts = omega arith;
-      limit = refl;
-      closes = λ clean was. inl was;
-      crash = λ clean left may. inl may;
-    };
-  }
+  idle_as_found bank = record { now = λ clean is_open. refl; left = nothing_called (file_of bank) }
 
   module _ (old new : Bank S g) where
     -- it was only read

@@ -1,5 +1,5 @@
 -- A call of the bank, as the one record of it: what became of a transaction, or nothing was tried.
-use Rattle.std.proofs.Common.{◌≡◌, ℕ, List, length, Option, None, Result, Ok, Err, arith, refl, sym, ap, subst, ◌∙◌, inl, inr}
+use Rattle.std.proofs.Common.{◌≡◌, ℕ, List, length, Bool, false, is_some, Option, None, Result, Ok, Err, arith, refl, sym, ap, subst, ◌∙◌, inl, inr}
 use Rattle.std.specs.Prelude.{IsSome, ◌≢◌}
 use Rattle.sqlite.specs.{State.State, State.HasCleanDisk, State.Survives, Held.Held, Held.state}
 use Rattle.sqlite_trees.specs.declared.store.Store.{Ghosts}
@@ -22,7 +22,9 @@ use Rattle.bank_transactions.specs.Undone.{IsUndone}
 use Rattle.bank_store.specs.{Down.GoesDown, Seen.fault_of, Walks.IsUntouchedIfOpen, declared.bank.Bank.Bank}
 use Rattle.bank_store.specs.believed.Seen.{bank_seen, cause_of, connection_of, database_of}
 use Rattle.bank_store.proofs.Broke.{BreaksShown, consulted, transacted}
+use Rattle.bank_store.proofs.Causes.{still_clean}
 use Rattle.bank_store.proofs.Countered.{HoldsOfLogs, failed_between, has_room, keeps_file, cause_error, no_error, refuses}
+use Rattle.bank_store.proofs.Countered.{takes}
 
 -- It is refused as the trait says, for its reason; damage leaves the file as it was, and says this; neither
 -- memory nor an earlier fault is told; and what is honest was.
@@ -55,14 +57,25 @@ pub answered_call : {S X : Type 0} (g : Ghosts S) (old new : Bank S g) (cs : Lis
 answered_call g old new cs x was_up up takes honest =
     call_answered (bank_seen g) (database_of g) (bank_reason g) old new cs was_up honest x up takes
 
+-- one whose transaction was committed
+pub committed_call : {S X Y : Type 0} {So : Tables → Type 0} {after : Tables → Tables} {wanted : Tables → X} {x : X}
+    {Met : Damage S} {Adds : Additions} (g : Ghosts S) (old new : Bank S g) (holds : HoldsOfLogs So)
+    (cs : List Command) → IsChange after cs → AreCommands cs → (y : Y) → ((bank_seen g old).is_down → ⊥)
+    → ((bank_seen g new).is_down → ⊥)
+    → TransactsBy Met Adds g (connection_of old) (connection_of new) So after wanted (Ok x)
+    → IsBankCall g old new cs (Ok y)
+committed_call g old new holds cs is are y was_up up does =
+    answered_call g old new cs y was_up up
+    (takes holds cs is are (bank_seen g old).is_down (bank_seen g new).is_down up does) (still_clean does.survives)
+
+-- a bank tells whether it is down
+pub is_up : (fault : Option TableFault) {tells : Bool} → tells ≡ is_some fault → tells ≡ false → IsSome fault → ⊥
+is_up fault says up down = let both = sym up ∙ says ∙ down in cc
+
 -- a call of a bank that was down
-pub untried_call : {S X : Type 0} (g : Ghosts S) (bank : Bank S g) (cs : List Command)
-    (result : Result X Fault) (fault : Fault) → result ≡ Err fault → fault ≡ Down → (bank_seen g bank).is_down
-    → IsBankCall g bank bank cs result
-untried_call {S} {X} g bank cs result fault is tells was =
-    subst (λ (r : Result X Fault). IsBankCall g bank bank cs r)
-    (sym (is ∙ ap (λ (f : Fault). let r : Result X Fault = Err f in r) tells))
-    (call_untried (bank_seen g) (database_of g) (bank_reason g) bank cs was tt)
+pub untried_call : {S X : Type 0} (g : Ghosts S) (bank : Bank S g) (cs : List Command) → (bank_seen g bank).is_down
+    → IsBankCall {X = X} g bank bank cs (Err Down)
+untried_call g bank cs was = call_untried (bank_seen g) (database_of g) (bank_reason g) bank cs was tt
 
 -- a call that was refused memory before anything was tried
 pub spared_call : {S X : Type 0} (g : Ghosts S) (bank : Bank S g) (cs : List Command)
@@ -104,9 +117,9 @@ of_wider Store P Q wide is = tt
 of_wider Down P Q wide is = tt
 of_wider (Broken rule) P Q wide is = wide rule is
 
--- a bank that was down tells of none
-pub of_down : (P : Rule → Type 0) (refused : Fault) → refused ≡ Down → OfDamage refused P
-of_down P refused is = rw is tt
+-- one that was refused memory tells of none
+pub of_memory : (P : Rule → Type 0) (refused : Fault) → refused ≡ Memory → OfDamage refused P
+of_memory P refused is = rw is tt
 
 -- of records: both are so of it, and tables that are ready for them break none
 pub breaks : {S : Type 0} (g : Ghosts S) (records : List (List ℕ)) (old new : Bank S g) (refused : Fault)

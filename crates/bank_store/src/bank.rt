@@ -42,6 +42,14 @@ fn put_replies(room: &mut Vec<[u8; REPLY_BYTES]>, replies: &Replies)
     let _ = room.extend_from_slice(replies);
 }
 
+// The reply to the one record.
+fn only_reply(replies: &Replies) -> [u8; REPLY_BYTES]
+    requires { length replies.now.items ≡ 1 }
+    ensures { replies.now.items ≡ result ∷ [] }
+{
+    replies[0]
+}
+
 /// A bank over a connection, with the calls of [`Counter`]. Each call is one transaction, which is committed
 /// before the call answers `Ok` (TPC-B clause 2). Between calls no transaction is open. Amounts are whole
 /// cents, and moments whole seconds since 1970-01-01T00:00:00Z.
@@ -90,17 +98,6 @@ impl<S: Alter> Bank<S> {
             memory: Memory::with_room(alloc),
             fault: None,
         }
-    }
-
-    /// The fault that a bank which is down answers to each call.
-    pub(crate) fn up(&self) -> Result<(), Fault>
-        ensures up { OnOk result ((bank_seen S.Store self.now).is_down → ⊥) }
-        ensures down { IfErr result (λ f. (f ≡ fault.Down) × (bank_seen S.Store self.now).is_down) }
-    {
-        if self.is_down() {
-            return Err(Fault::Down);
-        }
-        Ok(())
     }
 
     /// Gives the connection back, outside a transaction and with the file as it is. Close it where the bank
@@ -304,7 +301,9 @@ impl<S: Alter + Drop> Counter for Bank<S> {
         ensures spares { SparesOtherTables S.Store self.old self.new }
     {
         range_law(moment);
-        self.up()?;
+        if self.is_down() {
+            return Err(Fault::Down);
+        }
         let Ok(request) = decode_request(bytes) else {
             return Ok(encode_reply(&malformed_reply()));
         };
@@ -313,7 +312,7 @@ impl<S: Alter + Drop> Counter for Bank<S> {
         match post_looked_up(&mut self.conn, &mut memory, moment, batch) {
             Ok(replies) => {
                 self.memory = memory;
-                Ok(replies[0])
+                Ok(only_reply(&replies))
             }
             Err(fault) => Err(self.go_down(fault)),
         }
@@ -353,7 +352,9 @@ impl<S: Alter + Drop> Counter for Bank<S> {
         ensures spares { SparesOtherTables S.Store self.old self.new }
     {
         range_law(moment);
-        self.up()?;
+        if self.is_down() {
+            return Err(Fault::Down);
+        }
         let mut replies = Vec::with_capacity(self.alloc, records.len())?;
         let batch = Batch::new(self.alloc, records)?;
         let mut memory = self.memory.take();
@@ -393,7 +394,9 @@ impl<S: Alter + Drop> Counter for Bank<S> {
     {
         range_law(branch);
         floor_law(&floor);
-        self.up()?;
+        if self.is_down() {
+            return Err(Fault::Down);
+        }
         self.memory.forget();
         match open_branch(&mut self.conn, branch, count, floor) {
             Ok(opening) => Ok(opening),
@@ -414,7 +417,9 @@ impl<S: Alter + Drop> Counter for Bank<S> {
         ensures broken { IfErr result (λ fault. OfDamage fault (WasBroken S.Store self.old self.new)) }
         ensures spares { SparesOtherTables S.Store self.old self.new }
     {
-        self.up()?;
+        if self.is_down() {
+            return Err(Fault::Down);
+        }
         self.memory.forget();
         match read_balance(&mut self.conn, account) {
             Ok(balance) => Ok(balance),
@@ -435,7 +440,9 @@ impl<S: Alter + Drop> Counter for Bank<S> {
         ensures broken { IfErr result (λ fault. OfDamage fault (WasBroken S.Store self.old self.new)) }
         ensures spares { SparesOtherTables S.Store self.old self.new }
     {
-        self.up()?;
+        if self.is_down() {
+            return Err(Fault::Down);
+        }
         self.memory.forget();
         match read_next_branch(&mut self.conn, after) {
             Ok(next) => Ok(next),

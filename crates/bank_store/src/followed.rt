@@ -44,7 +44,9 @@ impl<S: Alter + Drop> Followed for Bank<S> {
         ensures reads { OnlyReads S.Store self.old self.new result }
         ensures broken { IfErr result (λ fault. OfDamage fault (WasBroken S.Store self.old self.new)) }
     {
-        self.up()?;
+        if self.is_down() {
+            return Err(Fault::Down);
+        }
         if after > MAX_DECIDED {
             return Ok(None);
         }
@@ -76,7 +78,9 @@ impl<S: Alter + Drop> Followed for Bank<S> {
             → database_of S.Store self.new ≡ database_of S.Store self.old) }
         ensures broken { IfErr result (λ fault. OfDamage fault (WasBroken S.Store self.old self.new)) }
     {
-        self.up()?;
+        if self.is_down() {
+            return Err(Fault::Down);
+        }
         self.memory.forget();
         match read_teller(&mut self.conn, teller) {
             Ok(balances) => Ok(own_balance(balances)),

@@ -1,14 +1,9 @@
 -- How the bank goes down where the store doesn't answer, and that its file is as it was.
 use Rattle.std.proofs.Common.{◌∙◌, refl, sym, inl, inr}
-use Rattle.sqlite.specs.{Held.state, State.State}
+use Rattle.sqlite.specs.Held.{state}
 use Rattle.bank_transactions.proofs.Remembered.{blank}
-use Rattle.bank_store.specs.Connections.{IsUndoneIfOpen}
-use Rattle.bank_store.proofs.{AsFound.idle_as_found, OtherTables.probe_unchanged, Settled.back}
+use Rattle.bank_store.proofs.{AsFound.idle_as_found, OtherTables.probe_unchanged, Settled.back, StepsKeep.untouched}
 use Rattle.bank_store.proofs.bank.Bank.go_down.Goals as goal
-
--- nothing was asked
-untouched : (s : State) → IsUndoneIfOpen s s
-untouched s still = record { was_open = still; is_open = still; now_is = refl; committed_is = refl; mode = refl }
 
 pub note_settled-requires : goal.note_settled-requires
 note_settled-requires g c = c.args.self.now.idle

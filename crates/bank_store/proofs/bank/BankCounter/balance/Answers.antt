@@ -1,14 +1,11 @@
 -- What a balance comes to.
-use Rattle.std.proofs.Common.{◌≡◌, [], ◌∙◌, Err, refl}
-use Rattle.std.proofs.lemmas.Result.{err_from_is_err_and}
-use Rattle.std.specs.Prelude.{IsSome}
+use Rattle.std.proofs.Common.{[], ◌∙◌, Err, sym}
 use Rattle.posting_rules.specs.declared.fault.Fault.TheVariants.{Down}
 use Rattle.posting_rules.proofs.{Calls.stays, Looked.balance_shown, ChangesByKey.sound_tables}
 use Rattle.bank_store.proofs.AsFound.{idle_reads, reads_done, reads_down}
-use Rattle.bank_store.proofs.{Countered.takes, Causes.still_clean}
 use Rattle.bank_store.proofs.bank.BankCounter.balance.Given.{Over}
 use Rattle.bank_store.proofs.OtherTables.{spares_done, spares_down, spares_untouched}
-use Rattle.bank_store.proofs.Refusing.{answered_call, consult_refused, of_down, refused_call, untried_call, Refusal}
+use Rattle.bank_store.proofs.Refusing.{committed_call, consult_refused, is_up, refused_call, untried_call, Refusal}
 use Rattle.bank_transactions.specs.Causes.{IsFirstBroken}
 use Rattle.bank_transactions.proofs.Remembered.{blank}
 use Rattle.bank_store.proofs.bank.BankCounter.balance.Goals as goal
@@ -34,19 +31,18 @@ invariant_of-self g c = record {
 pub returns-in-Ok : goal.returns-in-Ok
 returns-in-Ok g c =
     let says = c.in-Ok.ensures.says in
-    let Failed = IsSome c.args.self.now.fault in
     record {
       answer =
           λ clean log s. (says.answers clean s.tables s.are (sound_tables s.tables log s.commands s.shows)).0
           ∙ balance_shown s.tables log c.args.account s.shows;
       call =
-          answered_call g.S.Store c.args.self.now _ [] _ c.in_ok-up.ensures.up c.in_ok-up.ensures.up
-          (takes sound_tables [] stays tt Failed Failed c.in_ok-up.ensures.up says) (still_clean says.survives);
+          committed_call g.S.Store c.args.self.now _ sound_tables [] stays tt _ (is_up c.args.self.now.fault c.is_down.ensures c.if-is_down.false) (is_up c.args.self.now.fault c.is_down.ensures c.if-is_down.false)
+          says;
       frugal = λ same. (let it = same in cc);
       stored = c.in-Ok.ensures.stored;
       reads = reads_done g.S.Store c.args.self.now _ c.in-Ok.balance c.in-Ok.ensures.still c.in-Ok.ensures.left;
       broken = tt;
-      spares = spares_done g.S.Store c.args.self.now _ _ c.in_ok-up.ensures.up says.spares;
+      spares = spares_done g.S.Store c.args.self.now _ _ (is_up c.args.self.now.fault c.is_down.ensures c.if-is_down.false) says.spares;
     }
 
 pub returns-in-Err : goal.returns-in-Err
@@ -54,27 +50,26 @@ returns-in-Err g c =
     let no = refused g c in
     record {
       answer = tt;
-      call = refused_call g.S.Store c.args.self.now c.go_down.new.self [] c.go_down.result no c.in_ok-up.ensures.up;
+      call = refused_call g.S.Store c.args.self.now c.go_down.new.self [] c.go_down.result no (is_up c.args.self.now.fault c.is_down.ensures c.if-is_down.false);
       frugal = λ same. no.frugal (let it = same in cc);
       stored = tt;
       reads = reads_down g.S.Store c.args.self.now c.go_down.new.self c.read_balance.new.conn c.go_down.result
           c.in-Err.ensures.undone c.in-Err.ensures.left c.go_down.ensures.undone c.go_down.ensures.survives;
       broken = no.broken;
       spares = spares_down g.S.Store c.args.self.now c.go_down.new.self c.read_balance.new.conn c.in-Err.fault
-          c.go_down.result c.in_ok-up.ensures.up c.in-Err.ensures.says.spares c.in-Err.ensures.undone
+          c.go_down.result (is_up c.args.self.now.fault c.is_down.ensures c.if-is_down.false) c.in-Err.ensures.says.spares c.in-Err.ensures.undone
           c.go_down.ensures.down c.go_down.ensures.undone c.go_down.ensures.survives;
     }
 
-pub returns-in_err-up : goal.returns-in_err-up
-returns-in_err-up g c =
-    let p = err_from_is_err_and c.from_residual.result c.from_residual.ensures.1 in
-    let down : p.0 ≡ Down = p.2 ∙ c.in_err-up.ensures.down.0 in
-    rw p.1 (record {
+pub returns-then-is_down : goal.returns-then-is_down
+returns-then-is_down g c =
+    let down = sym c.is_down.ensures ∙ c.if-is_down.true in
+    record {
       answer = tt;
-      call = untried_call g.S.Store c.args.self.now [] (Err p.0) p.0 refl down c.in_err-up.ensures.down.1;
+      call = untried_call g.S.Store c.args.self.now [] down;
       frugal = λ same. (let it = same in cc);
       stored = tt;
-      reads = idle_reads g.S.Store c.args.self.now (Err p.0);
-      broken = of_down _ p.0 down;
+      reads = idle_reads g.S.Store c.args.self.now (Err Down);
+      broken = tt;
       spares = spares_untouched g.S.Store c.args.self.now;
-    })
+    }

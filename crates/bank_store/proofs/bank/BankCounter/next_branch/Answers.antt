@@ -1,14 +1,12 @@
 -- What the next branch comes to.
-use Rattle.std.proofs.Common.{◌≡◌, [], ◌∙◌, Err, refl}
-use Rattle.std.specs.Prelude.{IsSome}
-use Rattle.std.proofs.lemmas.Result.{err_from_is_err_and}
+use Rattle.std.proofs.Common.{◌≡◌, [], ◌∙◌, Err, sym}
 use Rattle.posting_rules.specs.declared.fault.Fault.TheVariants.{Down}
 use Rattle.posting_rules.proofs.{Calls.stays, NextBranch.next_shown, ChangesByKey.sound_tables}
 use Rattle.store_rows.specs.Columns.{branch_above}
 use Rattle.bank_store.proofs.AsFound.{idle_reads, reads_done, reads_down}
-use Rattle.bank_store.proofs.{Causes.still_clean, Countered.takes, bank.BankCounter.next_branch.Given.Over}
+use Rattle.bank_store.proofs.{bank.BankCounter.next_branch.Given.Over}
 use Rattle.bank_store.proofs.OtherTables.{spares_done, spares_down, spares_untouched}
-use Rattle.bank_store.proofs.Refusing.{answered_call, consult_refused, of_down, refused_call, untried_call, Refusal}
+use Rattle.bank_store.proofs.Refusing.{committed_call, consult_refused, is_up, refused_call, untried_call, Refusal}
 use Rattle.bank_transactions.specs.{NextBranch.line_above, Causes.IsFirstBroken}
 use Rattle.bank_transactions.proofs.{NextRow.next_is, Remembered.blank}
 use Rattle.bank_store.proofs.bank.BankCounter.next_branch.Goals as goal
@@ -35,7 +33,6 @@ pub returns-in-Ok : goal.returns-in-Ok
 returns-in-Ok g c =
     let after = c.args.after in
     let says = c.in-Ok.ensures.says in
-    let Failed = IsSome c.args.self.now.fault in
     record {
       answer =
           λ clean log s.
@@ -45,13 +42,13 @@ returns-in-Ok g c =
           (next_is _ s.tables after s.are));
       within = c.in-Ok.ensures.within;
       call =
-          answered_call g.S.Store c.args.self.now _ [] _ c.in_ok-up.ensures.up c.in_ok-up.ensures.up
-          (takes sound_tables [] stays tt Failed Failed c.in_ok-up.ensures.up says) (still_clean says.survives);
+          committed_call g.S.Store c.args.self.now _ sound_tables [] stays tt _ (is_up c.args.self.now.fault c.is_down.ensures c.if-is_down.false) (is_up c.args.self.now.fault c.is_down.ensures c.if-is_down.false)
+          says;
       stored = c.in-Ok.ensures.stored;
       reads = reads_done g.S.Store c.args.self.now _ c.in-Ok.next c.in-Ok.ensures.still c.in-Ok.ensures.left;
       frugal = λ same. (let it = same in cc);
       broken = tt;
-      spares = spares_done g.S.Store c.args.self.now _ _ c.in_ok-up.ensures.up says.spares;
+      spares = spares_done g.S.Store c.args.self.now _ _ (is_up c.args.self.now.fault c.is_down.ensures c.if-is_down.false) says.spares;
     }
 
 pub returns-in-Err : goal.returns-in-Err
@@ -61,7 +58,7 @@ returns-in-Err g c =
       answer = tt;
       within = tt;
       call = refused_call g.S.Store c.args.self.now c.go_down.new.self [] c.go_down.result no
-          c.in_ok-up.ensures.up;
+          (is_up c.args.self.now.fault c.is_down.ensures c.if-is_down.false);
       frugal = λ same. no.frugal (let it = same in cc);
       stored = tt;
       reads = reads_down g.S.Store c.args.self.now c.go_down.new.self c.read_next_branch.new.conn
@@ -69,22 +66,21 @@ returns-in-Err g c =
           c.go_down.ensures.survives;
       broken = no.broken;
       spares = spares_down g.S.Store c.args.self.now c.go_down.new.self c.read_next_branch.new.conn
-          c.in-Err.fault c.go_down.result c.in_ok-up.ensures.up c.in-Err.ensures.says.spares
+          c.in-Err.fault c.go_down.result (is_up c.args.self.now.fault c.is_down.ensures c.if-is_down.false) c.in-Err.ensures.says.spares
           c.in-Err.ensures.undone
           c.go_down.ensures.down c.go_down.ensures.undone c.go_down.ensures.survives;
     }
 
-pub returns-in_err-up : goal.returns-in_err-up
-returns-in_err-up g c =
-    let p = err_from_is_err_and c.from_residual.result c.from_residual.ensures.1 in
-    let down : p.0 ≡ Down = p.2 ∙ c.in_err-up.ensures.down.0 in
-    rw p.1 (record {
+pub returns-then-is_down : goal.returns-then-is_down
+returns-then-is_down g c =
+    let down = sym c.is_down.ensures ∙ c.if-is_down.true in
+    record {
       answer = tt;
       within = tt;
-      call = untried_call g.S.Store c.args.self.now [] (Err p.0) p.0 refl down c.in_err-up.ensures.down.1;
+      call = untried_call g.S.Store c.args.self.now [] down;
       frugal = λ same. (let it = same in cc);
       stored = tt;
-      reads = idle_reads g.S.Store c.args.self.now (Err p.0);
-      broken = of_down _ p.0 down;
+      reads = idle_reads g.S.Store c.args.self.now (Err Down);
+      broken = tt;
       spares = spares_untouched g.S.Store c.args.self.now;
-    })
+    }

@@ -1,15 +1,13 @@
 -- What an opening comes to.
-use Rattle.std.proofs.Common.{◌≡◌, ◌≤◌, [], ◌∷◌, ◌∙◌, Err, refl}
-use Rattle.std.proofs.lemmas.Result.{err_from_is_err_and}
-use Rattle.std.specs.Prelude.{IsSome}
+use Rattle.std.proofs.Common.{◌≡◌, ◌≤◌, [], ◌∷◌, ◌∙◌, refl, sym}
 use Rattle.posting_rules.specs.declared.fault.Fault.TheVariants.{Down}
 use Rattle.posting_rules.specs.believed.Commands.{Open, AreCommands, opened_with}
 use Rattle.posting_rules.proofs.{Calls.opens, Calls.answers}
-use Rattle.bank_store.proofs.{Broke.breaks_shown, Causes.still_clean, Countered.ready_to_open, Countered.takes}
+use Rattle.bank_store.proofs.{Broke.breaks_shown, Countered.ready_to_open}
 use Rattle.bank_store.proofs.bank.BankCounter.open_branch.Given.{Over}
 use Rattle.bank_store.specs.Seen.{fault_of}
 use Rattle.bank_store.proofs.OtherTables.{spares_done, spares_down, spares_untouched}
-use Rattle.bank_store.proofs.Refusing.{answered_call, breaks_opening, refused_call, transaction_refused}
+use Rattle.bank_store.proofs.Refusing.{committed_call, breaks_opening, is_up, refused_call, transaction_refused}
 use Rattle.bank_store.proofs.{Either.either_after, Either.either_opened, Either.untried_opening}
 use Rattle.bank_store.proofs.Refusing.{untried_call, Refusal}
 use Rattle.bank_transactions.proofs.Remembered.{blank}
@@ -54,7 +52,6 @@ returns-in-Ok g c =
     let above : 1 ≤ b = c.range_law.ensures.least in
     let are : AreCommands (Open b terms ∷ []) =
     ((above, c.requires.branch, c.requires.some, c.requires.few, c.floor_law.ensures), tt) in
-    let Failed = IsSome c.args.self.now.fault in
     let says = c.in-Ok.ensures.transacts in
     record {
       answer =
@@ -62,14 +59,12 @@ returns-in-Ok g c =
           (ready_to_open b terms above c.requires.few s.tables log s.commands s.shows)).0
           ∙ answers s.tables log b terms s.shows;
       call =
-          answered_call g.S.Store c.args.self.now _ (Open b terms ∷ []) _ c.in_ok-up.ensures.up
-          c.in_ok-up.ensures.up
-          (takes (ready_to_open b terms above c.requires.few) (Open b terms ∷ []) (opens b terms above c.requires.few) are Failed Failed
-          c.in_ok-up.ensures.up says) (still_clean says.survives);
+          committed_call g.S.Store c.args.self.now _ (ready_to_open b terms above c.requires.few) (Open b terms ∷ []) (opens b terms above c.requires.few) are _ (is_up c.args.self.now.fault c.is_down.ensures c.if-is_down.false) (is_up c.args.self.now.fault c.is_down.ensures c.if-is_down.false)
+          says;
       frugal = λ same. (let it = same in cc);
       stored = c.in-Ok.ensures.stored;
       own = tt;
-      spares = spares_done g.S.Store c.args.self.now _ _ c.in_ok-up.ensures.up says.spares;
+      spares = spares_done g.S.Store c.args.self.now _ _ (is_up c.args.self.now.fault c.is_down.ensures c.if-is_down.false) says.spares;
     }
 
 pub returns-in-Err : goal.returns-in-Err
@@ -80,7 +75,7 @@ returns-in-Err g c =
     record {
       answer = tt;
       call = refused_call g.S.Store c.args.self.now c.go_down.new.self _ c.go_down.result no
-          c.in_ok-up.ensures.up;
+          (is_up c.args.self.now.fault c.is_down.ensures c.if-is_down.false);
       frugal = λ same. no.frugal (let it = same in cc);
       stored = tt;
       own = record {
@@ -93,20 +88,19 @@ returns-in-Err g c =
             c.in-Err.ensures.transacts c.go_down.ensures.survives t shows so);
       };
       spares = spares_down g.S.Store c.args.self.now c.go_down.new.self c.open_branch.new.conn c.in-Err.fault
-          c.go_down.result c.in_ok-up.ensures.up c.in-Err.ensures.transacts.spares
+          c.go_down.result (is_up c.args.self.now.fault c.is_down.ensures c.if-is_down.false) c.in-Err.ensures.transacts.spares
           c.in-Err.ensures.undone
           c.go_down.ensures.down c.go_down.ensures.undone c.go_down.ensures.survives;
     }
 
-pub returns-in_err-up : goal.returns-in_err-up
-returns-in_err-up g c =
-    let p = err_from_is_err_and c.from_residual.result c.from_residual.ensures.1 in
-    let down : p.0 ≡ Down = p.2 ∙ c.in_err-up.ensures.down.0 in
-    rw p.1 (record {
+pub returns-then-is_down : goal.returns-then-is_down
+returns-then-is_down g c =
+    let down = sym c.is_down.ensures ∙ c.if-is_down.true in
+    record {
       answer = tt;
-      call = untried_call g.S.Store c.args.self.now _ (Err p.0) p.0 refl down c.in_err-up.ensures.down.1;
+      call = untried_call g.S.Store c.args.self.now _ down;
       frugal = λ same. (let it = same in cc);
       stored = tt;
-      own = untried_opening g.S.Store c.args.self.now c.args.branch (opened_with c.args.count c.args.floor) p.0 down;
+      own = untried_opening g.S.Store c.args.self.now c.args.branch (opened_with c.args.count c.args.floor) Down refl;
       spares = spares_untouched g.S.Store c.args.self.now;
-    })
+    }

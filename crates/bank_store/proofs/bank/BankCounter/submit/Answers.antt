@@ -1,7 +1,5 @@
 -- What a record comes to.
-use Rattle.std.proofs.Common.{◌≡◌, ℕ, List, [], ◌∷◌, Ok, Err, Result, get_or, length, rules, refl, sym, ap, subst, ◌∙◌, inl}
-use Rattle.std.proofs.lemmas.Result.{err_from_is_err_and}
-use Rattle.std.specs.Prelude.{IsSome}
+use Rattle.std.proofs.Common.{◌≡◌, ℕ, List, [], ◌∷◌, Ok, Err, Result, length, rules, refl, sym, ap, subst, ◌∙◌, inl}
 use Rattle.message_records.specs.believed.Spelling.{reply_spelling}
 use Rattle.message_records.specs.{believed.Reading.request_of, believed.Records.RequestFields, declared.fault.Bad.Bad}
 use Rattle.bank_transactions.specs.{Batches.RepliesLookedUp, believed.Additions.AddsForRecords}
@@ -16,21 +14,15 @@ use Rattle.posting_rules.specs.believed.{Entries.reply, Entries.reply_given, Run
 use Rattle.bank_store.specs.believed.Seen.{bank_seen, database_of}
 use Rattle.posting_rules.proofs.{Calls.IsChange, Records.all_replies, Records.posts_all}
 use Rattle.posting_rules.proofs.TablesWithRecord.{malformed_shown}
-use Rattle.bank_store.proofs.{Causes.still_clean, Countered.of_logs, Countered.takes, Countered.takes_untried}
+use Rattle.bank_store.proofs.{Countered.of_logs, Countered.takes_untried}
 use Rattle.bank_store.proofs.OtherTables.{spares_done, spares_down, spares_untouched}
 use Rattle.bank_store.proofs.{Broke.breaks_shown, Either.either_after, Either.untried_records}
-use Rattle.bank_store.proofs.Refusing.{answered_call, breaks, refused_call, transaction_refused, untried_call, Refusal}
+use Rattle.bank_store.proofs.Refusing.{answered_call, committed_call, breaks, is_up, refused_call, transaction_refused, untried_call, Refusal}
 use Rattle.bank_store.specs.Seen.{fault_of}
 use Rattle.bank_store.proofs.bank.BankCounter.submit.Goals as goal
 
 no_request : {a : RequestFields} {bad : Bad} → ◌≡◌ {A = Result RequestFields Bad} (Ok a) (Err bad) → ⊥
 no_request is = cc
-
--- the one reply
-only : (items : List (List ℕ)) (d : List ℕ) → length items ≡ 1 → items ≡ get_or items 0 d ∷ []
-only [] d many = absurd cc
-only (y ∷ []) d many = refl
-only (y ∷ z ∷ items) d many = absurd cc
 
 first : {x y : List ℕ} → ◌≡◌ {A = List (List ℕ)} (x ∷ []) (y ∷ []) → x ≡ y
 first is = cc
@@ -63,6 +55,11 @@ post_looked_up-requires g c = record {
       c.args.self.now.remembers;
 }
 
+pub only_reply-requires : goal.only_reply-requires
+only_reply-requires g c =
+    let read : request_of c.args.bytes.now ≡ Ok c.in-Ok.request = sym c.in-Ok.ensures.exact in
+    c.in-Ok-post_looked_up.ensures.count ∙ ap length (c.of_one-batch.ensures c.args.bytes.now read).reads
+
 pub returns-in_default : goal.returns-in_default
 returns-in_default g c =
     let m = c.args.moment in
@@ -70,8 +67,8 @@ returns-in_default g c =
     let bad = c.in_default.field-0 in
     let read : request_of bytes ≡ Err bad = sym c.in_default.ensures.exact in
     let out = c.encode_reply.ensures.spelling ∙ ap reply_spelling c.malformed_reply.ensures in
-    let are : AreCommands (posts m (bytes ∷ [])) = ((c.range_law.ensures.most, search rules), tt) in
-    let up = c.in_ok-up.ensures.up in
+    let are : AreCommands (posts m (bytes ∷ [])) = ((c.range_law.ensures.most, c.told-bytes), tt) in
+    let up = is_up c.args.self.now.fault c.is_down.ensures c.if-is_down.false in
     record {
       answer = λ clean log s. out ∙ is_told bytes bad read log;
       call =
@@ -94,36 +91,31 @@ returns-in-Ok-post_looked_up g c =
     let made = c.of_one-batch.ensures c.args.bytes.now read in
     let it = c.in-Ok-post_looked_up.ensures in
     let says = it.says rs made in
-    let many : length c.deref.result.now ≡ 1 = ap length c.deref.ensures ∙ it.count ∙ ap length made.reads in
-    let are : AreCommands (posts m rs) = ((c.range_law.ensures.most, search rules), tt) in
-    let Failed = IsSome c.args.self.now.fault in
+    let are : AreCommands (posts m rs) = ((c.range_law.ensures.most, c.told-bytes), tt) in
     record {
       answer =
-          λ clean log s. first (sym (only c.deref.result.now _ many) ∙ c.deref.ensures
+          λ clean log s. first (sym c.only_reply.ensures
           ∙ (says.answers clean s.tables s.are (of_logs 1 s.tables log s.commands s.shows)).0
           ∙ all_replies s.tables log m rs s.shows);
       call =
-          answered_call g.S.Store c.args.self.now _ (posts m rs) _ c.in_ok-up.ensures.up c.in_ok-up.ensures.up
-          (takes (of_logs 1) (posts m rs) (posts_all m rs) are Failed Failed c.in_ok-up.ensures.up says)
-          (still_clean says.survives);
+          committed_call g.S.Store c.args.self.now _ (of_logs 1) (posts m rs) (posts_all m rs) are _ (is_up c.args.self.now.fault c.is_down.ensures c.if-is_down.false) (is_up c.args.self.now.fault c.is_down.ensures c.if-is_down.false)
+          says;
       frugal = λ same. (let it = same in cc);
-      stored = λ clean r is.
-          let same = sym c.deref.ensures ∙ only c.deref.result.now _ many in
-          record {
-            answers = one_stored is (subst (RepliesLookedUp _ _ m rs) same (it.stored clean rs made));
-            alone = subst (AnswersAll _ _ m rs) same (it.wrote clean rs made);
-          };
+      stored = λ clean r is. record {
+        answers = one_stored is (subst (RepliesLookedUp _ _ m rs) c.only_reply.ensures (it.stored clean rs made));
+        alone = subst (AnswersAll _ _ m rs) c.only_reply.ensures (it.wrote clean rs made);
+      };
       leaves =
           λ clean r is t shows so.
           let answers = says.answers clean t shows so in
           record {
             tables = answers.1;
             survives = λ trees may. (tables_past_all t m rs, answers.2 trees may, refl);
-            answers = sym (only c.deref.result.now _ many) ∙ c.deref.ensures ∙ answers.0;
+            answers = sym c.only_reply.ensures ∙ answers.0;
           };
       malformed = λ up bad is. absurd (no_request (sym read ∙ is));
       own = tt;
-      spares = spares_done g.S.Store c.args.self.now _ _ c.in_ok-up.ensures.up says.spares;
+      spares = spares_done g.S.Store c.args.self.now _ _ (is_up c.args.self.now.fault c.is_down.ensures c.if-is_down.false) says.spares;
     }
 
 pub returns-in-Err : goal.returns-in-Err
@@ -132,7 +124,7 @@ returns-in-Err g c =
     let read : request_of c.args.bytes.now ≡ Ok c.in-Ok.request = sym c.in-Ok.ensures.exact in
     let rs = c.args.bytes.now ∷ [] in
     let made = c.of_one-batch.ensures c.args.bytes.now read in
-    let are : AreCommands (posts m rs) = ((c.range_law.ensures.most, search rules), tt) in
+    let are : AreCommands (posts m rs) = ((c.range_law.ensures.most, c.told-bytes), tt) in
     let no : Refusal g.S.Store c.args.self.now c.go_down.new.self (posts m rs)
     (IsBrokenOrMet g.S.Store (AddsForRecords (database_of g.S.Store c.args.self.now) rs)) c.go_down.result =
     transaction_refused g.S.Store c.args.self.now c.go_down.new.self c.post_looked_up.new.conn (of_logs 1)
@@ -142,7 +134,7 @@ returns-in-Err g c =
     record {
       answer = tt;
       call = refused_call g.S.Store c.args.self.now c.go_down.new.self _ c.go_down.result no
-          c.in_ok-up.ensures.up;
+          (is_up c.args.self.now.fault c.is_down.ensures c.if-is_down.false);
       frugal = λ same. no.frugal (let it = same in cc);
       stored = tt;
       leaves = tt;
@@ -156,22 +148,21 @@ returns-in-Err g c =
             (c.in-Err.ensures.says rs made) c.go_down.ensures.survives;
       };
       spares = spares_down g.S.Store c.args.self.now c.go_down.new.self c.post_looked_up.new.conn c.in-Err.fault
-          c.go_down.result c.in_ok-up.ensures.up (c.in-Err.ensures.says rs made).spares
+          c.go_down.result (is_up c.args.self.now.fault c.is_down.ensures c.if-is_down.false) (c.in-Err.ensures.says rs made).spares
           (c.in-Err.ensures.undone rs made)
           c.go_down.ensures.down c.go_down.ensures.undone c.go_down.ensures.survives;
     }
 
-pub returns-in_err-up : goal.returns-in_err-up
-returns-in_err-up g c =
-    let p = err_from_is_err_and c.from_residual.result c.from_residual.ensures.1 in
-    let down : p.0 ≡ Down = p.2 ∙ c.in_err-up.ensures.down.0 in
-    rw p.1 (record {
+pub returns-then-is_down : goal.returns-then-is_down
+returns-then-is_down g c =
+    let down = sym c.is_down.ensures ∙ c.if-is_down.true in
+    record {
       answer = tt;
-      call = untried_call g.S.Store c.args.self.now _ (Err p.0) p.0 refl down c.in_err-up.ensures.down.1;
+      call = untried_call g.S.Store c.args.self.now _ down;
       frugal = λ same. (let it = same in cc);
       stored = tt;
       leaves = tt;
-      malformed = λ up bad is. absurd (up c.in_err-up.ensures.down.1);
-      own = untried_records g.S.Store c.args.self.now c.args.moment (c.args.bytes.now ∷ []) p.0 (inl down);
+      malformed = λ up bad is. absurd (up down);
+      own = untried_records g.S.Store c.args.self.now c.args.moment (c.args.bytes.now ∷ []) Down (inl refl);
       spares = spares_untouched g.S.Store c.args.self.now;
-    })
+    }
