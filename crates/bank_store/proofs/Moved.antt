@@ -18,7 +18,7 @@ use Rattle.store_rows.specs.believed.View.{Shows, ShowsTrees, contents_of, meta_
 use Rattle.bank_transactions.proofs.Blamed.{comes, same_moment}
 use Rattle.bank_store.specs.Migration.{BankIsMoved, ChangesTables, HasMoved, IsUnmoved, KeepsRows}
 use Rattle.bank_store.specs.{OpenFaults.of_the_store, OpenFaults.unmoved_by, StoreFaults.KnowsCause}
-use Rattle.bank_store.proofs.{FoundEarlier.meta_there, Settled.begun_survives, Unmade.own_error}
+use Rattle.bank_store.proofs.{FoundEarlier.meta_there, Settled.begun_survives, Settled.live, Unmade.own_error}
 
 -- ---- a table isn't made
 
@@ -110,9 +110,6 @@ MayLeave last left = (left ≡ last.trees) × ((t : Tables) → Shows last t →
 -- the connection, the transaction as it begins and after the changes, the connection after it
 module _ {S : Type 0} (from : ℕ) (g : Ghosts S) (old begun last new : Held S)
     (is : begun ≡ record old { in_transaction = true }) where
-  pub live : IsTrue (state g begun).in_transaction
-  live = ap (λ (h : Held S). h.in_transaction) is
-
   pub from_begun : (P : Database → Type 0) → P (state g begun).now → P (state g old).now
   from_begun P = subst (λ (h : Held S). P (state g h).now) is
 
@@ -120,7 +117,7 @@ module _ {S : Type 0} (from : ℕ) (g : Ghosts S) (old begun last new : Held S)
       → ChangesTables from (state g begun).now (state g last).now (Ok tt)) → HasCleanDisk (state g last)
       → ChangesTables from (state g old).now (state g last).now (Ok tt)
   changed_at changed clean =
-      from_begun (λ (db : Database). ChangesTables from db (state g last).now (Ok tt)) (changed clean live)
+      from_begun (λ (db : Database). ChangesTables from db (state g last).now (Ok tt)) (changed clean (live g old begun last new is))
 
   -- a crash leaves what it could leave before, or the moved bank
   pub stops : Survives (state g begun) (state g last) (λ _. ⊥)

@@ -1,5 +1,5 @@
 -- A new bank stands at the empty log, and is made in one transaction.
-use Rattle.std.proofs.Common.{◌≡◌, [], true, Ok, Err, Result, ap, subst, sym, inr}
+use Rattle.std.proofs.Common.{◌≡◌, [], true, Ok, Err, Result, subst, sym, inr}
 use Rattle.std.specs.Prelude.{IsTrue}
 use Rattle.sqlite.specs.State.{State, HasCleanDisk, Survives}
 use Rattle.sqlite.specs.{Held.Held, Held.state, Tree.Trees}
@@ -13,9 +13,9 @@ use Rattle.store_rows.specs.Creation.{CreatesBank, HasNewBank, IsAlone, new_tabl
 use Rattle.store_rows.specs.believed.View.{Shows, ShowsTrees}
 use Rattle.bank_transactions.proofs.Blamed.{comes, same_moment}
 use Rattle.bank_store.specs.{Connections.IsAsBefore, believed.Seen.seen_in}
-use Rattle.bank_store.specs.NewBank.{BankIsMade, IsRefusedOnTheWay, IsTaken, LeavesAll, MakesBank}
+use Rattle.bank_store.specs.NewBank.{BankIsMade, IsRefusedOnTheWay, IsTaken, MakesBank}
 use Rattle.bank_store.proofs.{Causes.still_clean, Causes.unmade_within, Moved.MayLeave, Probed.as_before}
-use Rattle.bank_store.proofs.{Settled.begun_survives, Unmade.refused_before}
+use Rattle.bank_store.proofs.{Settled.begun_survives, Settled.live, Unmade.refused_before}
 
 pub stands_empty : (old new : State) (D : Type 0) → (D → ⊥) → BankIsMade old new → StandsAt (seen_in new D) []
 stands_empty old new D up made = record {
@@ -32,7 +32,7 @@ module _ {S : Type 0} (g : Ghosts S) (old begun last new : Held S)
   created : HasCleanDisk (state g last) → CreatesBank (state g old) (state g last) (Ok tt)
   created clean =
       subst (λ (h : Held S). CreatesBank (state g h) (state g last) (Ok tt)) is
-      (made clean (ap (λ (h : Held S). h.in_transaction) is))
+      (made clean (live g old begun last new is))
 
   -- a crash leaves what it could leave before, or the new bank
   pub leaves_new : Survives (state g begun) (state g last) (λ _. ⊥)

@@ -1,5 +1,5 @@
 -- A connection that was given back shows what it showed.
-use Rattle.std.proofs.Common.{◌≡◌, Result, Ok, Err, true, false, refl, sym, subst, arith, inl, inr, ◌∙◌}
+use Rattle.std.proofs.Common.{◌≡◌, Result, Ok, Err, true, false, refl, sym, ap, subst, arith, inl, inr, ◌∙◌}
 use Rattle.std.specs.Prelude.{◌≢◌, IsTrue}
 use Rattle.sqlite.specs.{Held.Held, Held.state, Tree.Trees, declared.error.Error.Error}
 use Rattle.sqlite.specs.State.{State, Fails, HasCleanDisk, IsRolledBack, KeepsCommit, Survives}
@@ -43,6 +43,9 @@ back old mid new e settled undone mode fails = λ still.
 -- the connection, its transaction as it begins and after its parts, the connection after it
 module _ {S : Type 0} (g : Ghosts S) (old begun last new : Held S)
     (is : begun ≡ record old { in_transaction = true }) where
+  pub live : IsTrue (state g begun).in_transaction
+  live = ap (λ (h : Held S). h.in_transaction) is
+
   -- what is undone is as it was
   pub undone_begun : old.in_transaction ≡ false
       → (IsTrue (state g old).is_open → (state g old).now ≡ (state g old).committed)

@@ -15,7 +15,6 @@ ghost use Rattle.posting_rules.specs.believed.Runs.{posts, replies_to};
 ghost use Rattle.posting_rules.specs.believed.Tables.{Tables};
 
 use crate::laws::{floor_law, range_law};
-use crate::walks::read_outside;
 use arrayvec::ArrayVec;
 use bank_transactions::{
     Memory, note_settled, open_branch, post_all, post_looked_up, read_balance, read_next_branch,
@@ -221,7 +220,8 @@ impl<S: Alter> Bank<S> {
         ensures survives { Survives (state S.Store self.old.conn) (state S.Store self.new.conn) (λ _. ⊥) }
     {
         self.memory.forget();
-        read_outside(&mut self.conn, of, from, rows)
+        note_settled(&self.conn);
+        R::read_some(&mut self.conn, of, from, rows)
     }
 }
 
@@ -314,7 +314,7 @@ impl<S: Alter + Drop> Counter for Bank<S> {
                 self.memory = memory;
                 Ok(only_reply(&replies))
             }
-            Err(fault) => Err(self.go_down(fault)),
+            Err(refused) => Err(self.go_down(refused)),
         }
     }
 
@@ -392,11 +392,11 @@ impl<S: Alter + Drop> Counter for Bank<S> {
         ensures own { IfErr result (RefusesOpening S.Store branch (opened_with count floor) self.old self.new) }
         ensures spares { SparesOtherTables S.Store self.old self.new }
     {
-        range_law(branch);
-        floor_law(&floor);
         if self.is_down() {
             return Err(Fault::Down);
         }
+        range_law(branch);
+        floor_law(&floor);
         self.memory.forget();
         match open_branch(&mut self.conn, branch, count, floor) {
             Ok(opening) => Ok(opening),

@@ -1,23 +1,17 @@
 //! Walks over the rows of a bank, one row a step, by rising keys. They change nothing.
-ghost use Rattle.std.specs.Prelude.{◌≡◌, ◌≢◌, ◌<◌, ◌≤◌, OnSome, slice_get, [], List, false, None, Ok, Err};
-ghost use Rattle.std.specs.Prelude.{IfOk, IfErr, OnOk, MatchResult, filter, map, ◌++◌, drop, length, ℤ};
+ghost use Rattle.std.specs.Prelude.{◌≡◌, ◌≢◌, ◌<◌, ◌≤◌, OnSome, slice_get, List, None, Ok, Err};
+ghost use Rattle.std.specs.Prelude.{IfOk, IfErr, OnOk, MatchResult, filter, drop, length, ℤ};
 ghost use Rattle.std.specs.Borrow.{sem, RestsIfErr};
-ghost use Rattle.std.specs.Result.{IsErrOf};
-ghost use Rattle.sqlite.specs.State.{HasCleanDisk, Survives};
-ghost use Rattle.sqlite.specs.Held.{state};
+ghost use Rattle.sqlite.specs.State.{HasCleanDisk};
 ghost use Rattle.posting_rules.specs.declared.fault.Fault.TheVariants as fault;
 ghost use Rattle.sql_meanings.specs.StatementAnswers.{IsStoreError};
-ghost use Rattle.walked_rows.specs.StepOutcomes.{BreaksFirst};
-ghost use Rattle.walked_rows.specs.Rising.{RisesFrom};
-ghost use Rattle.walked_rows.specs.Rows.{items_after, items_from};
-ghost use Rattle.bank_store.specs.Walks.{IsStill, IsUntouchedIfOpen, TellsFault};
+ghost use Rattle.bank_store.specs.Walks.{TellsFault};
 
 use crate::bank::Bank;
 use arrayvec::ArrayVec;
-use bank_transactions::note_settled;
 use message_records::Account;
 use posting_rules::Fault;
-use sqlite::{Alter, Connection};
+use sqlite::Alter;
 use std::fmt;
 use store_rows::TableFault;
 use walked_rows::{
@@ -90,35 +84,6 @@ fn fault_of(fault: TableFault) -> Fault
         TableFault::Sqlite(_) => Fault::Store,
         TableFault::Damaged(rule) => Fault::Damaged(rule),
     }
-}
-
-// Reads the rows from a key on, outside a transaction, and answers from which key the others follow.
-pub(crate) fn read_outside<S: Alter, R: WalkedRow>(
-    conn: &mut Connection<S>,
-    of: Option<Account>,
-    from: i64,
-    rows: &mut ArrayVec<R, AHEAD>,
-) -> Result<Option<i64>, TableFault>
-    requires { conn.old.in_transaction ≡ false }
-    ensures answers { HasCleanDisk (state S.Store conn.new) → (all : List R.WalkedRow.Item)
-        → R.WalkedRow.HasItems (state S.Store conn.old).now all
-        → let given = filter (R.WalkedRow.is_given of) all in MatchResult result
-        (λ rest. items_from R.WalkedRow.key from given
-        ≡ map R.WalkedRow.item rows.new.items ++ items_after R.WalkedRow.key rest given)
-        (BreaksFirst (IsStoreError (state S.Store conn.old) (state S.Store conn.new)) R.WalkedRow.Breaks
-        (items_from R.WalkedRow.key from given)) }
-    ensures ended { IfOk result (λ rest. rows.new.items ≡ [] → rest ≡ None) }
-    ensures rises { IfOk result (λ rest. RisesFrom from
-        (map (λ r. R.WalkedRow.key (R.WalkedRow.item r)) rows.new.items) rest) }
-    ensures same { HasCleanDisk (state S.Store conn.new)
-        → OnOk result (IsStill (state S.Store conn.old) (state S.Store conn.new)) }
-    ensures undone { HasCleanDisk (state S.Store conn.new)
-        → IsUntouchedIfOpen (state S.Store conn.old) (state S.Store conn.new) }
-    ensures mode { conn.new.in_transaction ≡ false }
-    ensures survives { Survives (state S.Store conn.old) (state S.Store conn.new) (λ _. ⊥) }
-{
-    note_settled(conn);
-    R::read_some(conn, of, from, rows)
 }
 
 impl<'bank, S: Alter, R: WalkedRow> Walk<'bank, S, R> {

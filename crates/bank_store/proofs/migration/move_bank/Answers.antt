@@ -7,8 +7,8 @@ use Rattle.posting_rules.specs.declared.open_fault.OpenFault.TheVariants.{Store}
 use Rattle.store_rows.specs.believed.Failures.{Committing}
 use Rattle.bank_store.specs.Migration.{HasMoved, IsUnmoved}
 use Rattle.bank_store.proofs.Causes.{begun_after, known_within, still_clean}
-use Rattle.bank_store.proofs.Moved.{bank_moved, commits_nothing, from_begun, live, stops}
-use Rattle.bank_store.proofs.Settled.{begun_survives, undone_begun}
+use Rattle.bank_store.proofs.Moved.{bank_moved, commits_nothing, from_begun, stops}
+use Rattle.bank_store.proofs.Settled.{begun_survives, live, undone_begun}
 use Rattle.bank_store.proofs.migration.move_bank.Goals as goal
 
 pub returns-in_err-change_tables : goal.returns-in_err-change_tables
@@ -27,15 +27,15 @@ returns-in_err-change_tables g c =
       moved = λ clean. tt;
       undone = λ clean.
           undone_begun g.S.Store old at last new is c.requires.mode c.begin-tx.ensures.settled
-          (e.ensures.says.leaves (still_clean ended clean) (live c.args.from g.S.Store old at last new is))
+          (e.ensures.says.leaves (still_clean ended clean) (live g.S.Store old at last new is))
           (c.drop-tx.ensures.undone clean);
       why = λ clean.
           from_begun c.args.from g.S.Store old at last new is (λ db. IsUnmoved c.args.from db e.field-0.0)
-          (e.ensures.says.answers (still_clean ended clean) (live c.args.from g.S.Store old at last new is));
+          (e.ensures.says.answers (still_clean ended clean) (live g.S.Store old at last new is));
       call = record {
         cause =
             known_within g.S.Store old at last new (rw is (begun_after g.S.Store old true)) (still_clean ended)
-            (comes ended) e.field-0.0 (e.ensures.cause (live c.args.from g.S.Store old at last new is));
+            (comes ended) e.field-0.0 (e.ensures.cause (live g.S.Store old at last new is));
         mode = c.drop-tx.ensures.ended;
         survives =
             begun_survives g.S.Store old at last new is (λ _. ⊥) (HasMoved c.args.from (s old).now)
@@ -55,7 +55,7 @@ returns-in-Err g c =
     let changed = c.in_ok-change_tables.ensures.says in
     let begun : IsBefore (s old) (s at) = rw is (begun_after g.S.Store old true) in
     let goes_on = λ (clean : HasCleanDisk (s new)).
-    changed.leaves (still_clean c.commit.ensures.survives clean) (live c.args.from g.S.Store old at last new is) in
+    changed.leaves (still_clean c.commit.ensures.survives clean) (live g.S.Store old at last new is) in
     let failed = λ (clean : HasCleanDisk (s new)).
     commit_fails (s last) (s new) c.in-Err.field-0 (goes_on clean).mode (c.in-Err.ensures.cause clean) in
     rw (← same) (record {

@@ -8,6 +8,9 @@ use Rattle.bank_store.proofs.Causes.{fails_then, still_answers, still_clean}
 use Rattle.bank_store.proofs.{Probed.as_before, Probed.probed, Settled.back, Settled.read_only}
 use Rattle.bank_store.proofs.migration.move_settled.Goals as goal
 
+pub returns-in_default : goal.returns-in_default
+returns-in_default g c = record { moves = c.in_default.ensures; same = λ clean. tt }
+
 pub returns-in_default-probe_table-clause-moves : goal.returns-in_default-probe_table-clause-moves
 returns-in_default-probe_table-clause-moves g c =
     let old = c.args.conn.now in

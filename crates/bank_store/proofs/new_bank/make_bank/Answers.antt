@@ -5,7 +5,6 @@ use Rattle.sqlite.specs.{State.HasCleanDisk, Held.state}
 use Rattle.sqlite.proofs.StateLemmas.{survives_weaker}
 use Rattle.store_rows.specs.{Creation.HasNewBank, Probes.all_probes}
 use Rattle.bank_store.specs.{Connections.IsAsBefore, NewBank.LeavesAll, TablePresence.IsPresent}
-use Rattle.bank_store.specs.declared.presence.Presence.{Presence}
 use Rattle.bank_store.proofs.{Causes.still_clean, Causes.unmade_as_known, NewBank.makes_then, Probed.as_before}
 use Rattle.bank_store.proofs.Unmade.{if_err, some_there}
 use Rattle.bank_store.proofs.new_bank.make_bank.Goals as goal

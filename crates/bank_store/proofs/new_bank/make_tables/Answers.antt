@@ -1,5 +1,5 @@
 -- Why the tables aren't made.
-use Rattle.std.proofs.Common.{◌≡◌, true, rules, refl, subst, ap, inl}
+use Rattle.std.proofs.Common.{◌≡◌, true, rules, refl, subst, inl}
 use Rattle.sqlite.specs.Held.{state}
 use Rattle.bank_transactions.specs.believed.Causes.{IsBefore}
 use Rattle.bank_transactions.proofs.Blamed.{comes, commit_fails, same_moment, then_moment}
@@ -8,7 +8,7 @@ use Rattle.bank_store.specs.{NewBank.IsRefusedOnTheWay, OpenFaults.unmade_by}
 use Rattle.posting_rules.specs.declared.open_fault.OpenFault.TheVariants.{Store}
 use Rattle.bank_store.proofs.Causes.{begun_after, commit_failed, making_failed, still_clean, unmade_within}
 use Rattle.bank_store.proofs.{Moved.commits_nothing, NewBank.bank_made, NewBank.leaves_new, Unmade.refused_because}
-use Rattle.bank_store.proofs.Settled.{begun_survives, undone_begun}
+use Rattle.bank_store.proofs.Settled.{begun_survives, live, undone_begun}
 use Rattle.bank_store.proofs.new_bank.make_tables.Goals as goal
 
 pub returns-in-Err : goal.returns-in-Err
@@ -20,23 +20,23 @@ returns-in-Err g c =
     let new = c.drop-tx.new.self.0 in
     let is = c.begin-tx.ensures.begun in
     let same : new ≡ c.conn-1.given.0 = search rules in
-    let live : at.in_transaction ≡ true = ap (λ h. h.in_transaction) is in
+    let goes = live g.S.Store old at last new is in
     let begun : IsBefore (s old) (s at) = rw is (begun_after g.S.Store old true) in
     let ended = c.drop-tx.ensures.survives in
     rw (← same) (record {
       made = λ clean. tt;
       undone = λ clean.
           undone_begun g.S.Store old at last new is c.requires c.begin-tx.ensures.settled
-          (c.in-Err.ensures.leaves (still_clean ended clean) live) (c.drop-tx.ensures.undone clean);
+          (c.in-Err.ensures.leaves (still_clean ended clean) goes) (c.drop-tx.ensures.undone clean);
       fault = c.unmade.ensures.fault;
       refused = λ clean taken.
           subst (λ h. IsRefusedOnTheWay (s h)) is
           (refused_because (s at) (s last) c.in-Err.e c.unmade.result c.unmade.ensures.answers
-          (c.in-Err.ensures.answers (still_clean ended clean) live) taken);
+          (c.in-Err.ensures.answers (still_clean ended clean) goes) taken);
       cause =
           rw c.unmade.ensures.answers
           (unmade_within g.S.Store old at last new begun (still_clean ended) (comes ended) (unmade_by c.in-Err.e)
-          (making_failed g.S.Store at last c.in-Err.e (λ clean. c.in-Err.ensures.answers clean live)));
+          (making_failed g.S.Store at last c.in-Err.e (λ clean. c.in-Err.ensures.answers clean goes)));
       survives =
           begun_survives g.S.Store old at last new is (λ _. ⊥) (HasNewBank (s old).now) (λ clean left none. absurd none)
           c.in-Err.ensures.survives ended;
@@ -52,7 +52,7 @@ returns-in-Err-commit g c =
     let new = c.commit.new.tx.0 in
     let is = c.begin-tx.ensures.begun in
     let same : new ≡ c.conn-2-1.given.0 = search rules in
-    let live : at.in_transaction ≡ true = ap (λ h. h.in_transaction) is in
+    let goes = live g.S.Store old at last new is in
     let begun : IsBefore (s old) (s at) = rw is (begun_after g.S.Store old true) in
     let made = c.in-Ok.ensures in
     let failed = c.in-Err-commit in
@@ -60,7 +60,7 @@ returns-in-Err-commit g c =
     rw (← same) (record {
       made = λ clean. tt;
       undone = λ clean.
-          let goes_on = made.leaves (still_clean ended clean) live in
+          let goes_on = made.leaves (still_clean ended clean) goes in
           undone_begun g.S.Store old at last new is c.requires c.begin-tx.ensures.settled
           (commits_nothing (s at) (s last) goes_on)
           (commit_fails (s last) (s new) failed.field-0 goes_on.mode (failed.ensures.cause clean)).3;
@@ -70,7 +70,7 @@ returns-in-Err-commit g c =
           unmade_within g.S.Store old last new new (then_moment (s old) (s at) (s last) begun (comes made.survives))
           (λ clean. clean) (same_moment (s new)) Store
           (commit_failed g.S.Store last new failed.field-0
-          (λ clean. (made.leaves (still_clean ended clean) live).mode) failed.ensures.cause);
+          (λ clean. (made.leaves (still_clean ended clean) goes).mode) failed.ensures.cause);
       survives = leaves_new g.S.Store old at last new is made.answers made.survives ended;
       mode = c.commit.ensures.ended;
     })

@@ -1,5 +1,5 @@
 -- What an opening comes to.
-use Rattle.std.proofs.Common.{◌≡◌, ◌≤◌, [], ◌∷◌, ◌∙◌, refl, sym}
+use Rattle.std.proofs.Common.{◌≤◌, [], ◌∷◌, ◌∙◌, refl, sym}
 use Rattle.posting_rules.specs.declared.fault.Fault.TheVariants.{Down}
 use Rattle.posting_rules.specs.believed.Commands.{Open, AreCommands, opened_with}
 use Rattle.posting_rules.proofs.{Calls.opens, Calls.answers}

@@ -1,5 +1,5 @@
 -- What a record comes to.
-use Rattle.std.proofs.Common.{◌≡◌, ℕ, List, [], ◌∷◌, Ok, Err, Result, length, rules, refl, sym, ap, subst, ◌∙◌, inl}
+use Rattle.std.proofs.Common.{◌≡◌, ℕ, List, [], ◌∷◌, Ok, Err, Result, length, refl, sym, ap, subst, ◌∙◌, inl}
 use Rattle.message_records.specs.believed.Spelling.{reply_spelling}
 use Rattle.message_records.specs.{believed.Reading.request_of, believed.Records.RequestFields, declared.fault.Bad.Bad}
 use Rattle.bank_transactions.specs.{Batches.RepliesLookedUp, believed.Additions.AddsForRecords}
@@ -128,7 +128,7 @@ returns-in-Err g c =
     let no : Refusal g.S.Store c.args.self.now c.go_down.new.self (posts m rs)
     (IsBrokenOrMet g.S.Store (AddsForRecords (database_of g.S.Store c.args.self.now) rs)) c.go_down.result =
     transaction_refused g.S.Store c.args.self.now c.go_down.new.self c.post_looked_up.new.conn (of_logs 1)
-    (posts m rs) (posts_all m rs) are c.in-Err.fault c.go_down.result c.go_down.ensures.down
+    (posts m rs) (posts_all m rs) are c.in-Err.refused c.go_down.result c.go_down.ensures.down
     c.go_down.ensures.survives (c.in-Err.ensures.undone rs made) c.go_down.ensures.undone
     (c.in-Err.ensures.says rs made) in
     record {
@@ -142,12 +142,12 @@ returns-in-Err g c =
       own = record {
         damage = breaks g.S.Store rs c.args.self.now c.go_down.new.self c.go_down.result no.broken
             (breaks_shown g.S.Store c.args.self.now.conn c.post_looked_up.new.conn c.go_down.new.self.conn
-            (fault_of c.go_down.new.self) c.go_down.result c.go_down.ensures.survives _ c.in-Err.fault
+            (fault_of c.go_down.new.self) c.go_down.result c.go_down.ensures.survives _ c.in-Err.refused
             (c.in-Err.ensures.says rs made) c.go_down.ensures.down);
         left = either_after g.S.Store c.args.self.now c.go_down.new.self c.post_looked_up.new.conn
             (c.in-Err.ensures.says rs made) c.go_down.ensures.survives;
       };
-      spares = spares_down g.S.Store c.args.self.now c.go_down.new.self c.post_looked_up.new.conn c.in-Err.fault
+      spares = spares_down g.S.Store c.args.self.now c.go_down.new.self c.post_looked_up.new.conn c.in-Err.refused
           c.go_down.result (is_up c.args.self.now.fault c.is_down.ensures c.if-is_down.false) (c.in-Err.ensures.says rs made).spares
           (c.in-Err.ensures.undone rs made)
           c.go_down.ensures.down c.go_down.ensures.undone c.go_down.ensures.survives;

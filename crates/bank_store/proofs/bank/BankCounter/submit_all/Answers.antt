@@ -60,7 +60,6 @@ returns-in-Ok g c =
     let same : c.put_replies.new.room.items ≡ c.in-Ok.given.items =
     c.put_replies.ensures ∙ ap (λ (items : List (List ℕ)). items ++ c.in-Ok.given.items) c.in_ok-replies.ensures.items in
     record {
-      none_or_all = none_or_all (of_logs (length rs)) (posts m rs) (posts_all m rs) says _ Failed Failed says.survives;
       count = ap length same ∙ c.in-Ok.ensures.count ∙ ap length made.reads ∙ length-map rs request_of;
       answer =
           λ clean log s. same
@@ -69,6 +68,7 @@ returns-in-Ok g c =
       call =
           committed_call g.S.Store c.args.self.now _ (of_logs (length rs)) (posts m rs) (posts_all m rs) are _ (is_up c.args.self.now.fault c.is_down.ensures c.if-is_down.false) (is_up c.args.self.now.fault c.is_down.ensures c.if-is_down.false)
           says;
+      none_or_all = none_or_all (of_logs (length rs)) (posts m rs) (posts_all m rs) says _ Failed Failed says.survives;
       leaves =
           λ clean t shows so.
           let answers = says.answers clean t shows so in
