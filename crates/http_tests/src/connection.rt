@@ -54,6 +54,11 @@ pub fn play(rt: &(impl Abort + Alloc<A = Global>), connections: &[Connection]) {
     play_on(rt, connections, &mut bank);
 }
 
+/// The input has one answer, and nothing is posted.
+pub fn is_answered<'a>(rt: &(impl Abort + Alloc<A = Global>), input: &'a [u8], answer: &'a [u8]) {
+    play(rt, &[Connection::new(input, 1, [answer, b""], (0, 0))]);
+}
+
 fn play_on(
     rt: &(impl Abort + Alloc<A = Global>),
     connections: &[Connection],
@@ -62,7 +67,7 @@ fn play_on(
     for connection in connections {
         bank.left = connection.calls;
         serve(rt, connection, bank);
-        assert_eq!(rt; balances(&mut bank.bank), Some(connection.balances));
+        assert!(rt; balances(&mut bank.bank) == Some(connection.balances));
     }
 }
 
@@ -80,15 +85,15 @@ fn serve<C: Followed>(
     let mut writer = CutWriter::new(rt.alloc(), connection.most, connection.write_fault);
     let mut clock = StoredClock::new(Vec::new(rt.alloc()));
     let ended = serve_connection(rt.alloc(), &mut reader, &mut writer, &mut clock, bank);
-    assert_eq!(rt; ended, connection.ended);
+    assert!(rt; ended == connection.ended);
     compare(rt, connection, &writer);
 }
 
 // The writer took the answers, and each in one write where the connection ended well.
 fn compare(rt: &impl Abort, connection: &Connection, writer: &CutWriter) {
     let [first, second] = connection.answers;
-    assert_eq!(rt; writer.taken.strip_prefix(first), Some(second));
+    assert!(rt; writer.taken.strip_prefix(first) == Some(second));
     if let Ok(count) = connection.ended {
-        assert_eq!(rt; u128::from(writer.writes), count);
+        assert!(rt; u128::from(writer.writes) == count);
     }
 }

@@ -8,7 +8,6 @@ use posting_core::Fault;
 use std::alloc::{Alloc, Global};
 use std::io::ErrorKind;
 use std::process::Abort;
-use std::test::Fail;
 
 // Two messages of 144 bytes, their answers, and the balances after none of their records, after one and after both.
 #[derive(Clone, Copy)]
@@ -73,7 +72,7 @@ fn is_read_at(rt: &(impl Abort + Alloc<A = Global>), two: &Two, at: usize) {
 #[test]
 fn a_reader_that_fails_at_each_byte(rt: HostRuntime) {
     for two in &BOTH {
-        assert_eq!(rt; two.input.len(), 288);
+        assert!(rt; two.input.len() == 288);
         for at in 0..=288usize {
             is_read_at(&rt, two, at);
         }
@@ -117,26 +116,21 @@ fn a_writer_that_fails_at_each_byte(rt: HostRuntime) {
     }
 }
 
-// A bank that has memory for one call answers so to the second, and is posted to no more.
-fn is_full(rt: &(impl Abort + Alloc<A = Global>), input: &[u8]) {
+// A bank that has memory for one call answers so to the second, which this message makes, and is posted to no more.
+fn refused_at(rt: &(impl Abort + Alloc<A = Global>), second: &[u8]) {
+    let first = &FIRST_TWICE[..144];
+    let input = joined(rt, &[first, second, first]);
     let connection = Connection {
         calls: 1,
         ended: Err(ServeFault::Bank(Fault::Memory)),
-        ..Connection::new(input, 0, [FIRST_ANSWER, UNAVAILABLE], (500, 0))
+        ..Connection::new(&input, 0, [FIRST_ANSWER, UNAVAILABLE], (500, 0))
     };
     play(rt, &[connection]);
 }
 
-// The bank has no memory at the second call, which this message makes.
-fn refused_at(rt: &(impl Abort + Alloc<A = Global>), second: &[u8]) -> Result<(), Fail> {
-    let first = &FIRST_TWICE[..144];
-    is_full(rt, &joined(rt, &[first, second, first])?);
-    Ok(())
-}
-
 #[test]
-fn a_bank_that_fails(rt: HostRuntime) -> Result<(), Fail> {
-    refused_at(&rt, &FIRST_AND_REMOTE[144..])?;
-    refused_at(&rt, b"GET /account/1 HTTP/1.1\r\n\r\n")?;
-    refused_at(&rt, b"GET /branches HTTP/1.1\r\n\r\n")
+fn a_bank_that_fails(rt: HostRuntime) {
+    refused_at(&rt, &FIRST_AND_REMOTE[144..]);
+    refused_at(&rt, b"GET /account/1 HTTP/1.1\r\n\r\n");
+    refused_at(&rt, b"GET /branches HTTP/1.1\r\n\r\n");
 }

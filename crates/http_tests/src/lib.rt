@@ -11,8 +11,6 @@ mod failing;
 #[cfg(test)]
 mod first_message;
 #[cfg(test)]
-mod heads;
-#[cfg(test)]
 mod log;
 #[cfg(test)]
 mod messages;

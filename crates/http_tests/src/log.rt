@@ -1,12 +1,11 @@
 //! The log and the plan over HTTP.
-use crate::texts::{NOT_ALLOWED, NOT_FOUND};
+use crate::texts::{NOT_ALLOWED, NOT_FOUND, get};
 use counter_http::serve_connection;
 use failing_ends::open_both;
 use message_records::{Branch, Cents, Moment};
-use posting_core::{Counter, Followed, PlainBank, StoredClock};
+use posting_core::{Followed, PlainBank, StoredClock};
 use std::alloc::{Alloc, Global};
 use std::process::Abort;
-use std::test::Fail;
 
 // Three messages with a record each: one of account 1, one of an account of another branch with a reference, and one of
 // an account that isn't open.
@@ -30,53 +29,40 @@ const ENTRIES: [&[u8]; 3] = [
         \0\0\0\0\0\0\0\0",
 ];
 
-// Both branches, a third that has a floor, and the three records.
-fn three_kept(rt: &(impl Abort + Alloc<A = Global>)) -> Result<PlainBank, Fail> {
-    let mut bank = PlainBank::new(rt.alloc());
-    assert!(rt; open_both(&mut bank).is_ok());
-    let floor = Cents::new(-2500);
-    assert!(rt;
-        bank.open_branch(Branch::new(30).unwrap(), 100_000, floor)
-            .is_ok()
-    );
-    let mut moments = Vec::new(rt.alloc());
-    for seconds in [5, 1_700_000_000, 9] {
-        moments.push(Moment::new(seconds).unwrap())?;
-    }
-    let mut clock = StoredClock::new(moments);
+// Opens both branches and a third that has a floor, and posts the three records.
+fn keep_three<C: Followed>(rt: &(impl Abort + Alloc<A = Global>), bank: &mut C) {
+    let (branch, floor) = (Branch::new(30).unwrap(), Cents::new(-2500));
+    assert!(rt; open_both(bank).is_ok() && bank.open_branch(branch, 100_000, floor).is_ok());
+    let moments = vec![in rt.alloc();
+        Moment::new(5).unwrap(),
+        Moment::new(1_700_000_000).unwrap(),
+        Moment::new(9).unwrap(),
+    ];
+    let mut clock = StoredClock::new(moments.expect(rt, "memory"));
     let mut answers = Vec::new(rt.alloc());
     let mut input = THREE;
-    assert_eq!(rt;
-        serve_connection(rt.alloc(), &mut input, &mut answers, &mut clock, &mut bank),
-        Ok(3)
-    );
-    Ok(bank)
+    let served = serve_connection(rt.alloc(), &mut input, &mut answers, &mut clock, bank);
+    assert!(rt; served == Ok(3));
 }
 
-// What is answered to a message.
-fn answered<C: Followed>(
+// The message is answered with a head and the texts after it.
+fn ask<C: Followed>(
     rt: &(impl Abort + Alloc<A = Global>),
     bank: &mut C,
-    message: &[u8],
-) -> Result<Vec<u8>, Fail> {
+    mut message: &[u8],
+    head: &[u8],
+    texts: &[&[u8]],
+) {
     let mut answers = Vec::new(rt.alloc());
     let mut clock = StoredClock::new(Vec::new(rt.alloc()));
-    let mut input = message;
-    assert_eq!(rt;
-        serve_connection(rt.alloc(), &mut input, &mut answers, &mut clock, bank),
-        Ok(1)
-    );
-    Ok(answers)
-}
-
-// A head, and the texts after it.
-fn compare(rt: &impl Abort, answers: &[u8], head: &[u8], texts: &[&[u8]]) {
+    let served = serve_connection(rt.alloc(), &mut message, &mut answers, &mut clock, bank);
+    assert!(rt; served == Ok(1));
     let mut rest = answers.strip_prefix(head);
     for text in texts {
         rest = rest.and_then(|left| left.strip_prefix(*text));
     }
     let nothing: &[u8] = b"";
-    assert_eq!(rt; rest, Some(nothing));
+    assert!(rt; rest == Some(nothing));
 }
 
 // A message, and the head of its answer: all entries from a place on come after it.
@@ -109,35 +95,25 @@ const ENTRIES_FROM: &[(&[u8], &[u8], usize)] = &[
     ),
 ];
 
-#[test]
-fn entries_after_a_place(rt: HostRuntime) -> Result<(), Fail> {
-    let mut bank = three_kept(&rt)?;
-    for &(message, head, from) in ENTRIES_FROM {
-        let answers = answered(&rt, &mut bank, message)?;
-        compare(&rt, &answers, head, &ENTRIES[from..]);
-    }
-    Ok(())
-}
+// What there is none of.
+const NOT_THERE: [&[u8]; 13] = [
+    b"/log/4",
+    b"/log/00",
+    b"/log/01",
+    b"/log/1x",
+    b"/log/-1",
+    b"/log/9999999999999",
+    b"/log/10000000000000",
+    b"/log/18446744073709551617",
+    b"/log/",
+    b"/log",
+    b"/log/1/2",
+    b"/plan/",
+    b"/plot",
+];
 
 // A message, its answer but for the last text, and that text.
 const OTHERS: &[(&[u8], &[u8], &[u8])] = &[
-    (b"GET /log/4 HTTP/1.1\r\n\r\n", NOT_FOUND, b""),
-    (b"GET /log/00 HTTP/1.1\r\n\r\n", NOT_FOUND, b""),
-    (b"GET /log/01 HTTP/1.1\r\n\r\n", NOT_FOUND, b""),
-    (b"GET /log/1x HTTP/1.1\r\n\r\n", NOT_FOUND, b""),
-    (b"GET /log/-1 HTTP/1.1\r\n\r\n", NOT_FOUND, b""),
-    (b"GET /log/9999999999999 HTTP/1.1\r\n\r\n", NOT_FOUND, b""),
-    (b"GET /log/10000000000000 HTTP/1.1\r\n\r\n", NOT_FOUND, b""),
-    (
-        b"GET /log/18446744073709551617 HTTP/1.1\r\n\r\n",
-        NOT_FOUND,
-        b"",
-    ),
-    (b"GET /log/ HTTP/1.1\r\n\r\n", NOT_FOUND, b""),
-    (b"GET /log HTTP/1.1\r\n\r\n", NOT_FOUND, b""),
-    (b"GET /log/1/2 HTTP/1.1\r\n\r\n", NOT_FOUND, b""),
-    (b"GET /plan/ HTTP/1.1\r\n\r\n", NOT_FOUND, b""),
-    (b"GET /plot HTTP/1.1\r\n\r\n", NOT_FOUND, b""),
     (b"POST /log/0 HTTP/1.1\r\n\r\n", NOT_ALLOWED, b""),
     (b"POST /plan HTTP/1.1\r\n\r\n", NOT_ALLOWED, b""),
     (
@@ -152,30 +128,27 @@ const OTHERS: &[(&[u8], &[u8], &[u8])] = &[
     ),
 ];
 
-#[test]
-fn paths_beside_and_the_plan(rt: HostRuntime) -> Result<(), Fail> {
-    let mut bank = three_kept(&rt)?;
-    for &(message, head, text) in OTHERS {
-        let answers = answered(&rt, &mut bank, message)?;
-        compare(&rt, &answers, head, &[text]);
+fn ask_of_three<C: Followed>(rt: &(impl Abort + Alloc<A = Global>), bank: &mut C) {
+    keep_three(rt, bank);
+    for &(message, head, from) in ENTRIES_FROM {
+        ask(rt, bank, message, head, &ENTRIES[from..]);
     }
-    Ok(())
+    for path in &NOT_THERE {
+        ask(rt, bank, &get(rt, path), NOT_FOUND, &[]);
+    }
+    for &(message, head, text) in OTHERS {
+        ask(rt, bank, message, head, &[text]);
+    }
 }
 
-// The record of so many cents to account 1 under a number, and the reply where it is the first of its teller.
-fn record_of(rt: &impl Alloc<A = Global>, number: u64) -> Result<String, Fail> {
-    Ok(format!(in rt.alloc();
-        "DC0100000000000100000001000001{number:010}+0000000001{:49}",
-        ""
-    )?)
-}
-
-fn entry_of(rt: &impl Alloc<A = Global>, number: u64) -> Result<String, Fail> {
-    let record = record_of(rt, number)?;
-    Ok(format!(in rt.alloc();
-        "{record}DR0100000000000001000000010000010000{number:06}+0000000001+{number:012}POSTED{:128}\0\0\0\0\0\0\0\0",
-        ""
-    )?)
+// The entry of a record of one cent to account 1 under a number, where it is the first of its teller.
+fn entry_of(rt: &(impl Abort + Alloc<A = Global>), number: u64) -> String {
+    let entry = format!(in rt.alloc();
+        "DC0100000000000100000001000001{number:010}+0000000001{:49}\
+        DR0100000000000001000000010000010000{number:06}+0000000001+{number:012}POSTED{:128}\0\0\0\0\0\0\0\0",
+        "", ""
+    );
+    entry.expect(rt, "memory")
 }
 
 // The heads of answers with 192 entries and with 2.
@@ -186,24 +159,22 @@ const FEW: &[u8] =
     b"HTTP/1.1 200 OK\r\nContent-Type: application/octet-stream\r\nContent-Length: 616\r\n\r\n";
 
 // Of 194 kept requests an answer has 192.
-#[test]
-fn no_more_than_so_many_entries(rt: HostRuntime) -> Result<(), Fail> {
-    let mut bank = PlainBank::new(rt.alloc());
-    assert!(rt; open_both(&mut bank).is_ok());
+fn ask_of_many<C: Followed>(rt: &(impl Abort + Alloc<A = Global>), bank: &mut C) {
+    assert!(rt; open_both(bank).is_ok());
     let mut due = Vec::new(rt.alloc());
     for number in 1..=194 {
-        let record = record_of(&rt, number)?;
-        let Some(bytes) = record.as_bytes().as_array::<100>() else {
-            panic!(rt; "a record has 100 bytes");
-        };
-        assert!(rt; bank.submit(Moment::new(0).unwrap(), bytes).is_ok());
-        due.extend_from_slice(entry_of(&rt, number)?.as_bytes())?;
+        let entry = entry_of(rt, number);
+        let record = entry.as_bytes().first_chunk::<100>().expect(rt, "a record");
+        assert!(rt; bank.submit(Moment::new(0).unwrap(), record).is_ok());
+        due.extend_from_slice(entry.as_bytes()).expect(rt, "memory");
     }
-    let many = due.as_slice().get(..59_136).unwrap_or(&[]);
-    let few = due.as_slice().get(59_136..).unwrap_or(&[]);
-    let first = answered(&rt, &mut bank, b"GET /log/0 HTTP/1.1\r\n\r\n")?;
-    compare(&rt, &first, MANY, &[many]);
-    let last = answered(&rt, &mut bank, b"GET /log/192 HTTP/1.1\r\n\r\n")?;
-    compare(&rt, &last, FEW, &[few]);
-    Ok(())
+    let (many, few) = due.split_at(due.len().min(59_136));
+    ask(rt, bank, b"GET /log/0 HTTP/1.1\r\n\r\n", MANY, &[many]);
+    ask(rt, bank, b"GET /log/192 HTTP/1.1\r\n\r\n", FEW, &[few]);
+}
+
+#[test]
+fn entries_after_a_place_and_the_plan(rt: HostRuntime) {
+    ask_of_three(&rt, &mut PlainBank::new(rt.alloc()));
+    ask_of_many(&rt, &mut PlainBank::new(rt.alloc()));
 }

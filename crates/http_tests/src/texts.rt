@@ -1,6 +1,6 @@
 //! The bytes of messages and answers.
 use std::alloc::{Alloc, Global};
-use std::test::Fail;
+use std::process::Abort;
 
 /// Two equal messages, each with the same record: five hundred cents to account 1 by teller 1 under the
 /// number 1.
@@ -135,11 +135,16 @@ pub const FIGURES_ANSWER: &[u8] =
     # TYPE bank_uptime_seconds gauge\n\
     bank_uptime_seconds 0\n";
 
+/// A message that asks for a path.
+pub fn get(rt: &(impl Abort + Alloc<A = Global>), path: &[u8]) -> Vec<u8> {
+    joined(rt, &[b"GET ", path, b" HTTP/1.1\r\n\r\n"])
+}
+
 /// The texts, one after another.
-pub fn joined(rt: &impl Alloc<A = Global>, texts: &[&[u8]]) -> Result<Vec<u8>, Fail> {
+pub fn joined(rt: &(impl Abort + Alloc<A = Global>), texts: &[&[u8]]) -> Vec<u8> {
     let mut all = Vec::new(rt.alloc());
     for text in texts {
-        all.extend_from_slice(text)?;
+        all.extend_from_slice(text).expect(rt, "memory");
     }
-    Ok(all)
+    all
 }
