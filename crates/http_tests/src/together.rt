@@ -54,11 +54,11 @@ fn is_answered(rt: &impl Abort, taken: &[u8], answers: &[&[u8]], count: usize, i
         rest = rest.strip_prefix(*answer).expect(rt, "an answer");
     }
     let last: &[u8] = if is_refused { UNAVAILABLE } else { b"" };
-    assert_eq!(rt; rest, last);
+    assert!(rt; rest == last);
 }
 
 fn are_answered(rt: &impl Abort, tellers: &[Teller], serving: &Serving, closed: &[Closed]) {
-    assert_eq!(rt; closed.len(), tellers.len());
+    assert!(rt; closed.len() == tellers.len());
     for Closed { number, taken } in closed {
         let place = *number as usize;
         let teller = tellers.get(place).expect(rt, "a client");
@@ -72,9 +72,9 @@ fn are_answered(rt: &impl Abort, tellers: &[Teller], serving: &Serving, closed: 
 fn play(rt: &(impl Abort + Alloc<A = Global>), tellers: &[Teller], serving: &Serving) -> u64 {
     let mut bank = new_bank(rt, serving);
     let (closed, ended) = serve(rt.alloc(), tellers, &mut bank);
-    assert_eq!(rt; ended.err(), serving.fault.map(ListenFault::Bank));
+    assert!(rt; ended.err() == serving.fault.map(ListenFault::Bank));
     are_answered(rt, tellers, serving, &closed);
-    assert_eq!(rt; balances(&mut bank.bank), Some(serving.balances));
+    assert!(rt; balances(&mut bank.bank) == Some(serving.balances));
     serving.calls.saturating_sub(bank.left)
 }
 
@@ -85,7 +85,7 @@ fn two_clients_at_every_cut(rt: HostRuntime) {
     let first = Teller::new(FIRST_AND_REMOTE, [FIRST_ANSWER, REMOTE_ANSWER, b""]);
     let other = Teller::new(OTHER_TWO, [OTHER_ANSWER, OTHER_LAST_ANSWER, b""]);
     for second in [first, other] {
-        assert_eq!(rt; (first.before.len(), second.before.len()), (288, 288));
+        assert!(rt; first.before.len() == 288 && second.before.len() == 288);
         for at in 0..=288usize {
             for then in [0, 72, 144, 216, 288, 288 - at] {
                 play(&rt, &[first.cut(at), second.cut(then)], &WELL);
@@ -102,9 +102,9 @@ fn records_that_wait_are_one_call(rt: HostRuntime) {
         ..WELL
     };
     let teller = Teller::new(&FIRST_TWICE[..144], [FIRST_ANSWER, b"", b""]);
-    assert_eq!(rt; play(&rt, &[teller; 2], &serving), 1);
-    assert_eq!(rt; play(&rt, &[teller; 64], &serving), 1);
-    assert_eq!(rt; play(&rt, &[teller; 65], &serving), 2);
+    assert!(rt; play(&rt, &[teller; 2], &serving) == 1);
+    assert!(rt; play(&rt, &[teller; 64], &serving) == 1);
+    assert!(rt; play(&rt, &[teller; 65], &serving) == 2);
 }
 
 // The figures count what was replied before, and who is connected.
