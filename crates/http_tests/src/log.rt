@@ -128,17 +128,29 @@ const OTHERS: &[(&[u8], &[u8], &[u8])] = &[
     ),
 ];
 
-fn ask_of_three<C: Followed>(rt: &(impl Abort + Alloc<A = Global>), bank: &mut C) {
-    keep_three(rt, bank);
+fn ask_of_entries<C: Followed>(rt: &(impl Abort + Alloc<A = Global>), bank: &mut C) {
     for &(message, head, from) in ENTRIES_FROM {
         ask(rt, bank, message, head, &ENTRIES[from..]);
     }
+}
+
+fn ask_of_none<C: Followed>(rt: &(impl Abort + Alloc<A = Global>), bank: &mut C) {
     for path in &NOT_THERE {
         ask(rt, bank, &get(rt, path), NOT_FOUND, &[]);
     }
+}
+
+fn ask_of_others<C: Followed>(rt: &(impl Abort + Alloc<A = Global>), bank: &mut C) {
     for &(message, head, text) in OTHERS {
         ask(rt, bank, message, head, &[text]);
     }
+}
+
+fn ask_of_three<C: Followed>(rt: &(impl Abort + Alloc<A = Global>), bank: &mut C) {
+    keep_three(rt, bank);
+    ask_of_entries(rt, bank);
+    ask_of_none(rt, bank);
+    ask_of_others(rt, bank);
 }
 
 // The entry of a record of one cent to account 1 under a number, where it is the first of its teller.
