@@ -6,7 +6,21 @@ use Rattle.posting_rules.specs.declared.fault.{Fault.Fault, Rule.Rule}
 use Rattle.bank_store.specs.{Walking.Steps, believed.Seen.database_of, declared.bank.Bank.Bank}
 use Rattle.bank_replays.specs.{Comparing.Both, Comparing.Compares, Comparing.Either}
 use Rattle.bank_replays.specs.declared.difference.Difference.{Difference}
-use Rattle.bank_replays.proofs.{FirstDifference.row_after, Read.clean_before, Read.read_then, Whys.why_then}
+use Rattle.bank_replays.specs.Damaged.{TellsWhy}
+use Rattle.bank_replays.proofs.{FirstDifference.row_after, Read.clean_before, Read.none_read, Read.read_then, Whys.why_then}
+
+-- nothing was read
+pub compared_none : {S T : Type 0} {g : Ghosts S} {h : Ghosts T} {Same : Database → Database → Type 0}
+    {Differ : Database → Database → Difference → Type 0} {old new : Bank S g} {due due' : Bank T h}
+    {r : Result (Option Difference) Fault} (fault : Fault) → r ≡ Err fault → new ≡ old → due' ≡ due
+    → TellsWhy {X = Option Difference} g (λ f. f) old old (Err fault) → Compares g h old new due due' Same Differ r
+compared_none {old = old} {due = due} fault is left left_due why = rw (is, left, left_due) (record {
+  bank = none_read old (Err fault);
+  due = none_read due (Err fault);
+  same = λ clean clean_due none. absurd cc;
+  differs = λ clean clean_due d some. absurd cc;
+  why = why;
+})
 
 module _ {S T : Type 0} {g : Ghosts S} {h : Ghosts T} {One Other : Database → Database → Type 0}
     {First Second : Database → Database → Difference → Type 0} where

@@ -1,5 +1,5 @@
 -- What is known where a function ends early: the error of a `?`, and what a test says.
-use Rattle.std.proofs.Common.{◌≡◌, ◌∙◌, Bool, Result, Ok, Err, IsErrAnd, true, false, ap}
+use Rattle.std.proofs.Common.{◌≡◌, ◌∙◌, Bool, Result, Ok, Err, IsErrAnd, OnErr, true, false, ap, subst}
 use Rattle.std.specs.Prelude.{◌↔◌, IsTrue, IfErr, ⊤}
 use Rattle.std.proofs.lemmas.Result.{err_from_is_err_and}
 use Rattle.posting_rules.specs.declared.{fault.Fault.TheVariants.Memory, fault.Rule.Rule}
@@ -10,6 +10,9 @@ pub fails_by : {T E : Type 0} {e : E} {r : Result T E} → IsErrAnd r (λ y. y �
 fails_by {e = e} {r = r} is =
     let it = err_from_is_err_and {Q = λ y. y ≡ e} r is in
     it.1 ∙ ap Err it.2
+
+pub at_err : {T E P : Type 0} {e : E} {r : Result T E} → r ≡ Err e → OnErr r P → P
+at_err {P = P} is holds = subst (λ r. OnErr r P) is holds
 
 -- a bank that was found up isn't down
 pub tested_up : (tested is_down : Bool) → tested ≡ is_down → tested ≡ false → is_down ≡ true → ⊥
