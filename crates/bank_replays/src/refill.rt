@@ -238,12 +238,7 @@ impl<T: Alter + Drop, W: Watch + Drop> Refill<T, W> {
         self.watch.reached(row.request.ordinal.get());
     }
 
-    // Tells that no more is to come.
-    pub(crate) fn end(&mut self) {
-        self.watch.ended();
-    }
-
-    // The bank.
+    // The bank, where no more is to come.
     pub(crate) fn into_bank(self) -> Bank<T>
         ensures { result ≡ self.bank }
     {

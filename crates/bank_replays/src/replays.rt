@@ -64,12 +64,11 @@ fn refilled<S: Alter, T: Alter + Drop, W: Watch + Drop>(
         → IfOk result (ShowsSameRows S.Store T.Store bank.old) }
 {
     let mut refill = Refill::over(bank.alloc(), due, watch)?;
-    match fill(bank, &mut refill) {
-        Ok(()) => Ok(refill.into_bank()),
-        Err(fault) => {
-            refill.end();
-            Err(bank_fault(fault))
-        }
+    let filled = fill(bank, &mut refill);
+    let due = refill.into_bank();
+    match filled {
+        Ok(()) => Ok(due),
+        Err(fault) => Err(bank_fault(fault)),
     }
 }
 

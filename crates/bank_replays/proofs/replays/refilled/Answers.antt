@@ -11,10 +11,10 @@ returns-in-Ok g c = record {
   bank = read_any c.in-Ok.ensures.bank _;
   why = why_none _;
   shows = λ some.
-      subst (ShowsSome g.T.Store) (sym c.into_bank.ensures)
+      subst (ShowsSome g.T.Store) (sym c.into_bank-due.ensures)
       (c.in-Ok.ensures.shows (subst (ShowsSome g.T.Store) (sym c.in_ok-refill.ensures.bank) some));
   same = λ clean sure new.
-      subst (ShowsSameRows g.S.Store g.T.Store c.args.bank.now) (sym c.into_bank.ensures)
+      subst (ShowsSameRows g.S.Store g.T.Store c.args.bank.now) (sym c.into_bank-due.ensures)
       (c.in-Ok.ensures.same clean sure c.in_ok-refill.ensures.nothing
       (subst (λ (b : Bank _ _). ShowsLog (bank_seen g.T.Store b) []) (sym c.in_ok-refill.ensures.bank) new));
 }
