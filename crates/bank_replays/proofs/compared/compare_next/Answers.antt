@@ -4,7 +4,7 @@ use Rattle.bank_replays.proofs.{Exits.not_same, FirstDifference.due_alone, First
 use Rattle.bank_replays.proofs.compared.compare_next.Goals as goal
 
 pub sides-requires : goal.sides-requires
-sides-requires g c = not_same c.is_same.result c.is_same.ensures c.if-is_same.false
+sides-requires g c = λ same. not_same c.is_same.result c.is_same.ensures c.if-is_same.false (cc)
 
 pub returns-in-None-None : goal.returns-in-None-None
 returns-in-None-None g c = (c.in-None-None.is-0, c.in-None-None.is-1)
