@@ -1,5 +1,5 @@
 -- Entries of kept rows, and those of a log.
-use Rattle.std.proofs.Common.{◌≡◌, ◌<◌, ◌≤◌, ◌++◌, ℕ, Bool, true, false, cond, List, [], ◌∷◌, length, map, filter}
+use Rattle.std.proofs.Common.{◌≡◌, ◌<◌, ◌≤◌, ◌++◌, ℕ, true, false, List, [], ◌∷◌, length, map, filter}
 use Rattle.std.proofs.Common.{drop, Option, Result, Ok, Err, refl, sym, ap, subst, ◌∙◌, arith}
 use Rattle.std.specs.Prelude.{ℤ, pos, int_lt, nat_abs, get_or, IfOk}
 use Rattle.std.proofs.lemmas.{Int.ints, List.Folds.flat_map-map, Result.IfOk-weaker}

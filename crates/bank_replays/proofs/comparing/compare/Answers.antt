@@ -1,5 +1,5 @@
 -- There is room for the walks, and what was told of their rows to come is told of all rows of the banks.
-use Rattle.std.proofs.Common.{rules, ◌≡◌, refl, ◌∙◌}
+use Rattle.std.proofs.Common.{rules, refl}
 use Rattle.bank_store.proofs.RoomForWalks.{walk_fits}
 use Rattle.posting_rules.specs.declared.fault.Fault.TheVariants.{Memory}
 use Rattle.bank_replays.proofs.{Begun.differs_of_all, Begun.stops_of_all, Comparisons.compared_none, Whys.stopped_why}
