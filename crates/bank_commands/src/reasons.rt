@@ -22,7 +22,7 @@ use std::{env, fmt};
 const LOG_HEAD: u64 = 41;
 
 /// What is wrong with a file.
-#[derive(Debug, Drop)]
+#[derive(Drop)]
 pub(crate) enum Reason {
     System(io::Error),
     Full,

@@ -8,14 +8,14 @@ use walked_rows::{
 };
 
 /// The row that stands under a key, and the one that the rules give; none where there is no such row.
-#[derive(Clone, Copy, Debug, PartialEq, Eq)]
+#[derive(Clone, Copy)]
 pub struct Sides<R> {
     pub stands: Option<R>,
     pub due: Option<R>,
 }
 
 /// The first difference of a bank from what the rules give, by its table and its key.
-#[derive(Clone, Copy, Debug, PartialEq, Eq)]
+#[derive(Clone, Copy)]
 pub enum Difference {
     Meta(Sides<StoredMeta>),
     Branch(Sides<StoredBranch>),
@@ -28,7 +28,7 @@ pub enum Difference {
 }
 
 /// A table that a file defines otherwise than a bank's is made, as a line shows it.
-#[derive(Clone, Copy, Debug, PartialEq, Eq, Drop)]
+#[derive(Clone, Copy, Drop)]
 pub struct OtherTable(pub BankTable);
 
 impl fmt::Display for OtherTable {
@@ -45,14 +45,14 @@ impl fmt::Display for OtherTable {
 
 /// What can be written down of a bank that agrees: the digest of its requests, and SHA-256 of the plan of its branches
 /// ([`write_plan`](crate::write_plan)).
-#[derive(Clone, Copy, Debug, PartialEq, Eq)]
+#[derive(Clone, Copy)]
 pub struct Agreed {
     pub digest: Digest,
     pub plan: [u8; 32],
 }
 
 /// What a replay says of a bank.
-#[derive(Clone, Copy, Debug, PartialEq, Eq)]
+#[derive(Clone, Copy)]
 pub enum Replay {
     /// Its tables are what the rules give, and it has these digests.
     Agrees(Agreed),

@@ -33,7 +33,7 @@ const NO_MEMORY: ReplayFault = ReplayFault::Bank(Fault::Memory);
 pub(crate) struct Filling;
 
 // What a branch is yet to be opened with: no account where it isn't to be opened.
-#[derive(Clone, Copy, Debug, PartialEq, Eq)]
+#[derive(Clone, Copy)]
 struct Planned {
     accounts: u32,
     floor: Option<Cents>,

@@ -10,7 +10,7 @@ pub trait Watch {
 }
 
 /// Nobody who watches.
-#[derive(Clone, Copy, Debug, Drop)]
+#[derive(Clone, Copy, Drop)]
 pub struct Unwatched;
 
 impl Watch for Unwatched {

@@ -36,7 +36,6 @@ fn table<V: Copy>(alloc: Global, bits: u32) -> Known<V>
 
 /// What is remembered of the rows that were read or written, so that they aren't asked for again. It holds as long as
 /// nobody else writes the file.
-#[derive(Debug)]
 pub struct Memory {
     // How many requests are decided.
     pub(crate) decided: Option<u64>,

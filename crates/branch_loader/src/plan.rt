@@ -82,7 +82,7 @@ fn row_of_listed(
 
 /// Branches of 1..=`LAST_BRANCH`, each named once, with counts of accounts of 1..=`MAX_ACCOUNTS`, and with
 /// floors of their accounts in cents, at most zero, or none, in an order.
-#[derive(Debug, Drop)]
+#[derive(Drop)]
 pub struct Plan {
     rows: Vec<PlanRow>,
 }

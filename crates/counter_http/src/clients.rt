@@ -11,7 +11,7 @@ use posting_core::{Sink, Source};
 use std::io;
 
 /// What is known of a client's stream.
-#[derive(Clone, Copy, Debug, PartialEq, Eq)]
+#[derive(Clone, Copy)]
 pub enum Readiness {
     /// Nothing can be done with it now.
     Waits,

@@ -2,7 +2,7 @@
 use posting_core::Fault;
 
 /// Why a client is served no longer, and what it has then.
-#[derive(Clone, Copy, Debug, PartialEq, Eq)]
+#[derive(Clone, Copy)]
 pub enum Parting {
     /// The walk over its messages ended, and all answers were written.
     Served,

@@ -24,7 +24,7 @@ pub const LOOK_AT_ALL: u64 = 1;
 pub const CLOSING: u64 = 500;
 
 /// What a client is waited for.
-#[derive(Clone, Copy, Debug, PartialEq, Eq)]
+#[derive(Clone, Copy, PartialEq, Eq)]
 pub(crate) enum Awaited {
     NextMessage,
     RestOfMessage,

@@ -102,7 +102,7 @@ fn request_by(rows: &[PlanRow], place: u64, words: Words, number: u64) -> Reques
 }
 
 /// A driver: it draws the requests of a plan, one after the other, from the words of a seed (TPC-B 5.3).
-#[derive(Debug, Drop)]
+#[derive(Drop)]
 pub struct Driver {
     // the plan's rows, ascending
     rows: Vec<PlanRow>,

@@ -22,7 +22,6 @@ use std::alloc::{AllocError, Global};
 pub type Replies = SmallVec<[u8; REPLY_BYTES], 1>;
 
 /// Records, a slot for each key that they can touch, and room for all that they come to.
-#[derive(Debug)]
 pub struct Batch {
     reads: Reads,
     /// Its slots are filled from the tables before the records are judged.
@@ -36,7 +35,6 @@ pub struct Batch {
 }
 
 /// A batch whose records are judged: what is to be written, and what is to be answered then.
-#[derive(Debug)]
 #[must_use]
 pub struct Judged {
     /// The changed rows and the new ones.

@@ -59,7 +59,6 @@ pub(crate) fn put<T: Drop>(items: &mut Vec<T>, item: T)
 
 /// What is known of the rows that records can touch, and the rows that are new. What a single record comes to
 /// lies in the value itself; what more of them come to, in memory that is taken before they are judged.
-#[derive(Debug)]
 pub struct Overlay {
     /// The branches of their tellers and of their accounts, by rising numbers.
     pub branches: SmallVec<BranchSlot, 2>,

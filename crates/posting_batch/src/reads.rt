@@ -6,7 +6,7 @@ use message_records::{Bad, Request};
 use std::slice;
 
 /// What was read of each record, in order: of a single one in the value itself, of more in memory.
-#[derive(Debug, Drop)]
+#[derive(Drop)]
 pub(crate) enum Reads {
     One(Result<Request, Bad>),
     Many(Vec<Result<Request, Bad>>),

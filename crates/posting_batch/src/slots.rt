@@ -3,7 +3,7 @@ use message_records::{Account, Cents, Number, Teller};
 use posting_rules::{BranchRow, Kept};
 
 /// What is known of an account.
-#[derive(Clone, Copy, Debug)]
+#[derive(Clone, Copy)]
 pub struct AccountSlot {
     /// Its number.
     pub account: Account,
@@ -25,7 +25,7 @@ impl Default for AccountSlot {
 }
 
 /// What is known of a teller.
-#[derive(Clone, Copy, Debug)]
+#[derive(Clone, Copy)]
 pub struct TellerSlot {
     /// Its number.
     pub teller: Teller,
@@ -47,7 +47,7 @@ impl Default for TellerSlot {
 }
 
 /// What is known of a branch.
-#[derive(Clone, Copy, Debug)]
+#[derive(Clone, Copy)]
 pub struct BranchSlot {
     /// The number that a teller or an account gives. It may be beyond those of branches.
     pub branch: u64,
@@ -69,7 +69,7 @@ impl Default for BranchSlot {
 }
 
 /// What is known of the floor of a branch's accounts.
-#[derive(Clone, Copy, Debug)]
+#[derive(Clone, Copy)]
 pub struct FloorSlot {
     /// The number that an account gives. It may be beyond those of branches.
     pub branch: u64,
@@ -88,7 +88,7 @@ impl Default for FloorSlot {
 }
 
 /// What is kept under a teller and a number.
-#[derive(Clone, Copy, Debug)]
+#[derive(Clone, Copy)]
 pub struct RequestSlot {
     /// The teller that asks.
     pub teller: Teller,

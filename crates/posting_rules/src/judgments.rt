@@ -217,7 +217,7 @@ fn is_same_reference(one: &Option<Reference>, other: &Option<Reference>) -> bool
 }
 
 /// What is looked up for a request.
-#[derive(Clone, Copy, Debug, PartialEq, Eq)]
+#[derive(Clone, Copy, Debug)]
 pub struct Found {
     /// The balances of the teller and of the branch that its number gives, in cents, where the teller is
     /// open.

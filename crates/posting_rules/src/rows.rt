@@ -15,7 +15,7 @@ use message_records::{
 pub type Ordinal = Whole<1, MAX_DECIDED>;
 
 /// A branch (TPC-B 1.2), under its number.
-#[derive(Clone, Copy, Debug, PartialEq, Eq)]
+#[derive(Clone, Copy, Debug)]
 pub struct BranchRow {
     /// Its number.
     pub branch: Branch,
@@ -26,7 +26,7 @@ pub struct BranchRow {
 }
 
 /// A teller (TPC-B 1.2), under its number.
-#[derive(Clone, Copy, Debug, PartialEq, Eq)]
+#[derive(Clone, Copy, Debug)]
 pub struct TellerRow {
     /// Its number, which gives its branch.
     pub teller: Teller,
@@ -35,7 +35,7 @@ pub struct TellerRow {
 }
 
 /// An account (TPC-B 1.2), under its number.
-#[derive(Clone, Copy, Debug, PartialEq, Eq)]
+#[derive(Clone, Copy, Debug)]
 pub struct AccountRow {
     /// Its number, which gives its branch.
     pub account: Account,
@@ -44,7 +44,7 @@ pub struct AccountRow {
 }
 
 /// A posting (TPC-B 1.2), under the ordinal of its request.
-#[derive(Clone, Copy, Debug, PartialEq, Eq)]
+#[derive(Clone, Copy, Debug)]
 pub struct HistoryRow {
     /// The ordinal of the request that it posted.
     pub ordinal: Ordinal,
@@ -92,7 +92,7 @@ impl Default for HistoryRow {
 }
 
 /// A decided request, under its ordinal.
-#[derive(Clone, Copy, Debug, PartialEq, Eq)]
+#[derive(Clone, Copy, Debug)]
 pub struct RequestRow {
     /// How many requests were decided with and before it.
     pub ordinal: Ordinal,
@@ -138,7 +138,7 @@ impl Default for RequestRow {
 }
 
 /// The floor of a branch's accounts, under the branch's number. A branch without a row has no floor.
-#[derive(Clone, Copy, Debug, PartialEq, Eq)]
+#[derive(Clone, Copy, Debug)]
 pub struct FloorRow {
     /// The number of the branch.
     pub branch: Branch,
@@ -147,7 +147,7 @@ pub struct FloorRow {
 }
 
 /// The reference of a decided request, under the request's ordinal. A request without a row has none.
-#[derive(Clone, Copy, Debug, PartialEq, Eq)]
+#[derive(Clone, Copy, Debug)]
 pub struct ReferenceRow {
     /// The ordinal of the request.
     pub ordinal: Ordinal,

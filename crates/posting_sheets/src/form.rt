@@ -9,7 +9,7 @@ use csv::ByteRecord;
 
 /// How a row writes money, how many fields it has, and the places of its branch and its reference. Where a sheet has
 /// no such column, its place is after the last field.
-#[derive(Clone, Copy, Debug, PartialEq, Eq)]
+#[derive(Clone, Copy)]
 pub(crate) struct Form {
     pub(crate) money: Money,
     pub(crate) columns: usize,

@@ -5,7 +5,7 @@ ghost use Rattle.report_contents.specs.Audit.{is_sound};
 use std::marker::Model;
 
 /// A branch whose balance isn't the sum of the balances of its tellers.
-#[derive(Clone, Copy, Debug, PartialEq, Eq)]
+#[derive(Clone, Copy)]
 pub struct BranchLine {
     /// The branch's number.
     pub branch: u64,

@@ -10,14 +10,14 @@ use crate::range_sums::RangeSums;
 use message_records::Cents;
 
 /// What a statement says of an account, and of which of its postings.
-#[derive(Clone, Copy, Debug, PartialEq, Eq)]
+#[derive(Clone, Copy)]
 pub struct Form {
     pub selection: Selection,
     pub style: Style,
 }
 
 /// What it says beside the postings.
-#[derive(Clone, Copy, Debug, PartialEq, Eq)]
+#[derive(Clone, Copy)]
 pub enum Style {
     /// The balance of the account's row, below them.
     Whole { balance: Cents },

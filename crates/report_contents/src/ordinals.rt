@@ -12,7 +12,7 @@ use walked_rows::{StoredPosting, StoredRequest};
 
 /// How many requests and postings there are, what the postings add up to, and how many ordinals aren't
 /// matched.
-#[derive(Clone, Copy, Debug, PartialEq, Eq)]
+#[derive(Clone, Copy)]
 pub struct OrdinalSums {
     requests: u64,
     history: Sum,

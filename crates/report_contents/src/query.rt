@@ -7,14 +7,14 @@ use message_records::Reference;
 use walked_rows::StatedPosting;
 
 /// Which of an account's postings a statement lists: those in a range of time, those of a reference, or all.
-#[derive(Clone, Copy, Debug, PartialEq, Eq)]
+#[derive(Clone, Copy)]
 pub struct Selection {
     pub range: Option<Range>,
     pub reference: Option<Reference>,
 }
 
 /// How a statement writes them.
-#[derive(Clone, Copy, Debug, PartialEq, Eq)]
+#[derive(Clone, Copy)]
 pub enum Layout {
     /// In columns, with the balance at the end, and of a range the balance before it too.
     Columns,
@@ -23,7 +23,7 @@ pub enum Layout {
 }
 
 /// What is asked of a statement.
-#[derive(Clone, Copy, Debug, PartialEq, Eq)]
+#[derive(Clone, Copy)]
 pub struct Query {
     pub selection: Selection,
     pub layout: Layout,

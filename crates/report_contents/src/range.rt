@@ -5,7 +5,7 @@ ghost use Rattle.report_contents.specs.Ranges.{amount_before, is_within};
 use walked_rows::StatedPosting;
 
 /// The moments from one second on, and before another, in seconds since 1970-01-01T00:00:00Z.
-#[derive(Clone, Copy, Debug, PartialEq, Eq)]
+#[derive(Clone, Copy)]
 pub struct Range {
     pub from: i64,
     pub until: i64,

@@ -19,7 +19,7 @@ fn plus(sum: i128, count: u64, amount: i64) -> i128
 
 /// What the postings before a range, and those up to its end, add up to, in cents. The sums have 128 bits,
 /// which 2^64 - 1 amounts of 64 bits don't leave.
-#[derive(Clone, Copy, Debug, PartialEq, Eq)]
+#[derive(Clone, Copy)]
 pub struct RangeSums {
     pub range: Range,
     pub count: u64,

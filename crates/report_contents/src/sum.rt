@@ -7,7 +7,7 @@ use crate::limits::MAX_ROWS;
 
 /// How many amounts were added, and their sum. It has 128 bits, which `MAX_ROWS` amounts of 64 bits don't
 /// leave.
-#[derive(Clone, Copy, Debug, PartialEq, Eq)]
+#[derive(Clone, Copy)]
 pub struct Sum {
     pub count: u64,
     pub sum: i128,

@@ -18,7 +18,7 @@ use message_records::{Account, Branch, Cents, Teller};
 use sqlite::{Alter, Error, Transaction};
 
 /// Whose balance it is (TPC-B 1.2).
-#[derive(Clone, Copy, Debug, PartialEq, Eq)]
+#[derive(Clone, Copy)]
 pub enum Holder {
     Account(Account),
     Teller(Teller),
@@ -26,7 +26,7 @@ pub enum Holder {
 }
 
 /// What belongs to a branch, and has a balance and nothing else.
-#[derive(Clone, Copy, Debug, PartialEq, Eq)]
+#[derive(Clone, Copy)]
 pub enum Member {
     Account(Account),
     Teller(Teller),

@@ -37,7 +37,7 @@ pub(crate) const META_ID: u64 = 1;
 pub const VERSION: i64 = 3;
 
 /// What the row of the bank holds, whatever the numbers: another product may have written them.
-#[derive(Clone, Copy, Debug, PartialEq, Eq)]
+#[derive(Clone, Copy)]
 pub struct StoredMeta {
     /// Of the form of the tables.
     pub version: i64,

@@ -14,7 +14,7 @@ use crate::texts::{
 use sqlite::{Alter, Connection, Error};
 
 /// One of the tables of a bank.
-#[derive(Clone, Copy, Debug, PartialEq, Eq)]
+#[derive(Clone, Copy)]
 pub enum BankTable {
     Meta,
     Branch,

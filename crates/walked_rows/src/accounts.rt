@@ -9,7 +9,7 @@ use sqlite::{Alter, Connection, Row, params};
 use store_rows::TableFault;
 
 /// A row of `account`: 1..=`LAST_ACCOUNT`, and its balance, whatever it is.
-#[derive(Clone, Copy, Debug, PartialEq, Eq)]
+#[derive(Clone, Copy, PartialEq, Eq)]
 pub struct StoredAccount {
     pub account: Whole<1, LAST_ACCOUNT>,
     pub balance: i64,

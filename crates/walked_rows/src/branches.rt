@@ -11,7 +11,7 @@ use store_rows::TableFault;
 
 /// A row of `branch`: 1..=`LAST_BRANCH`, how many accounts it has, 1..=`MAX_COUNTED`, and its balance,
 /// whatever it is.
-#[derive(Clone, Copy, Debug, PartialEq, Eq)]
+#[derive(Clone, Copy, PartialEq, Eq)]
 pub struct StoredBranch {
     pub branch: Whole<1, LAST_BRANCH>,
     pub accounts: Whole<1, MAX_COUNTED>,

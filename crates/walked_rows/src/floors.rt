@@ -10,7 +10,7 @@ use store_rows::TableFault;
 
 /// A row of `branch_floor`: 1..=`LAST_BRANCH`, and the lowest balance that the accounts of the branch may
 /// have, in cents, whatever it is.
-#[derive(Clone, Copy, Debug, PartialEq, Eq)]
+#[derive(Clone, Copy, PartialEq, Eq)]
 pub struct StoredFloor {
     pub branch: Whole<1, LAST_BRANCH>,
     pub lowest: i64,

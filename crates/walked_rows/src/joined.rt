@@ -29,7 +29,7 @@ use sqlite::{Alter, Connection};
 use store_rows::TableFault;
 
 /// A row of one table, with the row of another one under the same key, if there is one.
-#[derive(Clone, Copy, Debug, PartialEq, Eq)]
+#[derive(Clone, Copy)]
 pub struct Joined<R, O> {
     pub stored: R,
     pub beside: Option<O>,

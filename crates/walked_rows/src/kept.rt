@@ -22,7 +22,7 @@ use sqlite::{Alter, Connection};
 use store_rows::TableFault;
 
 /// A row of `request`, with the posting of its ordinal, if there is one, and the reference, if it has one.
-#[derive(Clone, Copy, Debug, PartialEq, Eq)]
+#[derive(Clone, Copy)]
 pub struct KeptRequest {
     pub request: StoredRequest,
     pub posting: Option<StoredPosting>,

@@ -10,7 +10,7 @@ use sqlite::{Alter, Connection, Row, params};
 use store_rows::TableFault;
 
 /// A row of `request_reference`: the ordinal of its request within the range, and the reference.
-#[derive(Clone, Copy, Debug, PartialEq, Eq)]
+#[derive(Clone, Copy, PartialEq, Eq)]
 pub struct StoredReference {
     pub ordinal: Ordinal,
     pub reference: Reference,

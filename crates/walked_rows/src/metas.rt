@@ -9,7 +9,7 @@ use store_rows::TableFault;
 
 /// A row of `meta`, whose id is 1: the version of the tables, and how many requests are decided, whatever
 /// they are.
-#[derive(Clone, Copy, Debug, PartialEq, Eq)]
+#[derive(Clone, Copy, PartialEq, Eq)]
 pub struct StoredMeta {
     pub id: Whole<1, 1>,
     pub version: i64,

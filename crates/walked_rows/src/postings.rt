@@ -10,7 +10,7 @@ use store_rows::TableFault;
 
 /// A row of `history`: the ordinal of its request and its moment within their ranges, and the other numbers,
 /// whatever they are.
-#[derive(Clone, Copy, Debug, PartialEq, Eq)]
+#[derive(Clone, Copy, PartialEq, Eq)]
 pub struct StoredPosting {
     pub ordinal: Ordinal,
     pub account: i64,

@@ -10,7 +10,7 @@ use store_rows::TableFault;
 
 /// A row of `request`: its ordinal within the range, and the other numbers, whatever they are. The outcome is
 /// a code.
-#[derive(Clone, Copy, Debug, PartialEq, Eq)]
+#[derive(Clone, Copy, PartialEq, Eq)]
 pub struct StoredRequest {
     pub ordinal: Ordinal,
     pub teller: i64,

@@ -12,7 +12,7 @@ use sqlite::{Alter, Connection};
 use store_rows::TableFault;
 
 /// A row of `history`, with the reference of its request, if it has one.
-#[derive(Clone, Copy, Debug, PartialEq, Eq)]
+#[derive(Clone, Copy)]
 pub struct StatedPosting {
     pub posting: StoredPosting,
     pub reference: Option<Reference>,

@@ -9,7 +9,7 @@ use sqlite::{Alter, Connection, Row, params};
 use store_rows::TableFault;
 
 /// A row of `teller`: 1..=`LAST_TELLER`, and its balance, whatever it is.
-#[derive(Clone, Copy, Debug, PartialEq, Eq)]
+#[derive(Clone, Copy, PartialEq, Eq)]
 pub struct StoredTeller {
     pub teller: Whole<1, LAST_TELLER>,
     pub balance: i64,

@@ -2,7 +2,7 @@
 ghost use Rattle.std.specs.Prelude.{◌≡◌, ℕ, None, slice_index_or};
 
 /// A value, under its key, and when it was put there.
-#[derive(Clone, Copy, Debug)]
+#[derive(Clone, Copy)]
 pub(crate) struct Entry<V> {
     pub(crate) key: u64,
     pub(crate) stamp: u64,

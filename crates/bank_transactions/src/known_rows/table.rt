@@ -6,7 +6,7 @@ use super::entry::{Entry, empty_all};
 use std::alloc::{AllocError, Global};
 
 // The places, as many as a power of two. Those of another stamp than the table's are forgotten.
-#[derive(Debug, Drop)]
+#[derive(Drop)]
 struct Table<V> {
     entries: Vec<Option<Entry<V>>>,
     // The bits of a key that are the number of its place.
@@ -19,7 +19,7 @@ struct Table<V> {
 /// Values that are known under keys: under each the last one that was put there, as long as it has its place. The
 /// place of a key is its low bits, and a value takes that place from whatever was there, also under another key. So
 /// a table never grows, and a look-up asks one place.
-#[derive(Debug, Drop)]
+#[derive(Drop)]
 pub struct Known<V> {
     table: Option<Table<V>>,
 }

@@ -12,7 +12,7 @@ use message_records::{MAX_MOMENT, Moment};
 const MANY_YEARS: u64 = 9000;
 
 /// A date: the year from 1970 on, the month from 1 to 12, and the day of the month from 1 on.
-#[derive(Clone, Copy, Debug, PartialEq, Eq)]
+#[derive(Clone, Copy)]
 pub struct Date {
     pub year: u64,
     pub month: u64,
@@ -20,7 +20,7 @@ pub struct Date {
 }
 
 /// A date, the time of that day, and how many seconds the clock that shows it is ahead of UTC.
-#[derive(Clone, Copy, Debug, PartialEq, Eq)]
+#[derive(Clone, Copy)]
 pub struct ZonedTime {
     pub date: Date,
     pub hour: u64,
