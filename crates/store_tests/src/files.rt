@@ -1,13 +1,13 @@
 //! Files in memory that crash after so many calls, and what tasks leave in them. The store over them is named
 //! here alone.
 use crate::tasks::{NOT_BEGUN, Progress, Task, play};
-use sqlite::{Connection, Files, Options};
+use sqlite::{Connection, FileStore, Files, Options};
 use sqlite_disk::{Crash, Disk, Fuse, Memory};
 use std::alloc::{Alloc, Global};
 use std::process::Abort;
 
-// A file that passes so many calls on, and fails each one after them.
-type Fused = Fuse<Memory>;
+/// A file that passes so many calls on, and fails each one after them.
+pub type Fused = Fuse<Memory>;
 
 /// The bytes of the database file and of its log.
 #[derive(Drop)]
@@ -107,6 +107,28 @@ fn played<D: Disk + Drop>(
     }
 }
 
+fn files_of(
+    rt: &(impl Abort + Alloc<A = Global>),
+    db: &[u8],
+    log: &[u8],
+    passed: Passed,
+) -> Files<Fused> {
+    Files {
+        db: fused(rt, db, passed.db),
+        log: fused(rt, log, passed.log),
+    }
+}
+
+/// A connection over new files, of which no call fails.
+pub fn opened(rt: &(impl Abort + Alloc<A = Global>)) -> Connection<FileStore<Fused>> {
+    let files = files_of(rt, &[], &[], ALL_PASS);
+    assert!(rt; files.may_be_used());
+    match Connection::open_files(rt.alloc(), files, options()) {
+        Ok(conn) => conn,
+        Err(_) => panic!(rt; "new files"),
+    }
+}
+
 /// Does the tasks on files that hold these bytes.
 pub fn play_on(
     rt: &(impl Abort + Alloc<A = Global>),
@@ -115,10 +137,7 @@ pub fn play_on(
     passed: Passed,
     tasks: &[Task],
 ) -> Ended {
-    let files = Files {
-        db: fused(rt, db, passed.db),
-        log: fused(rt, log, passed.log),
-    };
+    let files = files_of(rt, db, log, passed);
     let (progress, mut files) = played(rt, files, tasks);
     left_in(rt, &mut files, progress)
 }

@@ -1,4 +1,4 @@
-//! The first program of each library over SQLite, as its page shows it, over a store in memory.
+//! The first program of each library over SQLite, as its page shows it, over files in memory.
 mod banks;
 mod batches;
 mod days;
@@ -11,7 +11,7 @@ mod transactions;
 mod walks;
 
 use crate::calls::{Call, RECORD, REPLY, ask_to_the_end, is_reply, padded};
-use crate::tasks::Opened;
+use crate::files::opened;
 use bank_store::{Bank, Refused, adopt};
 use banks::first_bank;
 use batches::first_batch;
@@ -124,9 +124,8 @@ fn over_lives<S: Alter + Drop>(
 // A bank is made and posted to, and taken up again.
 fn banked<S: Alter + Drop>(
     rt: &(impl Abort + Alloc<A = Global>),
-    opened: Opened<S>,
+    conn: Connection<S>,
 ) -> Result<Bank<S>, Fail> {
-    let conn = opened?;
     assert!(rt; conn.is_autocommit());
     let (reply, conn) = first_bank(rt.alloc(), conn)?;
     has_new_balance(rt, &reply);
@@ -148,17 +147,14 @@ fn over_bank<S: Alter + Drop>(
 }
 
 // Over a store that holds nothing yet.
-fn over_one<S: Alter + Drop>(rt: &impl Abort, opened: Opened<S>) -> Result<(), Fail> {
-    let mut conn = opened?;
+fn over_one<S: Alter + Drop>(rt: &impl Abort, mut conn: Connection<S>) {
     over_rows(rt, &mut conn);
-    Ok(())
 }
 
 fn tables_over<S: Alter + Drop>(
     rt: &(impl Abort + Alloc<A = Global>),
-    opened: Opened<S>,
+    mut conn: Connection<S>,
 ) -> Result<Connection<S>, Fail> {
-    let mut conn = opened?;
     over_tables(rt, &mut conn)?;
     Ok(conn)
 }
@@ -166,8 +162,8 @@ fn tables_over<S: Alter + Drop>(
 // Over two stores that hold nothing yet.
 fn over_two<S: Alter + Drop>(
     rt: &(impl Abort + Alloc<A = Global>),
-    two: Opened<S>,
-    three: Opened<S>,
+    two: Connection<S>,
+    three: Connection<S>,
 ) -> Result<(), Fail> {
     let tables = tables_over(rt, two)?;
     let mut bank = banked(rt, three)?;
@@ -176,8 +172,6 @@ fn over_two<S: Alter + Drop>(
 
 #[test]
 fn programs_of_the_pages(rt: HostRuntime) -> Result<(), Fail> {
-    over_one(&rt, Connection::open_in_memory(rt.alloc()))?;
-    let two = Connection::open_in_memory(rt.alloc());
-    let three = Connection::open_in_memory(rt.alloc());
-    over_two(&rt, two, three)
+    over_one(&rt, opened(&rt));
+    over_two(&rt, opened(&rt), opened(&rt))
 }

@@ -1,7 +1,8 @@
 //! Reports to a writer that refuses after so many bytes.
 use crate::calls::{Call, ask_to_the_end};
 use crate::readings::one_cent;
-use crate::tasks::{BRANCHES, Task, play_in_memory};
+use crate::stops::made;
+use crate::tasks::{BRANCHES, Task};
 use bank_reports::{ReportFault, audit, write_statement};
 use bank_store::Bank;
 use failing_ends::CutWriter;
@@ -14,7 +15,6 @@ use sqlite::Alter;
 use std::alloc::{Alloc, Global};
 use std::io::ErrorKind;
 use std::process::Abort;
-use std::test::Fail;
 
 // The audit of a bank with the first posting and a remote one.
 const AUDIT: &[u8] = b"branches                       2
@@ -203,6 +203,6 @@ pub fn reports_are_cut<S: Alter + Drop>(rt: &(impl Abort + Alloc<A = Global>), b
 }
 
 #[test]
-fn reports_to_a_writer_that_refuses(rt: HostRuntime) -> Result<(), Fail> {
-    play_in_memory(&rt, &[Task::Make(BRANCHES), Task::Report])
+fn reports_to_a_writer_that_refuses(rt: HostRuntime) {
+    let _left = made(&rt, &[Task::Make(BRANCHES), Task::Report]);
 }

@@ -8,12 +8,8 @@ use crate::sql::batch;
 use bank_scenarios::{End, ExpectedSums, History, sums_of};
 use bank_store::{Bank, Migrated, OpenFault, Refused, adopt, create};
 use sqlite::{Alter, Connection};
-use std::alloc::{Alloc, AllocError, Global};
+use std::alloc::{Alloc, Global};
 use std::process::Abort;
-use std::test::Fail;
-
-/// A connection over a store in memory, where there is room for it.
-pub type Opened<S> = Result<Connection<S>, AllocError>;
 
 /// Branch 1 with three accounts and branch 2 with two.
 pub const BRANCHES: &[(u64, u32)] = &[(1, 3), (2, 2)];
@@ -290,19 +286,4 @@ pub fn play<S: Alter + Drop>(
         review(rt, &mut conn, *task);
     }
     (progress, conn.into_store())
-}
-
-// Does the tasks over a store that was opened.
-fn play_over<S: Alter + Drop>(
-    rt: &(impl Abort + Alloc<A = Global>),
-    opened: Opened<S>,
-    tasks: &[Task],
-) -> Result<(), Fail> {
-    play(rt, opened?, tasks);
-    Ok(())
-}
-
-/// Does the tasks over a store in memory.
-pub fn play_in_memory(rt: &(impl Abort + Alloc<A = Global>), tasks: &[Task]) -> Result<(), Fail> {
-    play_over(rt, Connection::open_in_memory(rt.alloc()), tasks)
 }
