@@ -14,15 +14,13 @@ use Rattle.posting_core.specs.believed.LogEntries.{log_entries}
 use Rattle.posting_core.specs.EndCalls.{WriteCall}
 use Rattle.posting_core.specs.believed.EndCalls.{ReadCall}
 use Rattle.walked_rows.specs.KeptRows.{HasKept, KeptItem}
-use Rattle.bank_store.specs.Leaving.{LeavesAsFound, TakesNone}
 use Rattle.bank_store.specs.believed.Down.{bank_reason}
 use Rattle.bank_store.specs.believed.Seen.{bank_seen, database_of}
 use Rattle.bank_store.specs.believed.BankSparing.{SparesOtherTables}
-use Rattle.bank_store.specs.Seen.{fault_of}
 use Rattle.bank_store.specs.declared.bank.Bank.{Bank}
 use Rattle.bank_replays.specs.Damaged.{TellsWhy, fault_in}
 use Rattle.bank_replays.specs.Logs.{LogsEntries, LogsRows, without_count}
-use Rattle.bank_replays.specs.Replays.{HasAnswered}
+use Rattle.bank_replays.specs.Reading.{IsOnlyRead}
 use Rattle.bank_replays.specs.Writing.{LeavesWriter}
 use Rattle.bank_replays.specs.declared.fault.ReplayFault.{ReplayFault}
 use Rattle.bank_replays.specs.declared.fault.ReplayFault.TheVariants as written
@@ -53,9 +51,7 @@ pub record LogsBank {S : Type 0} (g : Ghosts S) (after : ℕ) (w w' : Option (Li
       → LogsEntries after (log_entries log) w w' ends
   pub writer : LeavesWriter t t' (without_count ends)
   pub why : TellsWhy g fault_in old new ends
-  pub bank : TakesNone (bank_seen g old) (bank_seen g new) (HasAnswered ends)
-  pub up : fault_of new ≡ fault_of old
-  pub leaves : LeavesAsFound g old new
+  pub reads : IsOnlyRead g old new ends
 
 abbrev pub LogsOver : {S : Type 0} (g : Ghosts S) → (conn back : Held S) → ℕ → (w w' : Option (List ℕ))
     → (t t' : Option (List WriteCall)) → Result Status CommandFault → Type 0
@@ -72,10 +68,8 @@ pub record CountsBank {S : Type 0} (g : Ghosts S) (counted : Result ℕ Fault) (
       → IfOk counted (λ count. count ≡ length (log_entries log))
   pub sound : (bank_seen g new).honest → (log : List Command) → ShowsLog (bank_seen g old) log → (rule : Rule)
       → counted ≢ Err (Damaged rule)
-  pub bank : TakesNone (bank_seen g old) (bank_seen g new) (HasAnswered counted)
+  pub reads : IsOnlyRead g old new counted
   pub same : (bank_seen g new).honest → OnOk counted (database_of g new ≡ database_of g old)
-  pub up : fault_of new ≡ fault_of old
-  pub leaves : LeavesAsFound g old new
 
 -- and then the log was followed; or they couldn't be counted, and nothing was done
 abbrev pub FollowsCounted : {S P : Type 0} (g : Ghosts S) → (IsNamed : P → Type 0)

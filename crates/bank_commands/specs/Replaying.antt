@@ -14,16 +14,15 @@ use Rattle.sql_meanings.specs.believed.Entries.{Entry}
 use Rattle.store_rows.specs.believed.BankTables.{branch as branch_table, floor as floor_table}
 use Rattle.walked_rows.specs.KeptRows.{HasKept, KeptItem}
 use Rattle.walked_rows.specs.Rows.{HasStoredRows}
-use Rattle.bank_store.specs.Leaving.{LeavesAsFound, TakesNone}
 use Rattle.bank_store.specs.believed.Seen.{bank_seen, database_of}
-use Rattle.bank_store.specs.Seen.{fault_of}
 use Rattle.bank_store.specs.declared.bank.Bank.{Bank}
 use Rattle.bank_replays.specs.{Damaged.TellsWhy, Damaged.fault_in, DifferenceText.difference_text}
 use Rattle.bank_replays.specs.Differences.{DiffersFrom, table_of}
 use Rattle.posting_core.specs.believed.LogEntries.{answered_after}
 use Rattle.bank_replays.specs.Digests.{DigestsFirst, DigestsRows}
 use Rattle.bank_replays.specs.FileTables.{IsKept}
-use Rattle.bank_replays.specs.Replays.{AreDigestsIn, HasAnswered, OnAgrees, OnDiffers, Replays, TellsTables, other_text}
+use Rattle.bank_replays.specs.Reading.{IsOnlyRead}
+use Rattle.bank_replays.specs.Replays.{AreDigestsIn, OnAgrees, OnDiffers, Replays, TellsTables, other_text}
 use Rattle.bank_replays.specs.Writing.{ExportsRows, LeavesWriter, WritesSound, WritesText, plan_text, records_of}
 use Rattle.bank_replays.specs.declared.chain.Digest.{Digest}
 use Rattle.bank_replays.specs.declared.difference.Replay.{Replay}
@@ -79,8 +78,7 @@ pub record ReplaysBank {S : Type 0} (g : Ghosts S) (found : Result Replay Fault)
       → HasStoredRows (database_of g old) (table_of d) rows → DiffersFrom rows d)
   pub why : TellsWhy g (λ fault. fault) old new found
   pub bank : Replays (bank_seen g old) (bank_seen g new) found
-  pub up : fault_of new ≡ fault_of old
-  pub leaves : LeavesAsFound g old new
+  pub reads : IsOnlyRead g old new found
 
 abbrev pub ReplaysOver : {S : Type 0} (g : Ghosts S) → (conn back : Held S) → (w w' : Option (List ℕ))
     → (t t' : Option (List WriteCall)) → Result Status CommandFault → Type 0
@@ -105,9 +103,7 @@ pub record DigestsBank {S : Type 0} (g : Ghosts S) (requests : ℕ) (found : Res
       → DigestsFirst requests (answered_after log) found
   pub why : TellsWhy g (λ fault. fault) old new found
   pub frugal : found ≢ Err Memory
-  pub bank : TakesNone (bank_seen g old) (bank_seen g new) (HasAnswered found)
-  pub up : fault_of new ≡ fault_of old
-  pub leaves : LeavesAsFound g old new
+  pub reads : IsOnlyRead g old new found
 
 abbrev pub DigestsOver : {S : Type 0} (g : Ghosts S) → (conn back : Held S) → ℕ → (w w' : Option (List ℕ))
     → (t t' : Option (List WriteCall)) → Result Status CommandFault → Type 0
@@ -133,9 +129,7 @@ pub record ExportsBank {S : Type 0} (g : Ghosts S) (after : ℕ) (w w' : Option 
       → WritesSound (records_of after (answered_after log)) w w' ends
   pub writer : LeavesWriter t t' ends
   pub why : TellsWhy g fault_in old new ends
-  pub bank : TakesNone (bank_seen g old) (bank_seen g new) (HasAnswered ends)
-  pub up : fault_of new ≡ fault_of old
-  pub leaves : LeavesAsFound g old new
+  pub reads : IsOnlyRead g old new ends
 
 abbrev pub ExportsOver : {S : Type 0} (g : Ghosts S) → (conn back : Held S) → ℕ → (w w' : Option (List ℕ))
     → (t t' : Option (List WriteCall)) → Result Status CommandFault → Type 0
@@ -154,9 +148,7 @@ pub record PlansBank {S : Type 0} (g : Ghosts S) (w w' : Option (List ℕ)) (t t
       → ends ≢ Err (written.Bank (Damaged rule))
   pub writer : LeavesWriter t t' ends
   pub why : TellsWhy g fault_in old new ends
-  pub bank : TakesNone (bank_seen g old) (bank_seen g new) (HasAnswered ends)
-  pub up : fault_of new ≡ fault_of old
-  pub leaves : LeavesAsFound g old new
+  pub reads : IsOnlyRead g old new ends
 
 abbrev pub PlansOver : {S : Type 0} (g : Ghosts S) → (conn back : Held S) → (w w' : Option (List ℕ))
     → (t t' : Option (List WriteCall)) → Result Status CommandFault → Type 0

@@ -8,7 +8,6 @@ use Rattle.posting_rules.specs.believed.Tables.{Tables}
 use Rattle.posting_rules.specs.declared.fault.Fault.{Fault}
 use Rattle.posting_rules.specs.declared.fault.Fault.TheVariants.{Damaged}
 use Rattle.posting_rules.specs.declared.fault.Rule.{Rule}
-use Rattle.bank_store.specs.Leaving.{TakesNone}
 use Rattle.posting_core.specs.believed.LogEntries.{answered_after}
 use Rattle.walked_rows.specs.KeptRows.{HasKept, KeptItem}
 use Rattle.bank_replays.specs.Digests.{IsDigestIn, IsDigestOf}
@@ -19,11 +18,6 @@ use Rattle.bank_replays.specs.declared.difference.Replay.{Replay}
 use Rattle.bank_replays.specs.declared.difference.Replay.TheVariants.{Agrees, Differs, Otherwise}
 use Rattle.store_rows.specs.Definitions.{IsOtherTable, made}
 use Rattle.store_rows.specs.declared.probes.BankTable.{BankTable}
-
--- there was no fault
-abbrev pub HasAnswered : {X E : Type 0} → Result X E → Type 0
-HasAnswered (Ok x) = ⊤
-HasAnswered (Err fault) = ⊥
 
 -- if it agrees, this holds of the digests
 abbrev pub OnAgrees : Result Replay Fault → (Agreed → Type 0) → Type 0
@@ -80,4 +74,3 @@ pub record Replays (old new : Seen) (found : Result Replay Fault) : Type 0 where
   pub sound : (rule : Rule) → found ≡ Err (Damaged rule) → new.honest → (log : List Command) → ShowsLog old log → ⊥
   -- nor does it differ
   pub same : new.honest → OnDiffers found (λ d. IsOfNoLog old)
-  pub takes : TakesNone old new (HasAnswered found)

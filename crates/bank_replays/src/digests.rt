@@ -5,14 +5,11 @@ ghost use Rattle.posting_rules.specs.believed.Commands.{Command};
 ghost use Rattle.posting_rules.specs.believed.Counter.{ShowsLog};
 ghost use Rattle.posting_rules.specs.declared.fault.Fault.TheVariants.{Down, Memory};
 ghost use Rattle.walked_rows.specs.KeptRows.{HasKept, KeptItem};
-ghost use Rattle.bank_store.specs.Leaving.{LeavesAsFound, TakesNone};
 ghost use Rattle.bank_store.specs.believed.Seen.{bank_seen, database_of, file_of};
-ghost use Rattle.bank_store.specs.Seen.{fault_of};
 ghost use Rattle.bank_replays.specs.Damaged.{TellsWhy};
 ghost use Rattle.posting_core.specs.believed.LogEntries.{answered_after};
 ghost use Rattle.bank_replays.specs.Digests.{DigestsFirst, DigestsRows, IsDigestIn};
-ghost use Rattle.bank_replays.specs.Reading.{ReadsBank};
-ghost use Rattle.bank_replays.specs.Replays.{HasAnswered};
+ghost use Rattle.bank_replays.specs.Reading.{IsOnlyRead, ReadsBank};
 
 use crate::chain::{Chaining, Digest};
 use crate::fault::bank_fault;
@@ -69,10 +66,8 @@ pub fn digest<S: Alter>(bank: &mut Bank<S>, count: u64) -> Result<Option<Digest>
         → ShowsLog (bank_seen S.Store bank.old) log → DigestsFirst count (answered_after log) result }
     ensures why { TellsWhy S.Store (λ fault. fault) bank.old bank.new result }
     ensures frugal { result ≢ Err Memory }
-    ensures bank { TakesNone (bank_seen S.Store bank.old) (bank_seen S.Store bank.new) (HasAnswered result) }
+    ensures reads { IsOnlyRead S.Store bank.old bank.new result }
     ensures down { (bank_seen S.Store bank.old).is_down → (result ≡ Err Down) × (bank.new ≡ bank.old) }
-    ensures up { fault_of bank.new ≡ fault_of bank.old }
-    ensures leaves { LeavesAsFound S.Store bank.old bank.new }
 {
     if bank.is_down() {
         return Err(Fault::Down);

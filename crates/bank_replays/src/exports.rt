@@ -5,13 +5,10 @@ ghost use Rattle.posting_rules.specs.believed.Commands.{Command};
 ghost use Rattle.posting_rules.specs.believed.Counter.{ShowsLog};
 ghost use Rattle.posting_rules.specs.declared.fault.Fault.TheVariants.{Down};
 ghost use Rattle.walked_rows.specs.KeptRows.{HasKept, KeptItem, kept_item};
-ghost use Rattle.bank_store.specs.Leaving.{LeavesAsFound, TakesNone};
 ghost use Rattle.bank_store.specs.believed.Seen.{bank_seen, database_of, file_of};
-ghost use Rattle.bank_store.specs.Seen.{fault_of};
 ghost use Rattle.bank_replays.specs.Damaged.{TellsWhy, fault_in};
 ghost use Rattle.posting_core.specs.believed.LogEntries.{answered_after};
-ghost use Rattle.bank_replays.specs.Reading.{ReadsBank};
-ghost use Rattle.bank_replays.specs.Replays.{HasAnswered};
+ghost use Rattle.bank_replays.specs.Reading.{IsOnlyRead, ReadsBank};
 ghost use Rattle.bank_replays.specs.Writing.{ExportsRows, LeavesWriter, WritesSound, WroteRecords, WroteSomeRecords};
 ghost use Rattle.bank_replays.specs.Writing.{is_after, records_of};
 ghost use Rattle.bank_replays.specs.declared.fault.ReplayFault.TheVariants.{Bank as OfBank};
@@ -119,11 +116,9 @@ pub fn export<S: Alter, W: Sink>(
         (W.contents writer.old) (W.contents writer.new) result }
     ensures writer { LeavesWriter (W.calls writer.old) (W.calls writer.new) result }
     ensures why { TellsWhy S.Store fault_in bank.old bank.new result }
-    ensures bank { TakesNone (bank_seen S.Store bank.old) (bank_seen S.Store bank.new) (HasAnswered result) }
+    ensures reads { IsOnlyRead S.Store bank.old bank.new result }
     ensures down { (bank_seen S.Store bank.old).is_down
         → (result ≡ Err (OfBank Down)) × (bank.new ≡ bank.old) × (writer.new ≡ writer.old) }
-    ensures up { fault_of bank.new ≡ fault_of bank.old }
-    ensures leaves { LeavesAsFound S.Store bank.old bank.new }
 {
     if bank.is_down() {
         return Err(ReplayFault::Bank(Fault::Down));

@@ -11,14 +11,11 @@ ghost use Rattle.store_rows.specs.believed.BankTables.{meta as meta_table};
 ghost use Rattle.walked_rows.specs.KeptRows.{HasKept, KeptItem, kept_item};
 ghost use Rattle.walked_rows.specs.OnlyMeta.{bank_entry};
 ghost use Rattle.walked_rows.specs.Rows.{HasStoredRows};
-ghost use Rattle.bank_store.specs.Leaving.{LeavesAsFound, TakesNone};
 ghost use Rattle.bank_store.specs.believed.Seen.{bank_seen, database_of, file_of};
-ghost use Rattle.bank_store.specs.Seen.{fault_of};
 ghost use Rattle.bank_replays.specs.Damaged.{TellsWhy, fault_in};
 ghost use Rattle.bank_replays.specs.Logs.{LogsEntries, LogsRows, decided_in, entries_after};
 ghost use Rattle.bank_replays.specs.Logs.{without_count};
-ghost use Rattle.bank_replays.specs.Reading.{ReadsBank};
-ghost use Rattle.bank_replays.specs.Replays.{HasAnswered};
+ghost use Rattle.bank_replays.specs.Reading.{IsOnlyRead, ReadsBank};
 ghost use Rattle.bank_replays.specs.Writing.{LeavesWriter, Wrote, WrotePart};
 ghost use Rattle.bank_replays.specs.declared.fault.ReplayFault.TheVariants.{Bank as OfBank};
 
@@ -124,11 +121,9 @@ pub fn write_log<S: Alter, W: Sink>(
         → LogsEntries after (log_entries log) (W.contents writer.old) (W.contents writer.new) result }
     ensures writer { LeavesWriter (W.calls writer.old) (W.calls writer.new) (without_count result) }
     ensures why { TellsWhy S.Store fault_in bank.old bank.new result }
-    ensures bank { TakesNone (bank_seen S.Store bank.old) (bank_seen S.Store bank.new) (HasAnswered result) }
+    ensures reads { IsOnlyRead S.Store bank.old bank.new result }
     ensures down { (bank_seen S.Store bank.old).is_down
         → (result ≡ Err (OfBank Down)) × (bank.new ≡ bank.old) × (writer.new ≡ writer.old) }
-    ensures up { fault_of bank.new ≡ fault_of bank.old }
-    ensures leaves { LeavesAsFound S.Store bank.old bank.new }
 {
     if bank.is_down() {
         return Err(ReplayFault::Bank(Fault::Down));
@@ -206,12 +201,10 @@ pub fn count_requests<S: Alter>(bank: &mut Bank<S>) -> Result<u64, Fault>
         → IfOk result (λ count. count ≡ length (log_entries log)) }
     ensures sound { (bank_seen S.Store bank.new).honest → (log : List Command)
         → ShowsLog (bank_seen S.Store bank.old) log → (rule : Rule) → result ≢ Err (Damaged rule) }
-    ensures bank { TakesNone (bank_seen S.Store bank.old) (bank_seen S.Store bank.new) (HasAnswered result) }
+    ensures reads { IsOnlyRead S.Store bank.old bank.new result }
     ensures same { (bank_seen S.Store bank.new).honest
         → OnOk result (database_of S.Store bank.new ≡ database_of S.Store bank.old) }
     ensures down { (bank_seen S.Store bank.old).is_down → (result ≡ Err Down) × (bank.new ≡ bank.old) }
-    ensures up { fault_of bank.new ≡ fault_of bank.old }
-    ensures leaves { LeavesAsFound S.Store bank.old bank.new }
 {
     if bank.is_down() {
         return Err(Fault::Down);

@@ -11,12 +11,9 @@ ghost use Rattle.store_rows.specs.believed.BankTables.{branch as branch_table, f
 ghost use Rattle.walked_rows.specs.Rows.{HasStoredRows};
 ghost use Rattle.walked_rows.specs.Stored.{branch_entry};
 ghost use Rattle.walked_rows.specs.StoredBeside.{floor_entry};
-ghost use Rattle.bank_store.specs.Leaving.{LeavesAsFound, TakesNone};
 ghost use Rattle.bank_store.specs.believed.Seen.{bank_seen, database_of, file_of};
-ghost use Rattle.bank_store.specs.Seen.{fault_of};
 ghost use Rattle.bank_replays.specs.Damaged.{TellsWhy, fault_in};
-ghost use Rattle.bank_replays.specs.Reading.{ReadsBank};
-ghost use Rattle.bank_replays.specs.Replays.{HasAnswered};
+ghost use Rattle.bank_replays.specs.Reading.{IsOnlyRead, ReadsBank};
 ghost use Rattle.bank_replays.specs.Writing.{LeavesWriter, Wrote, WrotePart, WritesText, branch_of};
 ghost use Rattle.bank_replays.specs.Writing.{line_with, lowest_of, plan_line, plan_lines, plan_text, text_of_floor};
 ghost use Rattle.bank_replays.specs.declared.fault.ReplayFault.TheVariants.{Bank as OfBank};
@@ -190,11 +187,9 @@ pub fn write_plan<S: Alter, W: Sink>(bank: &mut Bank<S>, writer: &mut W) -> Resu
         → ShowsLog (bank_seen S.Store bank.old) log → (rule : Rule) → result ≢ Err (OfBank (Damaged rule)) }
     ensures writer { LeavesWriter (W.calls writer.old) (W.calls writer.new) result }
     ensures why { TellsWhy S.Store fault_in bank.old bank.new result }
-    ensures bank { TakesNone (bank_seen S.Store bank.old) (bank_seen S.Store bank.new) (HasAnswered result) }
+    ensures reads { IsOnlyRead S.Store bank.old bank.new result }
     ensures down { (bank_seen S.Store bank.old).is_down
         → (result ≡ Err (OfBank Down)) × (bank.new ≡ bank.old) × (writer.new ≡ writer.old) }
-    ensures up { fault_of bank.new ≡ fault_of bank.old }
-    ensures leaves { LeavesAsFound S.Store bank.old bank.new }
 {
     if bank.is_down() {
         return Err(ReplayFault::Bank(Fault::Down));

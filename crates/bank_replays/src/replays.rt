@@ -8,12 +8,10 @@ ghost use Rattle.posting_rules.specs.declared.fault.Fault.TheVariants.{Down, Mem
 ghost use Rattle.sql_meanings.specs.believed.Entries.{Entry};
 ghost use Rattle.walked_rows.specs.Rows.{HasStoredRows};
 ghost use Rattle.bank_store.specs.believed.Seen.{bank_seen, database_of, file_of};
-ghost use Rattle.bank_store.specs.Seen.{fault_of};
-ghost use Rattle.bank_store.specs.Leaving.{LeavesAsFound};
 ghost use Rattle.bank_replays.specs.Damaged.{TellsWhy, fault_in};
 ghost use Rattle.bank_replays.specs.Differences.{DiffersFrom, table_of};
 ghost use Rattle.bank_replays.specs.FileTables.{FileTables, HasTables, IsKept};
-ghost use Rattle.bank_replays.specs.Reading.{ReadsBank};
+ghost use Rattle.bank_replays.specs.Reading.{IsOnlyRead, ReadsBank};
 ghost use Rattle.bank_replays.specs.Refilling.{IsNeverInDoubt, IsUnplanned, ShowsSameRows, ShowsSome};
 ghost use Rattle.bank_replays.specs.Replays.{AreDigestsIn, HasLookedAtRows, IsOfNoLog, OnAgrees, OnDiffers, Replays};
 ghost use Rattle.bank_replays.specs.Replays.{TellsTables};
@@ -175,8 +173,7 @@ pub fn replay<S: Alter, W: Watch + Drop>(bank: &mut Bank<S>, watch: W) -> Result
     ensures why { TellsWhy S.Store (λ fault. fault) bank.old bank.new result }
     ensures bank { Replays (bank_seen S.Store bank.old) (bank_seen S.Store bank.new) result }
     ensures down { (bank_seen S.Store bank.old).is_down → (result ≡ Err Down) × (bank.new ≡ bank.old) }
-    ensures up { fault_of bank.new ≡ fault_of bank.old }
-    ensures leaves { LeavesAsFound S.Store bank.old bank.new }
+    ensures reads { IsOnlyRead S.Store bank.old bank.new result }
 {
     if bank.is_down() {
         return Err(Fault::Down);

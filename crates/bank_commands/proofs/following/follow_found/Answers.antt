@@ -18,15 +18,13 @@ returns-in_err-requests g c =
         counts = record {
           log = λ clean log shows. tt;
           sound = it.sound;
-          bank = it.bank;
+          reads = it.reads;
           same = λ clean. tt;
-          up = it.up;
-          leaves = it.leaves;
         };
         follows = (same, Keeps-refl (g.W.Sink.contents c.args.output.now), refl, refl);
       };
       unprinted = λ is. bank_not_write cause (cc (same, is));
-      spares = as_found_spares g.S.Store c.args.bank.now c.count_requests.new.bank it.leaves;
+      spares = as_found_spares g.S.Store c.args.bank.now c.count_requests.new.bank it.reads.leaves;
     }
 
 pub returns : goal.returns
@@ -36,11 +34,11 @@ returns g c =
       follows = record {
         counted = Ok c.in_ok-requests.requests;
         stood = c.count_requests.new.bank;
-        counts = record { log = it.log; sound = it.sound; bank = it.bank; same = it.same; up = it.up; leaves = it.leaves };
+        counts = record { log = it.log; sound = it.sound; reads = it.reads; same = it.same };
         follows = c.follow_into.ensures.follows;
       };
       unprinted = c.follow_into.ensures.unprinted;
       spares = counted_spares g.S.Store c.args.bank.now c.count_requests.new.bank c.follow_into.new.bank it.same
-          (as_found_spares g.S.Store c.args.bank.now c.count_requests.new.bank it.leaves)
+          (as_found_spares g.S.Store c.args.bank.now c.count_requests.new.bank it.reads.leaves)
           (call_spares g.S.Store c.count_requests.new.bank c.follow_into.new.bank c.follow_into.ensures.spares);
     }

@@ -24,10 +24,8 @@ returns g c =
           log = it.log;
           writer = it.writer;
           why = it.why;
-          bank = it.bank;
-          up = it.up;
-          leaves = it.leaves;
+          reads = it.reads;
         },
-      ) (as_found_spares g.S.Store c.in-Ok.bank c.write_log.new.bank it.leaves) c.release.ensures.same;
+      ) (as_found_spares g.S.Store c.in-Ok.bank c.write_log.new.bank it.reads.leaves) c.release.ensures.same;
       idle = c.release.ensures.idle;
     }

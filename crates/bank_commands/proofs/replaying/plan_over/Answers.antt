@@ -24,10 +24,8 @@ returns g c =
           sound = it.sound;
           writer = it.writer;
           why = it.why;
-          bank = it.bank;
-          up = it.up;
-          leaves = it.leaves;
+          reads = it.reads;
         },
-      ) (as_found_spares g.S.Store c.in-Ok.bank c.write_plan.new.bank it.leaves) c.release.ensures.same;
+      ) (as_found_spares g.S.Store c.in-Ok.bank c.write_plan.new.bank it.reads.leaves) c.release.ensures.same;
       idle = c.release.ensures.idle;
     }

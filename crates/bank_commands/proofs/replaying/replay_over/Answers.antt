@@ -26,9 +26,8 @@ returns g c =
           differs = it.differs;
           why = it.why;
           bank = it.bank;
-          up = it.up;
-          leaves = it.leaves;
+          reads = it.reads;
         },
-      ) (as_found_spares g.S.Store c.in-Ok.bank c.replay.new.bank it.leaves) c.release.ensures.same;
+      ) (as_found_spares g.S.Store c.in-Ok.bank c.replay.new.bank it.reads.leaves) c.release.ensures.same;
       idle = c.release.ensures.idle;
     }

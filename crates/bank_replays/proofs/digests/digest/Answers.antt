@@ -1,20 +1,16 @@
 -- The digest, or none where there are fewer, and what a log makes of it.
-use Rattle.std.proofs.Common.{rules, ◌≡◌, ◌∙◌, Bool, Ok, Err, Option, Some, None, false, true, refl, sym, ap}
+use Rattle.std.proofs.Common.{rules, ◌≡◌, ◌∙◌, Ok, Err, Option, Some, None, refl, sym, ap}
 use Rattle.posting_rules.specs.declared.fault.Fault.{Fault}
-use Rattle.bank_store.specs.believed.Seen.{bank_seen, database_of}
-use Rattle.bank_store.proofs.{AsFound.idle_as_found, ReadsLeave.idle_takes}
+use Rattle.bank_store.specs.believed.Seen.{database_of}
 use Rattle.posting_core.specs.believed.LogEntries.{answered_after}
 use Rattle.bank_replays.proofs.Digested.{digests_err, digests_log, rows_enough, rows_fewer}
 use Rattle.bank_replays.proofs.{SoundLogs.sound_log, Whys.err_is, Whys.why_err, Whys.why_none}
 use Rattle.bank_store.proofs.LogRows.{has_kept}
-use Rattle.bank_replays.proofs.{Leaves.read_leaves, Leaves.read_takes}
+use Rattle.bank_replays.proofs.{Exits.tested_up, Leaves.none_read, Leaves.only_read}
 use Rattle.bank_store.proofs.LogRows.{kept_answered, kept_of}
 use Rattle.bank_replays.proofs.{Read.read_any, Read.read_fails}
 use Rattle.bank_replays.specs.declared.chain.Digest.{Digest}
 use Rattle.bank_replays.proofs.digests.digest.Goals as goal
-
-tested_up : (tested is_down : Bool) → tested ≡ is_down → tested ≡ false → is_down ≡ true → ⊥
-tested_up tested is_down same up down = cc
 
 pub returns-then-is_down : goal.returns-then-is_down
 returns-then-is_down g c = record {
@@ -22,10 +18,8 @@ returns-then-is_down g c = record {
   log = λ clean log shows. tt;
   why = record { answers = λ clean f has. sym c.is_down.ensures ∙ c.if-is_down.true };
   frugal = λ is. absurd cc;
-  bank = idle_takes (bank_seen g.S.Store c.args.bank.now) _;
+  reads = none_read g.S.Store c.args.bank.now _;
   down = λ down. (refl, refl);
-  up = refl;
-  leaves = idle_as_found g.S.Store c.args.bank.now;
 }
 
 pub returns-in_err-digest : goal.returns-in_err-digest
@@ -40,10 +34,8 @@ returns-in_err-digest g c =
           (sound_log clean log shows (Err fault) fault c.in_err-digest.ensures.why refl));
       why = rw same (why_err fault fault refl c.in_err-digest.ensures.why);
       frugal = λ is. c.in_err-digest.ensures.frugal (ap Err (err_is fault _ (sym same ∙ is)));
-      bank = rw same (read_takes {X = Option Digest} (Err fault) (read_fails fault reads));
+      reads = rw same (only_read {X = Option Digest} (Err fault) (read_fails fault reads));
       down = λ down. absurd (tested_up _ _ c.is_down.ensures c.if-is_down.false down);
-      up = reads.up;
-      leaves = read_leaves _ reads;
     }
 
 pub returns-then-digest-count : goal.returns-then-digest-count
@@ -62,10 +54,8 @@ returns-then-digest-count g c =
           c.if-digest-count.true);
       why = why_none None;
       frugal = λ is. absurd cc;
-      bank = read_takes {X = Option Digest} {E = Fault} (Ok None) (read_any reads (Ok None));
+      reads = only_read {X = Option Digest} {E = Fault} (Ok None) (read_any reads (Ok None));
       down = λ down. absurd (tested_up _ _ c.is_down.ensures c.if-is_down.false down);
-      up = reads.up;
-      leaves = read_leaves _ reads;
     }
 
 pub returns : goal.returns
@@ -84,8 +74,6 @@ returns g c =
           (rows_enough c.args.count all digest is c.if-digest-count.false, is);
       why = why_none (Some digest);
       frugal = λ is. absurd cc;
-      bank = read_takes {X = Option Digest} {E = Fault} (Ok (Some digest)) (read_any reads (Ok (Some digest)));
+      reads = only_read {X = Option Digest} {E = Fault} (Ok (Some digest)) (read_any reads (Ok (Some digest)));
       down = λ down. absurd (tested_up _ _ c.is_down.ensures c.if-is_down.false down);
-      up = reads.up;
-      leaves = read_leaves _ reads;
     }

@@ -2,10 +2,10 @@
 use Rattle.std.proofs.Common.{[], refl, sym, ◌∙◌}
 use Rattle.posting_rules.specs.declared.fault.Fault.TheVariants.{Down}
 use Rattle.report_contents.proofs.Written.{nothing_written}
-use Rattle.bank_store.specs.believed.Seen.{bank_seen, database_of}
-use Rattle.bank_store.proofs.{AsFound.idle_as_found, LogRows.has_kept, LogRows.kept_of, ReadsLeave.idle_takes}
+use Rattle.bank_store.specs.believed.Seen.{database_of}
+use Rattle.bank_store.proofs.{LogRows.has_kept, LogRows.kept_of}
 use Rattle.bank_replays.specs.Prefixes.{wrote_none}
-use Rattle.bank_replays.proofs.{ExportedLog.writes_log, Exits.tested_up, Leaves.read_leaves, Leaves.read_takes}
+use Rattle.bank_replays.proofs.{ExportedLog.writes_log, Exits.tested_up, Leaves.none_read, Leaves.only_read}
 use Rattle.bank_replays.proofs.{SoundLogs.sound_log, Wrote.bank_err}
 use Rattle.bank_replays.proofs.exports.export.Goals as goal
 
@@ -22,10 +22,8 @@ returns-then-is_down g c = record {
   log = λ clean log shows. nothing_written _ _;
   writer = bank_err Down;
   why = record { answers = λ clean f has. sym c.is_down.ensures ∙ c.if-is_down.true };
-  bank = idle_takes (bank_seen g.S.Store c.args.bank.now) _;
+  reads = none_read g.S.Store c.args.bank.now _;
   down = λ down. (refl, refl, refl);
-  up = refl;
-  leaves = idle_as_found g.S.Store c.args.bank.now;
 }
 
 pub returns : goal.returns
@@ -41,8 +39,6 @@ returns g c =
           (λ rule is. sound_log clean log shows c.export_records.result _ says.why is rule refl);
       writer = says.writer;
       why = says.why;
-      bank = read_takes _ says.bank;
+      reads = only_read _ says.bank;
       down = λ down. absurd (tested_up _ _ c.is_down.ensures c.if-is_down.false down);
-      up = says.bank.up;
-      leaves = read_leaves _ says.bank;
     }

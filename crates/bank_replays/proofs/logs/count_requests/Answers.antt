@@ -1,9 +1,8 @@
 -- The count of a log's requests, and what is left of the bank.
 use Rattle.std.proofs.Common.{refl}
 use Rattle.std.proofs.lemmas.Result.{on_ok_weaker}
-use Rattle.bank_store.specs.believed.Seen.{bank_seen, database_of}
-use Rattle.bank_store.proofs.{AsFound.idle_as_found, ReadsLeave.idle_takes}
-use Rattle.bank_replays.proofs.{Exits.tested_up, Leaves.read_leaves, Leaves.read_takes, Logged.counts_log}
+use Rattle.bank_store.specs.believed.Seen.{database_of}
+use Rattle.bank_replays.proofs.{Exits.tested_up, Leaves.none_read, Leaves.only_read, Logged.counts_log}
 use Rattle.bank_replays.proofs.logs.count_requests.Goals as goal
 
 pub returns-then-is_down : goal.returns-then-is_down
@@ -11,11 +10,9 @@ returns-then-is_down g c = record {
   rows = λ clean version decided has. tt;
   log = λ clean log shows. tt;
   sound = λ clean log shows rule is. absurd cc;
-  bank = idle_takes (bank_seen g.S.Store c.args.bank.now) _;
+  reads = none_read g.S.Store c.args.bank.now _;
   same = λ clean. tt;
   down = λ down. (refl, refl);
-  up = refl;
-  leaves = idle_as_found g.S.Store c.args.bank.now;
 }
 
 pub returns : goal.returns
@@ -27,9 +24,7 @@ returns g c =
           let db = database_of g.S.Store c.args.bank.now in
           counts_log db shows.tables log shows.are shows.shows _ (says.rows clean);
       sound = says.sound;
-      bank = read_takes _ says.bank;
+      reads = only_read _ says.bank;
       same = λ clean. on_ok_weaker c.stored_count.result (λ still. still.0) (says.bank.still clean);
       down = λ down. absurd (tested_up _ _ c.is_down.ensures c.if-is_down.false down);
-      up = says.bank.up;
-      leaves = read_leaves _ says.bank;
     }

@@ -2,9 +2,7 @@
 use Rattle.std.proofs.Common.{refl, sym, ◌∙◌}
 use Rattle.posting_rules.specs.declared.fault.Fault.TheVariants.{Down}
 use Rattle.report_contents.proofs.Written.{nothing_written}
-use Rattle.bank_store.specs.believed.Seen.{bank_seen}
-use Rattle.bank_store.proofs.{AsFound.idle_as_found, ReadsLeave.idle_takes}
-use Rattle.bank_replays.proofs.{Exits.tested_up, Leaves.read_leaves, Leaves.read_takes}
+use Rattle.bank_replays.proofs.{Exits.tested_up, Leaves.none_read, Leaves.only_read}
 use Rattle.bank_replays.proofs.{SoundLogs.sound_log, Wrote.bank_err}
 use Rattle.bank_replays.proofs.plan.write_plan.Goals as goal
 
@@ -14,10 +12,8 @@ returns-then-is_down g c = record {
   sound = λ clean log shows rule is. absurd cc;
   writer = bank_err Down;
   why = record { answers = λ clean f has. sym c.is_down.ensures ∙ c.if-is_down.true };
-  bank = idle_takes (bank_seen g.S.Store c.args.bank.now) _;
+  reads = none_read g.S.Store c.args.bank.now _;
   down = λ down. (refl, refl, refl);
-  up = refl;
-  leaves = idle_as_found g.S.Store c.args.bank.now;
 }
 
 pub returns : goal.returns
@@ -29,8 +25,6 @@ returns g c =
           sound_log clean log shows c.write_branches.result _ says.why is rule refl;
       writer = says.writer;
       why = says.why;
-      bank = read_takes _ says.bank;
+      reads = only_read _ says.bank;
       down = λ down. absurd (tested_up _ _ c.is_down.ensures c.if-is_down.false down);
-      up = says.bank.up;
-      leaves = read_leaves _ says.bank;
     }

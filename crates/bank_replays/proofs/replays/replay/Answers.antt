@@ -1,21 +1,17 @@
 -- What a replay says and leaves.
-use Rattle.std.proofs.Common.{rules, ◌≡◌, ◌∙◌, Bool, Err, None, Some, false, true, refl, sym}
+use Rattle.std.proofs.Common.{rules, ◌≡◌, ◌∙◌, Err, None, Some, refl, sym}
 use Rattle.posting_rules.specs.declared.fault.{Fault.Fault, Fault.TheVariants.Damaged, Fault.TheVariants.Memory, Rule.Rule}
-use Rattle.bank_store.specs.believed.Seen.{bank_seen, database_of}
-use Rattle.bank_store.proofs.{AsFound.idle_as_found, ReadsLeave.idle_takes}
+use Rattle.bank_store.specs.believed.Seen.{database_of}
 use Rattle.store_rows.specs.Definitions.{IsOtherTable}
 use Rattle.bank_replays.proofs.{AllKept.has_tables, AskedFirst.told_tables}
-use Rattle.bank_replays.proofs.{InMemory.never_in_doubt, Digested.agrees_log, Leaves.read_leaves}
-use Rattle.bank_replays.proofs.{Leaves.read_takes}
+use Rattle.bank_replays.proofs.{InMemory.never_in_doubt, Digested.agrees_log, Exits.tested_up}
+use Rattle.bank_replays.proofs.Leaves.{none_read, only_read}
 use Rattle.bank_replays.specs.declared.difference.Replay.TheVariants.{Otherwise}
 use Rattle.bank_replays.proofs.{SoundLogs.sound_log, Whys.err_is, Whys.why_memory, Whys.why_none}
 use Rattle.bank_replays.proofs.replays.replay.Goals as goal
 
 memory_not_damaged : (fault : Fault) (rule : Rule) → fault ≡ Memory → fault ≡ Damaged rule → ⊥
 memory_not_damaged fault rule memory damaged = cc
-
-tested_up : (tested is_down : Bool) → tested ≡ is_down → tested ≡ false → is_down ≡ true → ⊥
-tested_up tested is_down same up down = cc
 
 pub returns-then-is_down : goal.returns-then-is_down
 returns-then-is_down g c = record {
@@ -27,11 +23,9 @@ returns-then-is_down g c = record {
     log = λ clean log shows. tt;
     sound = λ rule is. absurd cc;
     same = λ clean. tt;
-    takes = idle_takes (bank_seen g.S.Store c.args.bank.now) _;
   };
   down = λ down. (refl, refl);
-  up = refl;
-  leaves = idle_as_found g.S.Store c.args.bank.now;
+  reads = none_read g.S.Store c.args.bank.now _;
 }
 
 pub returns-in-Some : goal.returns-in-Some
@@ -46,11 +40,9 @@ returns-in-Some g c =
         log = λ clean log shows. tt;
         sound = λ rule is. absurd cc;
         same = λ clean. tt;
-        takes = idle_takes (bank_seen g.S.Store c.args.bank.now) _;
       };
       down = λ down. absurd (tested_up _ _ c.is_down.ensures c.if-is_down.false down);
-      up = refl;
-      leaves = idle_as_found g.S.Store c.args.bank.now;
+      reads = none_read g.S.Store c.args.bank.now _;
     }
 
 pub returns-in_err-pages : goal.returns-in_err-pages
@@ -65,11 +57,9 @@ returns-in_err-pages g c =
         log = λ clean log shows. rw same tt;
         sound = λ rule is. absurd (memory_not_damaged _ rule c.in_err-pages.ensures.memory (err_is _ _ (sym same ∙ is)));
         same = λ clean. rw same tt;
-        takes = idle_takes (bank_seen g.S.Store c.args.bank.now) _;
       };
       down = λ down. absurd (tested_up _ _ c.is_down.ensures c.if-is_down.false down);
-      up = refl;
-      leaves = idle_as_found g.S.Store c.args.bank.now;
+      reads = none_read g.S.Store c.args.bank.now _;
     }
 
 pub replay_over-requires : goal.replay_over-requires
@@ -98,9 +88,7 @@ returns g c =
         sound = λ rule is clean log shows.
             sound_log clean log shows c.replay_over.result (Damaged rule) says.why is rule refl;
         same = says.same;
-        takes = read_takes _ says.bank;
       };
       down = λ down. absurd (tested_up _ _ c.is_down.ensures c.if-is_down.false down);
-      up = says.bank.up;
-      leaves = read_leaves _ says.bank;
+      reads = only_read _ says.bank;
     }
