@@ -67,7 +67,8 @@ class Names:
                 self.modules[alias] = path
             for name in filter(None, (it.strip() for it in names.split(","))):
                 there, _, here = name.partition(" as ")
-                self.own[(here or there).strip()] = (path, there.strip())
+                inner, _, last = there.strip().rpartition(".")  # a module in the braces, as in {Tables.AreTablesOf}
+                self.own[here.strip() or last] = (f"{path}.{inner}" if inner else path, last)
 
     def of(self, word):
         """The places that a word may name."""
