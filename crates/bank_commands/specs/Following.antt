@@ -18,7 +18,7 @@ use Rattle.bank_store.specs.believed.Down.{bank_reason}
 use Rattle.bank_store.specs.believed.Seen.{bank_seen, database_of}
 use Rattle.bank_store.specs.believed.BankSparing.{SparesOtherTables}
 use Rattle.bank_store.specs.declared.bank.Bank.{Bank}
-use Rattle.bank_replays.specs.Damaged.{TellsWhy, fault_in}
+use Rattle.bank_replays.specs.Damaged.{TellsCount, TellsWhy, fault_in}
 use Rattle.bank_replays.specs.Logs.{LogsEntries, LogsRows, without_count}
 use Rattle.bank_replays.specs.Reading.{IsOnlyRead}
 use Rattle.bank_replays.specs.Writing.{LeavesWriter}
@@ -68,6 +68,7 @@ pub record CountsBank {S : Type 0} (g : Ghosts S) (counted : Result ℕ Fault) (
       → IfOk counted (λ count. count ≡ length (log_entries log))
   pub sound : (bank_seen g new).honest → (log : List Command) → ShowsLog (bank_seen g old) log → (rule : Rule)
       → counted ≢ Err (Damaged rule)
+  pub why : TellsCount g old new counted
   pub reads : IsOnlyRead g old new counted
   pub same : (bank_seen g new).honest → OnOk counted (database_of g new ≡ database_of g old)
 

@@ -1,5 +1,5 @@
 -- Entries of kept rows, and those of a log.
-use Rattle.std.proofs.Common.{◌≡◌, ◌<◌, ◌≤◌, ◌++◌, ℕ, true, false, List, [], ◌∷◌, length, map, filter}
+use Rattle.std.proofs.Common.{◌≡◌, ◌⊎◌, ◌<◌, ◌≤◌, ◌++◌, ℕ, inl, inr, true, false, List, [], ◌∷◌, length, map, filter}
 use Rattle.std.proofs.Common.{drop, Option, Result, Ok, Err, refl, sym, ap, subst, ◌∙◌, arith}
 use Rattle.std.specs.Prelude.{ℤ, pos, int_lt, nat_abs, get_or, IfOk}
 use Rattle.std.proofs.lemmas.{Int.ints, List.Folds.flat_map-map, Result.IfOk-weaker}
@@ -17,6 +17,8 @@ use Rattle.store_rows.specs.believed.BankTables.{meta as meta_table}
 use Rattle.store_rows.specs.believed.Columns.{number_at}
 use Rattle.store_rows.specs.declared.metas.TheConstants.{VERSION}
 use Rattle.walked_rows.proofs.Shown.{has_meta}
+use Rattle.walked_rows.specs.Broken.{HasBroken}
+use Rattle.bank_replays.specs.Damaged.{CountsBelowZero}
 use Rattle.walked_rows.specs.{OnlyMeta.bank_entry, Rows.HasStoredRows, StoredBeside.meta_entry}
 use Rattle.walked_rows.specs.declared.metas.StoredMeta.{StoredMeta}
 use Rattle.bank_replays.specs.{declared.fault.ReplayFault.ReplayFault}
@@ -82,6 +84,33 @@ one_decided n version decided [] is = absurd cc
 one_decided n version decided (m ∷ []) is =
     ap (λ (es : List Entry). number_at 1 (get_or es 0 (bank_entry version decided))) is
 one_decided n version decided (m ∷ k ∷ more) is = absurd cc
+
+-- of rows of which the last counts fewer than none, one does
+pub below_zero : (n : ℤ) (rows : List StoredMeta) → int_lt (decided_in n rows) (pos 0) ≡ true
+    → (int_lt n (pos 0) ≡ true) ⊎ HasBroken CountsBelowZero (map meta_entry rows)
+below_zero n [] below = inl below
+below_zero n (m ∷ more) below = inr (from m more (below_zero m.decided more below))
+  where
+    from : (m : StoredMeta) (more : List StoredMeta)
+        → (int_lt m.decided (pos 0) ≡ true) ⊎ HasBroken CountsBelowZero (map meta_entry more)
+        → HasBroken CountsBelowZero (map meta_entry (m ∷ more))
+    from m more (inl here) = ([], meta_entry m, map meta_entry more, refl, here)
+    from m more (inr later) = (
+      meta_entry m ∷ later.0,
+      later.1,
+      later.2,
+      ap (λ es. meta_entry m ∷ es) later.3,
+      later.4,
+    )
+
+pub one_below : (rows : List StoredMeta) (all : List Entry) (last : ℤ) → last ≡ decided_in (pos 0) rows
+    → map meta_entry rows ≡ all → int_lt last (pos 0) ≡ true → HasBroken CountsBelowZero all
+one_below rows all last is are below =
+    subst (HasBroken CountsBelowZero) are (never (below_zero (pos 0) rows (subst (λ z. int_lt z (pos 0) ≡ true) is below)))
+  where
+    never : {P : Type 0} → (int_lt (pos 0) (pos 0) ≡ true) ⊎ P → P
+    never (inl below) = absurd cc
+    never (inr p) = p
 
 -- the count of a file that shows a log
 pub counts_log : (db : Database) (t : Tables) (log : List Command) → Shows db t → AreTablesOf t log

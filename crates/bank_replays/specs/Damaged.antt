@@ -1,12 +1,14 @@
 -- Which rows of a file are damaged for who replays it, and what a fault says of a bank that was read.
-use Rattle.std.specs.Prelude.{◌≡◌, ◌⊎◌, List, Result, IfErr, ⊤}
+use Rattle.std.specs.Prelude.{◌≡◌, ◌⊎◌, ℕ, pos, int_lt, true, List, Result, IfErr, ⊤}
 use Rattle.sqlite.specs.Effect.{Database}
 use Rattle.sqlite.specs.State.{HasCleanDisk}
 use Rattle.sqlite_trees.specs.declared.store.Store.{Ghosts}
 use Rattle.posting_rules.specs.declared.fault.Fault.{Fault}
 use Rattle.posting_rules.specs.declared.fault.Fault.TheVariants as faults
 use Rattle.posting_rules.specs.declared.fault.Rule.{Rule}
-use Rattle.posting_rules.specs.declared.fault.Rule.TheVariants.{Request}
+use Rattle.posting_rules.specs.declared.fault.Rule.TheVariants.{Meta, Request}
+use Rattle.sql_meanings.specs.believed.Entries.{Entry}
+use Rattle.store_rows.specs.believed.Columns.{number_at}
 use Rattle.walked_rows.specs.Broken.{HasBroken}
 use Rattle.walked_rows.specs.KeptRows.{BreaksKept, KeptItem, kept_all}
 use Rattle.walked_rows.specs.References.{listed_of}
@@ -66,3 +68,13 @@ pub record TellsWhy {S X E : Type 0} (g : Ghosts S) (fault_of : E → Fault) (ol
     : Type 0 where
   pub answers : HasCleanDisk (file_of new) → (f : FileTables) → HasTables (database_of g old) f
       → IfErr result (λ e. Tells g old new f (fault_of e))
+
+-- the row of meta counts fewer requests than none
+abbrev pub CountsBelowZero : Entry → Type 0
+CountsBelowZero row = int_lt (number_at 1 row) (pos 0) ≡ true
+
+-- The same of who counts the requests; or, by the rule of meta, a row of it counts fewer than none.
+pub record TellsCount {S : Type 0} (g : Ghosts S) (old new : Bank S g) (result : Result ℕ Fault) : Type 0 where
+  pub answers : HasCleanDisk (file_of new) → (f : FileTables) → HasTables (database_of g old) f
+      → IfErr result (λ fault. Tells g old new f fault
+      ⊎ ((fault ≡ faults.Damaged Meta) × HasBroken CountsBelowZero f.metas))

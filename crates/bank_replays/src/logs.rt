@@ -1,18 +1,19 @@
 //! The log of a bank: an entry of each kept request.
-ghost use Rattle.std.specs.Prelude.{◌≡◌, ◌≢◌, ◌++◌, ◌∷◌, [], ℤ, pos, List, Err, IfOk, OnErr, OnOk, int_lt, length, map};
+ghost use Rattle.std.specs.Prelude.{◌≡◌, ◌≢◌, ◌++◌, ◌∷◌, [], ℤ, pos, List, Err, IfErr, IfOk, OnOk, int_lt, length, map};
 ghost use Rattle.std.specs.Prelude.{true, ⊤};
 ghost use Rattle.sqlite.specs.State.{HasCleanDisk};
 ghost use Rattle.posting_rules.specs.believed.Commands.{Command};
 ghost use Rattle.posting_rules.specs.believed.Counter.{ShowsLog};
 ghost use Rattle.posting_rules.specs.declared.fault.Fault.TheVariants.{Damaged, Down};
 ghost use Rattle.posting_rules.specs.declared.fault.Rule.{Rule};
+ghost use Rattle.posting_rules.specs.declared.fault.Rule.TheVariants.{Meta};
 ghost use Rattle.posting_core.specs.believed.LogEntries.{log_entries};
 ghost use Rattle.store_rows.specs.believed.BankTables.{meta as meta_table};
 ghost use Rattle.walked_rows.specs.KeptRows.{HasKept, KeptItem, kept_item};
 ghost use Rattle.walked_rows.specs.OnlyMeta.{bank_entry};
 ghost use Rattle.walked_rows.specs.Rows.{HasStoredRows};
 ghost use Rattle.bank_store.specs.believed.Seen.{bank_seen, database_of, file_of};
-ghost use Rattle.bank_replays.specs.Damaged.{TellsWhy, fault_in};
+ghost use Rattle.bank_replays.specs.Damaged.{TellsCount, TellsWhy, fault_in};
 ghost use Rattle.bank_replays.specs.Logs.{LogsEntries, LogsRows, decided_in, entries_after};
 ghost use Rattle.bank_replays.specs.Logs.{without_count};
 ghost use Rattle.bank_replays.specs.Reading.{IsOnlyRead, ReadsBank};
@@ -25,6 +26,7 @@ use crate::fault::{ReplayFault, bank_fault};
 use crate::visitors::{Visitor, visit_all, visit_first};
 use crate::writes::put_bytes;
 use bank_store::{Bank, entry_in};
+use message_records::Whole;
 use posting_core::Sink;
 use posting_rules::{Counter, Fault, Rule};
 use report_contents::put_last;
@@ -157,7 +159,7 @@ impl Visitor<StoredMeta, StoredMeta> for LastMeta {
 // The count of requests that a row has.
 fn counted(row: &StoredMeta) -> Result<u64, Fault>
     ensures count { IfOk result (λ count. pos count ≡ row.now.decided) }
-    ensures below { OnErr result (int_lt row.now.decided (pos 0) ≡ true) }
+    ensures below { IfErr result (λ fault. (fault ≡ Damaged Meta) × (int_lt row.now.decided (pos 0) ≡ true)) }
 {
     if row.decided < 0 {
         return Err(Fault::Damaged(Rule::Meta));
@@ -173,8 +175,13 @@ fn stored_count<S: Alter>(bank: &mut Bank<S>) -> Result<u64, Fault>
         → IfOk result (λ count. pos count ≡ decided) }
     ensures sound { HasCleanDisk (file_of bank.new) → (log : List Command)
         → ShowsLog (bank_seen S.Store bank.old) log → (rule : Rule) → result ≢ Err (Damaged rule) }
+    ensures why { TellsCount S.Store bank.old bank.new result }
 {
-    let mut last = StoredMeta::default();
+    let mut last = StoredMeta {
+        id: Whole::new(1).unwrap(),
+        version: 0,
+        decided: 0,
+    };
     match visit_all::<S, StoredMeta, StoredMeta, LastMeta>(bank, &LastMeta, &mut last) {
         Ok(()) => counted(&last),
         Err(fault) => Err(bank_fault(fault)),
@@ -201,6 +208,7 @@ pub fn count_requests<S: Alter>(bank: &mut Bank<S>) -> Result<u64, Fault>
         → IfOk result (λ count. count ≡ length (log_entries log)) }
     ensures sound { (bank_seen S.Store bank.new).honest → (log : List Command)
         → ShowsLog (bank_seen S.Store bank.old) log → (rule : Rule) → result ≢ Err (Damaged rule) }
+    ensures why { TellsCount S.Store bank.old bank.new result }
     ensures reads { IsOnlyRead S.Store bank.old bank.new result }
     ensures same { (bank_seen S.Store bank.new).honest
         → OnOk result (database_of S.Store bank.new ≡ database_of S.Store bank.old) }

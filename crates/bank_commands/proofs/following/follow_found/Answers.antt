@@ -18,6 +18,7 @@ returns-in_err-requests g c =
         counts = record {
           log = λ clean log shows. tt;
           sound = it.sound;
+          why = it.why;
           reads = it.reads;
           same = λ clean. tt;
         };
@@ -34,7 +35,7 @@ returns g c =
       follows = record {
         counted = Ok c.in_ok-requests.requests;
         stood = c.count_requests.new.bank;
-        counts = record { log = it.log; sound = it.sound; reads = it.reads; same = it.same };
+        counts = record { log = it.log; sound = it.sound; why = it.why; reads = it.reads; same = it.same };
         follows = c.follow_into.ensures.follows;
       };
       unprinted = c.follow_into.ensures.unprinted;

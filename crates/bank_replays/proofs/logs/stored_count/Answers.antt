@@ -1,10 +1,11 @@
 -- The one row of `meta` was visited.
-use Rattle.std.proofs.Common.{◌≡◌, ◌∙◌, ℕ, Result, true, refl, sym, subst}
-use Rattle.std.specs.Prelude.{OnErr, int_lt, pos}
-use Rattle.std.proofs.lemmas.Result.{IfOk-weaker}
+use Rattle.std.proofs.Common.{◌≡◌, ◌∙◌, ℕ, Result, inl, inr, true, refl, sym, subst}
+use Rattle.std.specs.Prelude.{IfErr, int_lt, pos}
+use Rattle.std.proofs.lemmas.Result.{IfErr-weaker, IfOk-weaker}
 use Rattle.posting_rules.specs.declared.fault.Fault.{Fault}
+use Rattle.posting_rules.specs.declared.fault.{Fault.TheVariants.Damaged, Rule.TheVariants.Meta}
 use Rattle.bank_store.specs.believed.Seen.{database_of}
-use Rattle.bank_replays.proofs.{Logged.none_below, Logged.one_decided, Read.read_any, Read.read_fails}
+use Rattle.bank_replays.proofs.{Logged.none_below, Logged.one_below, Logged.one_decided, Read.read_any, Read.read_fails}
 use Rattle.bank_replays.proofs.{SoundLogs.sound_log, Whys.err_is}
 use Rattle.bank_replays.proofs.logs.stored_count.Goals as goal
 
@@ -21,7 +22,15 @@ returns-in-Ok g c =
       sound = λ clean log shows rule is.
           none_below (database_of g.S.Store c.args.bank.now) shows.tables shows.are last.decided
           (λ version decided has. it.visits.1 ∙ one_decided _ version decided it.visits.0 (it.visits.2 clean _ has))
-          (subst (λ (r : Result ℕ Fault). OnErr r (int_lt last.decided (pos 0) ≡ true)) is c.counted.ensures.below);
+          (subst (λ (r : Result ℕ Fault). IfErr r (λ fault. (fault ≡ Damaged Meta) × (int_lt last.decided (pos 0) ≡ true)))
+          is c.counted.ensures.below).1;
+      why = record {
+        answers = λ clean f has.
+            IfErr-weaker c.counted.result _ _
+            (λ fault below.
+            inr (below.0, one_below it.visits.0 f.metas last.decided it.visits.1 (it.visits.2 clean f.metas has.metas) below.1))
+            c.counted.ensures.below;
+      };
     }
 
 pub returns-in-Err : goal.returns-in-Err
@@ -30,4 +39,7 @@ returns-in-Err g c = record {
   rows = λ clean version decided has. tt;
   sound = λ clean log shows rule is.
       sound_log clean log shows _ c.in-Err.fault c.in-Err.ensures.why refl rule (sym c.bank_fault.ensures ∙ err_is _ _ is);
+  why = record {
+    answers = λ clean f has. inl (rw c.bank_fault.ensures (c.in-Err.ensures.why.answers clean f has));
+  };
 }
