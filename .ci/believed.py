@@ -1,11 +1,11 @@
 #!/usr/bin/env python3
-"""Lists the definitions that a reader has to believe, for each of README's claims.
+"""Prints the definitions that a reader has to believe, for each of README's claims.
 
     .ci/believed.py              prints docs/BELIEVE.md
     .ci/believed.py --check      ends with status 1 unless docs/BELIEVE.md is what it prints, README has its numbers
                                    and the logic of `bank --version`, and the folders specs/believed hold just what the
                                    promise and the calls need
-    .ci/believed.py CRATE NAME [CLAUSE..]      the list of one function's contract
+    .ci/believed.py CRATE NAME [CLAUSE..]      the same page for one function's contract
 
 From the names of a function's clauses it walks through `specs/` until only names of the kit are left. Where a law says the
 same in such names, it goes on by the law. A definition counts with its comment; a file is named with the first line of its
@@ -82,7 +82,11 @@ class Names:
 
 class Definition:
     def __init__(self, module, name, start):
-        self.module, self.name, self.start, self.lines, self.words = module, name, start, 0, set()
+        self.module, self.name, self.start, self.text, self.words = module, name, start, [], set()
+
+    @property
+    def lines(self):
+        return len(self.text)
 
 
 class Module:
@@ -92,14 +96,14 @@ class Module:
         self.path, text = path, path.read_text()
         self.names, self.definitions, self.place = Names(text), {}, {}
         self.about = next((l[3:] for l in text.splitlines() if l.startswith("-- ")), "")
-        outer, current, comment, blank = "", None, 0, 0
+        outer, current, comment = "", None, []
         for number, line in enumerate(text.splitlines()):
             bare = line.split("--")[0].rstrip()
             if not bare:
-                comment = comment + 1 if line.strip() else 0
+                comment = [*comment, line] if line.strip() else []
                 continue
             if re.match(r"(pub )?use ", bare) or bare.startswith("module "):
-                outer, current, comment = (bare if bare.startswith("module ") else outer), None, 0
+                outer, current, comment = (bare if bare.startswith("module ") else outer), None, []
                 continue
             indent = len(bare) - len(bare.lstrip())
             found = HEAD.match(bare)
@@ -109,20 +113,21 @@ class Module:
                 current = self.definitions.setdefault(name, Definition(self, name, number))
                 current.holds, current.indent = bare.endswith("where"), indent
                 current.is_data = bare.lstrip().removeprefix("pub ").startswith("data ")
-                current.lines += comment
+                current.outer = outer
+                current.text += comment
                 current.words |= set(WORD.findall(outer))
             elif current is None:
                 continue
             elif indent <= current.indent and not bare.lstrip().startswith((current.name + " ", current.name + "(", "(", "{", "}")):
                 name = bare.split()[0]
                 current = self.definitions.get(name, current)
-            current.lines += 1
+            current.text.append(line)
             current.words |= set(WORD.findall(bare))
             if current.holds:
                 inner = re.match(r"\s+(?:pub )?([A-Z]\w*)\s*:", bare)  # a constructor
                 if inner and current.is_data:
                     self.place[inner.group(1)] = current.name
-            comment = 0
+            comment = []
 
 
 MODULES, RUST = {}, {}
@@ -263,14 +268,14 @@ def page():
     own = {id(it) for it in promise}
     more = {id(it) for it in calls} - own
     listed_names = len({(library_of(path), name) for path, name in kit})
-    text = [
+    return "\n".join([
         "# What must be believed",
         "",
-        "A proof shows that the code keeps its contracts. That a contract says what it should is for a reader to see. This page is",
-        "what `.ci/believed.py` prints, and `.ci/run` fails where it isn't: for each contract below, all definitions of `specs/`",
-        "that its clauses need, down to the kit's own names. What the promise and the calls of a counter need lies in the folders",
-        "`specs/believed`, with nothing else in them. The tables of a bank are those that the eight texts in `MAKE_TABLES` define,",
-        "by `tables_law` of `store_rows`, so that the texts are to be read, and not what `sqlite` makes of them.",
+        "A proof shows that the code keeps its contracts. Whether a contract says what it should is for you to judge. To judge",
+        "README's promise, read this page from top to bottom: it has every definition that the promise needs, down to names of",
+        "the kit. `.ci/believed.py CRATE FUNCTION` prints such a page for any other contract, and `.ci/run` fails when this page",
+        "isn't what `.ci/believed.py` prints. The tables of a bank are those that the eight texts in `MAKE_TABLES` define, by",
+        "`tables_law` of `store_rows`: read the texts, and not what `sqlite` makes of them.",
         "",
         "| For | Definitions |",
         "|---|---|",
@@ -278,20 +283,20 @@ def page():
         f"| with `lives_law`, `calls_law` and `streams_law`, which say what is acknowledged, `each_request_once`, `tables_are_consistent`, and `submit`, `submit_all`, `open_branch` | {said_calls} |",
         f"| all ten claims of README | {said_claims} |",
         "",
-        "In reading order. The lines count each definition with its comment.",
+        "## The promise",
         "",
-        "## For the promise",
-        "",
-        *table(promise),
+        *clauses(PROMISE),
+        *texts(promise),
         *borrowed(rust, kit),
-        "## For the calls of a counter, too",
+        "## Where the rest lies",
+        "",
+        "What the calls of a counter need, too, is in these files, with nothing else in `specs/believed`:",
         "",
         *table([it for it in calls if id(it) in more]),
-        "## For the other claims, too",
+        "And what the other claims need:",
         "",
         *table([it for it in claims if id(it) not in own | more]),
-    ]
-    return "\n".join(text)
+    ])
 
 
 def library_of(path):
@@ -310,16 +315,40 @@ def borrowed(rust, kit):
     return ["**Rust types and constants**", "", *lines(types), "", "**Names of the kit**, beside the signs of its logic (≡, ×, ⊎, ∥ ∥₁)", "", *lines(names), ""]
 
 
-def table(found):
+def clauses(contracts):
+    """The clauses themselves, as they stand in the code."""
+    rows = []
+    for crate, function, wanted in contracts:
+        text = clauses_of(crate, function, wanted)[0]
+        rows += [f"The contract of `{function}` of `{crate}`" + (f", its clause `{'`, `'.join(wanted)}`" if wanted else "") + ":", "", "```antt"]
+        rows += [line.rstrip() for line in text.splitlines() if line.strip()] + ["```", ""]
+    return rows
+
+
+def texts(found):
+    """Each file's definitions in reading order, with their texts and comments."""
     rows, crate_before = [], None
     for crate, name, path, lines, its in listed(found):
         if crate != crate_before:
-            rows += ["", f"**`{crate}`**", ""] if crate_before else [f"**`{crate}`**", ""]
+            rows += [f"### `{crate}`", ""]
             crate_before = crate
-        about = its[0].module.about.rstrip(".,:;")
-        names = ", ".join(f"`{it.name}`" for it in its)
-        rows.append(f"- `specs/{name}`, {lines} lines ({about}): {names}")
-    return rows + [""]
+        rows += [f"`specs/{name}`: {its[0].module.about.rstrip('.,:;')}", "", "```antt"]
+        outer = ""
+        for it in its:
+            rows += [it.outer] if it.outer != outer else []
+            outer = it.outer
+            rows += [*it.text, ""]
+        rows[-1] = "```"
+        rows.append("")
+    return rows
+
+
+def table(found):
+    by_crate = {}
+    for crate, name, _, lines, _ in listed(found):
+        by_crate.setdefault(crate, []).append(f"{name.removeprefix('believed/')} {lines}")
+    rows = ["| Crate | Files of `specs/`, each with the lines of its definitions |", "|---|---|"]
+    return rows + [f"| `{crate}` | {', '.join(files)} |" for crate, files in by_crate.items()] + [""]
 
 
 def main():
@@ -336,10 +365,9 @@ def main():
             sys.exit("not where it belongs, by specs/believed: " + ", ".join(misplaced()))
         print("docs/BELIEVE.md: as .ci/believed.py prints it")
     elif len(sys.argv) > 2:
-        found, rust, kit, said = counts([(sys.argv[1], sys.argv[2], sys.argv[3:])])
-        print("\n".join(table(found)), said, sep="\n")
-        print(len(rust), "Rust:", sorted(rust))
-        print(len(kit), "kit")
+        contract = [(sys.argv[1], sys.argv[2], sys.argv[3:])]
+        found, rust, kit, said = counts(contract)
+        print("\n".join([said, "", *clauses(contract), *texts(found), *borrowed(rust, kit)]), end="")
     else:
         print(page(), end="")
 
