@@ -64,6 +64,12 @@ class Browser:
     def open(self, address):
         self.tell("Navigate", url=address)
 
+    def back(self):
+        self.tell("Back")
+
+    def reload(self):
+        self.tell("Refresh")
+
     def run(self, script):
         """The value of an expression, for which a promise is waited for."""
         text = ("const done = arguments[arguments.length - 1];"
@@ -104,7 +110,7 @@ class Browser:
 class Chromium(Browser):
     name, program = "Chromium", "chromedriver"
     locks = "SingletonLock", "SingletonCookie", "SingletonSocket"
-    COMMANDS = {"Navigate": ("POST", "url"), "ExecuteAsyncScript": ("POST", "execute/async"), "SetTimeouts": ("POST", "timeouts"),
+    COMMANDS = {"Navigate": ("POST", "url"), "Back": ("POST", "back"), "Refresh": ("POST", "refresh"), "ExecuteAsyncScript": ("POST", "execute/async"), "SetTimeouts": ("POST", "timeouts"),
                 "PerformActions": ("POST", "actions"), "TakeScreenshot": ("GET", "screenshot"), "GetWindowHandle": ("GET", "window"),
                 "SwitchToWindow": ("POST", "window"), "NewWindow": ("POST", "window/new"), "CloseWindow": ("DELETE", "window"),
                 "DevTools": ("POST", "goog/cdp/execute")}

@@ -126,8 +126,14 @@ class Page:
     def click(self, name):
         self.act(element(name) + ".click()")
 
+    def write(self, name, text):
+        self.act(f"{element(name)}.value = {json.dumps(text)}", element(name) + ".dispatchEvent(new Event('input'))")
+
     def search(self, text):
-        self.act(f"{element('search')}.value = {json.dumps(text)}", element("search") + ".dispatchEvent(new Event('input'))")
+        self.write("search", text)
+
+    def limit(self, text):
+        self.write("ask-above", text)
 
     def kept(self):
         return self.browser.run(KEPT)
@@ -179,6 +185,13 @@ class Page:
         same("what is kept", len(self.kept()), before)
         self.act(element("form") + ".reset()", element("account") + ".focus()")
 
+    def send_again(self):
+        """Lets the day go out again, and waits for the answers."""
+        self.click("send-again")
+        self.browser.keys(TAB, ENTER)
+        self.until("all go out again", element("resend") + ".open", False)
+        self.settled()
+
     def kill(self):
         self.browser.kill()
         self.browser = None
@@ -228,11 +241,7 @@ def words(place, page):
     same("after the branch is open", page.browser.run(LINES)[0][3:], ["EARLY", "Posted", "5.00"])
     page.press("Total of the till")
     page.until("the till", element("done") + ".textContent", "The till of teller 11 has 5.00.")
-    page.click("sign-out")
-    page.patiently(lambda: page.browser.run("document.title === 'Signed out'"))
-    page.browser.open(place.address(path="/branches"))
-    with open(place.folder + "/access.log", encoding="utf-8") as log:
-        holds("who has signed out", log.readlines()[-1], '"GET /branches HTTP/1.1" 401 ')
+    signed_out(place, page)
     page.kill()
 
     page.sign_in("teller1", "counter1")
@@ -300,6 +309,28 @@ def words(place, page):
     page.kill()
 
 
+def signed_out(place, page):
+    """After `Sign out` neither the key Back nor another tab shows the teller's page, and nobody posts there in the teller's
+    name."""
+    kept, tab = page.kept(), page.browser.other_tab(place.address())
+    page.click("sign-out")
+    page.patiently(lambda: page.browser.run("document.title === 'Signed out'"))
+    for go in (page.browser.back, lambda: page.browser.close_tab(tab), page.browser.reload):
+        with contextlib.suppress(BrowserFault):
+            go()
+        time.sleep(1)
+        same("a page after the sign-out", page.browser.run("[document.querySelectorAll('.posting').length, "
+             "!document.getElementById('form') || document.getElementById('form').hidden]"), [0, True])
+        page.act("(form => { if (form) { form.account.value = '1'; form.amount.value = '-66'; form.requestSubmit() } })"
+                 "(document.getElementById('form'))")
+        time.sleep(0.5)
+        page.browser.open(place.address(path="/sign-out"))
+        same("what is kept after the sign-out", page.kept(), kept)
+    page.browser.open(place.address(path="/branches"))
+    with open(place.folder + "/access.log", encoding="utf-8") as log:
+        holds("who has signed out", log.readlines()[-1], '"GET /branches HTTP/1.1" 401 ')
+
+
 def nobody(place, page):
     """Who signs in without being a teller keeps nothing, which could never go out."""
     word = subprocess.run(["openssl", "passwd", "-apr1", "guest"], check=True, stdout=subprocess.PIPE).stdout.decode()
@@ -308,7 +339,7 @@ def nobody(place, page):
     page.sign_in("guest", "guest")
     same("whose sign-in it is", page.browser.run(NOTES)[3], "Signed in, but not as a teller")
     page.browser.keys("1", TAB, "5", ENTER)
-    page.until("what nobody is told", f"({NOTES})[1]", "You are signed in, but not as a teller: nothing can be posted.")
+    page.until("what nobody is told", f"({NOTES})[1]", "You aren't signed in as a teller: nothing can be posted.")
     same("what nobody keeps", page.kept(), [])
     page.kill()
 
@@ -399,23 +430,32 @@ def buttons(place, page):
     page.settled()
     same("an amount that is paid out", page.browser.run(LINES)[0][2:5], ["-3.00", "BY BUTTON", "Posted"])
     same("a second click", page.browser.run(NOTES)[1], "")
-    page.act(element("ask-above") + ".value = '1000'")
+    page.limit("1000")
     page.browser.keys("2", TAB, "1234567.89", TAB, "LARGE", ENTER)
     page.until("a question", element("sure") + ".open")
     holds("a question", page.browser.run(element("sure-text") + ".textContent"), money(123456789))
     page.browser.keys(TAB, ENTER)
     page.listed("LARGE")
     page.settled()
-    page.act(element("ask-above") + ".value = ''")
+    for limit in ("1,000", "1 000", "1.000", "1000.-", "abc", "0", "-1"):
+        page.limit(limit)
+        same(f"a limit of {limit}", page.browser.run(element("ask-above-fault") + ".textContent.length > 0"),
+             limit not in ("0", "-1"))
+        page.browser.keys("2", TAB, "5000", ENTER)
+        page.until(f"a question at {limit}", element("sure") + ".open")
+        page.browser.keys(ESCAPE)
+        page.act(element("form") + ".reset()", element("account") + ".focus()")
+    page.limit("")
     page.search("by b")
     same("a search", [line[3] for line in page.browser.run(LINES)], ["BY BUTTON"])
+    for text in ("-3.00", "1 234 567,89", "not posted"):
+        page.search(text)
+        ensure(0 < len(page.browser.run(LINES)) < 8, f"a search for {text}")
     page.search("")
     before = [it["answer"] for it in page.kept()]
-    page.click("send-again")
-    page.browser.keys(TAB, ENTER)
-    page.until("all go out again", element("resend") + ".open", False)
-    page.settled()
+    page.send_again()
     same("the answers when a day is sent again", [it["answer"] for it in page.kept()], before)
+    holds("what is said of it", page.browser.run(element("again") + ".textContent"), ": none of ")
     page.focus()
     taken_over(place, page)
 
@@ -432,15 +472,46 @@ def taken_over(place, page):
     place.posts([record(2, 5, 1, 1, 100)])
     place.start_counter()
     page.focus()
-    page.click("send-again")
-    page.browser.keys(TAB, ENTER)
-    page.until("all go out again", element("resend") + ".open", False)
-    page.settled()
+    page.send_again()
     lines = {line[3]: line for line in page.browser.run(LINES)}
     same("what the other machine has", lines["WAS THERE"], was)
     same("what it lacked", lines["LOST"][4:],
          [f"Posted. Its first answer was another: posted, balance {lost[5]}", money(cents_of(lost[5]) + 100)])
     page.focus()
+    refused_then(place, page)
+
+
+def refused_then(place, page):
+    """What one machine posted and the next refuses stays to be seen, however much follows it."""
+    place.counter.stop()
+    place.keep("other")
+    place.start_counter()
+    page.answered(3000001, "-4.00", "PAID OUT")
+    for i in range(105):
+        page.enter(2, "0.01", f"LATER {i}")
+        page.until("an empty form", element("account") + ".value", "")
+    page.settled()
+    place.counter.stop()
+    place.put_back("other")
+    place.posts([record(3000001, 301, 31, 200, -300)])
+    place.start_counter()
+    page.send_again()
+    said = page.browser.run(element("again") + ".textContent")
+    same("what is said of it", re.sub(r"[\d:-]+ [\d:]+ \d+ of \d+ have", "N of M have", said),
+         "N of M have another answer than before. 1 of these was posted, and is refused now.")
+    page.answered(2, "0.01", "AFTER IT")
+    same("what stays", page.browser.run(element("again") + ".textContent"), said)
+    page.load()
+    line = next(line for line in page.browser.run(LINES) if line[3] == "PAID OUT")
+    holds("a posting that is refused now", line[4], "below the lowest balance", "The money has changed hands",
+          "Its first answer was another: posted")
+    ensure("ay out less" not in line[4], "a payout that was made is to be less")
+    page.click("show-others")
+    ensure(len(page.browser.run(LINES)) < 20, "more than the others are shown")
+    page.press(f"Post with a new number: number {line[0]}")
+    page.settled()
+    page.search("")
+    holds("the same under a new number", page.browser.run(LINES)[0][4], "Not posted: account 3000001 would go below")
 
 
 def reused(place, page):
