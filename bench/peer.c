@@ -39,11 +39,12 @@ static void write_row(sqlite3_stmt *statement, int count, const long long *value
     sqlite3_reset(statement);
 }
 
-/* The first column of the row under a key, which has to be there. */
-static long long read_row(sqlite3_stmt *statement, long long key) {
-    sqlite3_bind_int64(statement, 1, key);
+/* Adds to the row under a key, which has to be there, and gives what it then holds. */
+static long long add_to(sqlite3_stmt *statement, long long key, long long amount) {
+    bind(statement, 2, (long long[]){key, amount});
     check(sqlite3_step(statement) == SQLITE_ROW);
     long long value = sqlite3_column_int64(statement, 0);
+    check(sqlite3_step(statement) == SQLITE_DONE);
     sqlite3_reset(statement);
     return value;
 }
@@ -58,26 +59,17 @@ static unsigned long long draw(unsigned long long below) {
     return state % below;
 }
 
-static sqlite3_stmt *meta_read, *teller_read, *branch_read, *account_read, *request_read;
-static sqlite3_stmt *meta_write, *teller_write, *branch_write, *account_write, *history_add, *request_add;
+static sqlite3_stmt *request_read, *meta_add, *teller_add_to, *branch_add_to, *account_add_to, *history_add, *request_add;
 
 static void prepare_all(void) {
-    meta_read = prepare("SELECT decided FROM meta WHERE id = ?1");
-    teller_read = prepare("SELECT balance FROM teller WHERE tid = ?1");
-    branch_read = prepare("SELECT balance FROM branch WHERE bid = ?1");
-    account_read = prepare("SELECT balance FROM account WHERE aid = ?1");
     request_read =
         prepare("SELECT ordinal, aid, bid, delta, outcome, balance FROM request WHERE tid = ?1 AND number = ?2");
-    meta_write = prepare("UPDATE meta SET decided = ?2 WHERE id = ?1");
-    teller_write = prepare("UPDATE teller SET balance = ?2 WHERE tid = ?1");
-    branch_write = prepare("UPDATE branch SET balance = ?2 WHERE bid = ?1");
-    account_write = prepare("UPDATE account SET balance = ?2 WHERE aid = ?1");
+    meta_add = prepare("UPDATE meta SET decided = decided + ?2 WHERE id = ?1 RETURNING decided");
+    teller_add_to = prepare("UPDATE teller SET balance = balance + ?2 WHERE tid = ?1");
+    branch_add_to = prepare("UPDATE branch SET balance = balance + ?2 WHERE bid = ?1");
+    account_add_to = prepare("UPDATE account SET balance = balance + ?2 WHERE aid = ?1 RETURNING balance");
     history_add = prepare("INSERT INTO history VALUES (?1, ?2, ?3, ?4, ?5, ?6)");
     request_add = prepare("INSERT INTO request VALUES (?1, ?2, ?3, ?4, ?5, ?6, 0, ?7)");
-}
-
-static void add_to(sqlite3_stmt *read, sqlite3_stmt *write, long long key, long long amount) {
-    write_row(write, 2, (long long[]){key, read_row(read, key) + amount});
 }
 
 /* One posting. The record comes from home in 85 of 100 cases, as the benchmark has it. */
@@ -90,11 +82,9 @@ static void post(long branches, long accounts, long long *numbers) {
     bind(request_read, 2, (long long[]){teller, number});
     check(sqlite3_step(request_read) == SQLITE_DONE);
     sqlite3_reset(request_read);
-    long long ordinal = read_row(meta_read, 1) + 1, balance = read_row(account_read, account) + amount;
-    write_row(account_write, 2, (long long[]){account, balance});
-    add_to(teller_read, teller_write, teller, amount);
-    add_to(branch_read, branch_write, branch, amount);
-    write_row(meta_write, 2, (long long[]){1, ordinal});
+    long long ordinal = add_to(meta_add, 1, 1), balance = add_to(account_add_to, account, amount);
+    write_row(teller_add_to, 2, (long long[]){teller, amount});
+    write_row(branch_add_to, 2, (long long[]){branch, amount});
     write_row(history_add, 6, (long long[]){ordinal, account, teller, branch, amount, 1000});
     write_row(request_add, 7, (long long[]){ordinal, teller, number, account, branch, amount, balance});
 }

@@ -56,7 +56,8 @@ measure() {
         *)
             program=$work/peer
             python3 -c "import sqlite3, sys; sys.path.append('$here/tools'); import oracle
-sqlite3.connect('$folder/bench.db').executescript(f'{oracle.SCHEMA};INSERT INTO meta VALUES (1, {oracle.VERSION}, 0)')"
+made = f'PRAGMA page_size = ${system#sqlite-};{oracle.SCHEMA};INSERT INTO meta VALUES (1, {oracle.VERSION}, 0)'
+sqlite3.connect('$folder/bench.db').executescript(made)"
             ;;
     esac
     echo "$what,$system,$("$program" "$folder/bench.db" "$@")" >>"$out"
@@ -66,7 +67,8 @@ sqlite3.connect('$folder/bench.db').executescript(f'{oracle.SCHEMA};INSERT INTO 
 # The systems on the same work.
 each() {
     measure "$1" ours "${@:2}"
-    measure "$1" sqlite "${@:2}"
+    measure "$1" sqlite-1024 "${@:2}"
+    measure "$1" sqlite-4096 "${@:2}"
     test -z "${BEFORE:-}" || measure "$1" before "${@:2}"
 }
 
