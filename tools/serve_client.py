@@ -325,7 +325,7 @@ class Sender(threading.Thread):
                 connection.sendall(message)
                 sent += 1
             answer = read_answer(connection, buffered)
-            if answer is None or answer[0] in (502, 503, 504):
+            if answer is None or answer[0] in (429, 502, 503, 504):
                 return
             if answer[0] != 200:
                 self.fault = f"an answer with status {answer[0]}"

@@ -1,7 +1,8 @@
 #!/usr/bin/env python3
 """Starts `bank serve` and nginx in front of it, as in examples/nginx.conf, on loopback, and sends what nginx has to refuse: who
-posts as another teller, or not from the page of this server, or asks for the log without a follower's certificate. It
-needs the built program, nginx and openssl, and stands outside the gate. What comes of kills is tools/failover.py's.
+posts as another teller, or not from the page of this server, or asks for the log without a follower's certificate; and then
+wrong passwords, each on a connection of its own, of which two a second are looked at in the end. It needs the built program,
+nginx and openssl, and stands outside the gate. What comes of kills is tools/failover.py's.
     tools/strangers.py"""
 import sys
 import tempfile
@@ -21,6 +22,7 @@ def strangers(folder):
         ("another teller's record", nobody, others, (signed, *FROM_PAGE), 403),
         ("a certificate of teller 1, a record of teller 2", certified, own, FROM_PAGE, 403),
         ("the same, and teller 2's name", certified, own, (signed, *FROM_PAGE), 403),
+        ("a certificate that was revoked", tls_of(folder, "gone"), own, FROM_PAGE, 400),
         ("a follower's posting", standby, own, FROM_PAGE, 403),
         ("no record", nobody, post(b"DC01"), (signed, *FROM_PAGE), 403),
         ("a form's content", nobody, own, (signed, b"Content-Type: text/plain", origin), 403),
@@ -60,6 +62,25 @@ def answer_of(tls, port, message):
     return None
 
 
+def guesses(place, tls):
+    """What is answered to wrong passwords: after a first 200 hardly one is looked at. Gives what isn't as it should be."""
+    start, statuses = time.monotonic(), []
+    for number in range(300):
+        with connect(tls, place.front) as connection:
+            connection.sendall(2 * with_fields(asking(b"/branches"), (signed_in(2, b"guess%d" % number),)))
+            answer = read_answer(connection, b"")
+            statuses.append(answer[0])
+            if answer[0] == 401 and read_answer(connection, answer[2]):
+                return ["a connection goes on after a wrong password"]
+    most = 200 + 2 * (time.monotonic() - start) + 2
+    looked_at = statuses.count(401)
+    with connect(tls, place.front) as connection:
+        connection.sendall(with_fields(asking(b"/branches"), (signed_in(2),)))
+        last = read_answer(connection, b"")[0]
+    is_well = 150 < looked_at <= most and looked_at + statuses.count(429) == 300
+    return [] if is_well and last in (200, 429) else [f"{looked_at} of 300 wrong passwords are looked at"]
+
+
 def main():
     need_program()
     with tempfile.TemporaryDirectory() as folder:
@@ -69,6 +90,7 @@ def main():
             for name, tls, message, statuses in strangers(folder):
                 asked, status = asked + 1, answer_of(tls, place.front, message)
                 let_in += [f"{name}: {status}"] if status not in statuses else []
+            let_in += guesses(place, tls_of(folder))
         finally:
             place.stop()
         kept = run("export", place.file)[0]

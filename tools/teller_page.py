@@ -135,6 +135,22 @@ class Page:
     def limit(self, text):
         self.write("ask-above", text)
 
+    def prints(self, act, *parts):
+        """What is on the slip that comes of it."""
+        self.act(f"window.slip = '', window.print = () => {{ window.slip = {element('slip')}.textContent }}")
+        act()
+        self.until("a slip", "window.slip.length > 0")
+        holds("the slip", self.browser.run("window.slip"), *parts)
+
+    def note(self, name, text):
+        self.until(f"the note {text}", f"{element(name)}.textContent.includes({json.dumps(text)})")
+
+    def counts(self, amount):
+        """Enters what is counted in the till."""
+        self.until("a question", element("question") + ".open")
+        self.browser.keys(amount, ENTER)
+        self.until("no question", element("question") + ".open", False)
+
     def kept(self):
         return self.browser.run(KEPT)
 
@@ -146,9 +162,9 @@ class Page:
             time.sleep(0.01)
 
     def enter(self, account, amount, reference):
-        """Enters a posting by the keyboard, from the field that has the focus."""
+        """Enters a posting by the keyboard, from the field that has the focus. Enter takes an amount with its sign alone."""
         same("the focus", self.browser.run(ACTIVE)[0], "account")
-        self.browser.keys(str(account), TAB, amount, TAB, reference, ENTER)
+        self.browser.keys(str(account), TAB, amount if amount[0] in "+-" else "+" + amount, TAB, reference, ENTER)
 
     def listed(self, reference):
         """Waits for a posting to be in the list, which it is when it is on the disk."""
@@ -189,7 +205,7 @@ class Page:
         """Lets the day go out again, and waits for the answers."""
         self.click("send-again")
         self.browser.keys(TAB, ENTER)
-        self.until("all go out again", element("resend") + ".open", False)
+        self.until("all go out again", element("question") + ".open", False)
         self.settled()
 
     def kill(self):
@@ -249,13 +265,16 @@ def words(place, page):
     page.fault("", "5", "", "account", "Enter the account")
     page.fault("1a", "5", "", "account", "digits alone")
     page.fault("1", "1,234.56", "", "amount", "12.34")
+    page.browser.keys("1", TAB, "7", ENTER)
+    page.until("which way", element("amount-fault") + ".textContent.startsWith('In or out?')")
+    page.act(element("form") + ".reset()", element("account") + ".focus()")
     page.fault("1", "0.00", "", "amount", "nothing to post")
     page.fault("1", "100000000", "", "amount", "99999999.99 at most")
     page.fault("1", "1", "MÄRZ", "reference", "Ä")
     page.fault("1", "1", "A reference of 21 bytes", "reference", "20 characters")
     line, notes = page.answered("0003", "0900", "WHOLE UNITS")
     same("leading zeros", line[1:], ["3", "900.00", "WHOLE UNITS", "Posted", "900.00"])
-    holds("what is said", notes[0], "Posted: 900.00 paid in to account 3. Its balance is then 900.00.")
+    holds("what is said", notes[0], "Posted: 900.00 paid in to account 3. New balance: 900.00.")
     line, notes = page.answered(4, "1,5", "NO SUCH")
     holds("no account", line[4], "Not posted: there is no account 4")
     holds("what is said", notes[1], "there is no account 4")
@@ -267,9 +286,10 @@ def words(place, page):
     line, _ = page.answered(2, "-12.34", "TO UNDO")
     page.press(f"Undo: number {line[0]}")
     page.browser.keys(ESCAPE)
-    page.until("the question is gone", "!document.querySelector('dialog').open")
+    page.until("the question is gone", element("question") + ".open", False)
     page.focus()
     page.press(f"Undo: number {line[0]}")
+    page.until("a question", element("question") + ".open")
     page.browser.keys(TAB, ENTER)
     page.listed(f"UNDO {line[0]}")
     page.settled()
@@ -278,10 +298,9 @@ def words(place, page):
     same("what was undone", undone[4], f"Posted, and undone by {newest[0]}")
 
     page.focus()
-    page.act(f"window.print = () => {{ window.slip = {element('slip')}.textContent }}")
-    page.press(f"Slip: number {newest[0]}")
-    holds("the slip", page.browser.run("window.slip"), "Teller1", f"Number{newest[0]}", "Paid in12.34",
-          "Balance then0.00")
+    for copy in ("", "COPY 1", "COPY 2"):
+        page.prints(lambda: page.press(f"Slip: number {newest[0]}"), "Teller1", f"Number{newest[0]}", "Paid in12.34",
+                    "Balance then0.00", copy or "Posted", "Signature")
 
     page.focus()
     page.browser.keys("3", TAB, TAB, TAB, TAB, TAB, ENTER)
@@ -296,6 +315,10 @@ def words(place, page):
         "{'Content-Type': 'application/octet-stream'}}).then(got => got.status)"), 403)
 
     buttons(place, page)
+    till(place, page)
+    saved(place, page)
+    days(page)
+    told(place, page)
     clicks(page)
     widths(page)
     outage(place, page)
@@ -338,7 +361,7 @@ def nobody(place, page):
         passwords.write("guest:" + word)
     page.sign_in("guest", "guest")
     same("whose sign-in it is", page.browser.run(NOTES)[3], "Signed in, but not as a teller")
-    page.browser.keys("1", TAB, "5", ENTER)
+    page.browser.keys("1", TAB, "+5", ENTER)
     page.until("what nobody is told", f"({NOTES})[1]", "You aren't signed in as a teller: nothing can be posted.")
     same("what nobody keeps", page.kept(), [])
     page.kill()
@@ -402,6 +425,108 @@ def widths(page):
     page.browser.size(1120, 740)
 
 
+def till(place, page):
+    """A day of the till: what came in and went out here and elsewhere, and what is missing."""
+    page.click("day")
+    page.until("a question", element("question") + ".open")
+    page.browser.keys("12,50-", ENTER)
+    page.until("a count that is none", element("question-amount-fault") + ".textContent.length > 0")
+    page.act(element("question-amount") + ".value = ''")
+    page.counts("100")
+    page.note("done", "The till is open with 100.00.")
+    page.focus()
+    page.answered(2, "20.00", "TILL IN")
+    page.answered(2, "-5.50", "TILL OUT")
+    place.counter.stop()
+    place.posts([record(2, 1, 1, 4711, 300)])
+    starts(place)
+    page.load()
+    page.click("day")
+    page.until("the sums", element("question") + ".open")
+    holds("the sums", page.browser.run(element("question-text") + ".textContent"), "In 20.00, out 5.50: 117.50 have to be in it.",
+          "By other browsers: 3.00")
+    page.prints(lambda: page.counts("117"), "Opening100.00", "In20.00", "Out-5.50", "By other browsers3.00", "Has to be117.50",
+                "Counted117.00", "Difference-0.50", "Postings2")
+    page.note("done", "The till is closed: 117.00 counted, 0.50 missing.")
+    same("the till is closed", page.browser.run(element("day") + ".textContent"), "Open the till")
+    page.focus()
+
+
+def saved(place, page):
+    """What waits is saved to a file and taken in by another browser: each is posted once, though both send it."""
+    place.counter.stop()
+    page.enter(2, "0.03", "SAVED")
+    page.until("the button", element("save") + ".hidden", False)
+    page.act("URL.createObjectURL = it => (it.text().then(text => { window.file = text }), 'blob:none')")
+    page.click("save")
+    page.until("a file", "Boolean(window.file)")
+    text = page.browser.run("window.file")
+    other = Page(page.kind, place.folder + "/taker", place)
+    os.mkdir(other.profile)
+    starts(place)
+    page.click("send-now")
+    page.settled()
+    try:
+        other.sign_in("teller1", "counter1")
+        for change, said in (('"account": "2"', "has no postings of teller 1"), (None, "1 taken in.")):
+            given = json.dumps(text.replace(change, '"account": "3"') if change else text)
+            other.act(f"(it => {{ it.items.add(new File([{given}], 'a.json')); {element('file')}.files = it.files; "
+                      f"{element('file')}.dispatchEvent(new Event('change')) }})(new DataTransfer())")
+            other.note("wrong" if change else "done", said)
+        other.settled()
+        same("what was taken in", other.browser.run(LINES)[0][1:5], ["2", "0.03", "SAVED", "Posted"])
+    finally:
+        if other.browser:
+            other.kill()
+    place.counter.stop()
+    with contextlib.closing(place.copied()) as base:
+        same("a posting that two browsers sent", base.execute("SELECT count(*) FROM history WHERE delta = 3").fetchone(), (1,))
+    place.start_counter()
+    page.focus()
+
+
+def days(page):
+    """After midnight the rows of the day before have their date. A posting that isn't searched for ends the search."""
+    page.search("saved")
+    page.answered(2, "0.04", "BEFORE MIDNIGHT")
+    same("a search", page.browser.run(element("search") + ".value"), "")
+    page.act("Date.now = (now => () => now() + 86400000)(Date.now)")
+    page.answered(2, "0.05", "AFTER IT")
+    shown = page.browser.run("[...document.querySelectorAll('.posting td:first-child')].slice(0, 2).map(it => it.textContent.length)")
+    same("the dates of two rows", shown, [5, 16])
+    page.load()
+    page.focus()
+
+
+def told(place, page):
+    """What the server sets for all: the bank's name, the limit, the language and the lock, after which the browser is signed
+    out. A file that can't be read asks each time."""
+    def sets(text):
+        with open(place.folder + "/settings.json", "w", encoding="utf-8") as file:
+            file.write(text)
+        page.load()
+        page.focus()
+
+    for text, amount, is_asked in (('{"ask above": "10.00"}', "10", False), ('{"ask above": "10.00"}', "10.01", True),
+                                   ('{"ask above": "10,000.00"}', "1", True), ('{"ask above": ', "1", True)):
+        sets(text)
+        before = len(page.kept())
+        page.browser.keys("2", TAB, "+" + amount, ENTER)
+        page.until(text, f"{element('question')}.open || {KEPT}.then(all => all.length > {before})")
+        same(text, page.browser.run(element("question") + ".open"), is_asked)
+        page.browser.keys(ESCAPE)
+        page.settled()
+    sets('{"bank": "Bank of Trials", "currency": "EUR", "language": "de", "lock after minutes": 0.1}')
+    same("its language", page.browser.run(f"[{element('in')}.textContent, {element('list-title')}.textContent]"), ["Ein", "Buchungen"])
+    same("texts in both languages", page.browser.run("document.body.innerText.includes('undefined')"), False)
+    page.prints(lambda: page.press("Beleg: Nummer"), "Bank of Trials", "Stand danach", "EUR", "Unterschrift")
+    page.patiently(lambda: page.browser.run("document.title === 'Signed out'"))
+    with open(place.folder + "/settings.json", "w", encoding="utf-8") as file:
+        file.write("{}")
+    page.load()
+    page.focus()
+
+
 def outage(place, page):
     """When the counter is back, `Send now` doesn't wait for the next try."""
     place.counter.stop()
@@ -409,8 +534,7 @@ def outage(place, page):
     page.until("the button", element("send-now") + ".hidden", False)
     # By then a try comes each five seconds.
     time.sleep(8)
-    place.start_counter()
-    within(WAIT, "the counter", lambda: listens(place.back))
+    starts(place)
     pressed = time.monotonic()
     page.click("send-now")
     page.settled()
@@ -431,9 +555,9 @@ def buttons(place, page):
     same("an amount that is paid out", page.browser.run(LINES)[0][2:5], ["-3.00", "BY BUTTON", "Posted"])
     same("a second click", page.browser.run(NOTES)[1], "")
     page.limit("1000")
-    page.browser.keys("2", TAB, "1234567.89", TAB, "LARGE", ENTER)
-    page.until("a question", element("sure") + ".open")
-    holds("a question", page.browser.run(element("sure-text") + ".textContent"), money(123456789))
+    page.browser.keys("2", TAB, "+1234567.89", TAB, "LARGE", ENTER)
+    page.until("a question", element("question") + ".open")
+    holds("a question", page.browser.run(element("question-text") + ".textContent"), money(123456789))
     page.browser.keys(TAB, ENTER)
     page.listed("LARGE")
     page.settled()
@@ -441,8 +565,8 @@ def buttons(place, page):
         page.limit(limit)
         same(f"a limit of {limit}", page.browser.run(element("ask-above-fault") + ".textContent.length > 0"),
              limit not in ("0", "-1"))
-        page.browser.keys("2", TAB, "5000", ENTER)
-        page.until(f"a question at {limit}", element("sure") + ".open")
+        page.browser.keys("2", TAB, "5000+", ENTER)
+        page.until(f"a question at {limit}", element("question") + ".open")
         page.browser.keys(ESCAPE)
         page.act(element("form") + ".reset()", element("account") + ".focus()")
     page.limit("")
@@ -498,7 +622,7 @@ def refused_then(place, page):
     page.send_again()
     said = page.browser.run(element("again") + ".textContent")
     same("what is said of it", re.sub(r"[\d:-]+ [\d:]+ \d+ of \d+ have", "N of M have", said),
-         "N of M have another answer than before. 1 of these was posted, and is refused now.")
+         "N of M have another answer than before. Posted before, and refused now: 1.")
     page.answered(2, "0.01", "AFTER IT")
     same("what stays", page.browser.run(element("again") + ".textContent"), said)
     page.load()
@@ -534,6 +658,11 @@ def listens(port):
     """Whether a program listens on a port of loopback."""
     with open("/proc/net/tcp", encoding="ascii") as lines:
         return any(f"0100007F:{port:04X} 00000000:0000 0A" in line for line in lines)
+
+
+def starts(place):
+    place.start_counter()
+    within(WAIT, "the counter", lambda: listens(place.back))
 
 
 def kill_soon(place, what):
@@ -641,6 +770,8 @@ def pictures():
     """Takes the pictures of docs/, wide and narrow."""
     with opened(Chromium) as (place, page):
         page.sign_in("teller1", "counter1")
+        page.browser.devtools("Browser.grantPermissions", permissions=["durableStorage"])
+        page.load()
         for account, amount, reference in ((1, "1250", "OPENING"), (2, "310.50", "CHEQUE 4711"), (1, "-80", "CASH"),
                                            (4, "25", "NO NAME"), (3, "19.95", "BOOK 12")):
             page.answered(account, amount, reference)
