@@ -3,12 +3,14 @@
 #
 #     examples/migrate.sh FILE [PROGRAM]
 #
-# It needs the built program (examples/set_up.sh), and no command may run on FILE meanwhile. The copies
+# PROGRAM is the one that this checkout has built, else `bank` of the path. No command may run on FILE meanwhile. The copies
 # are in the new folder FILE.before: to go back, put them in the place of both files.
 set -eu
-here="$(cd "$(dirname "$0")/.." && pwd)"
+umask 077
+built="$(dirname "$0")/../crates/bank/out/bank"
+if [ ! -x "$built" ]; then built=bank; fi
 file="${1:?the bank}"
-bank="$(realpath "${2:-$here/crates/bank/out/bank}")"
+bank="${2:-$built}"
 
 if [ ! -e "$file" ]; then
     echo "migrate: there is no $file" >&2

@@ -4,7 +4,7 @@
 #
 #     examples/set_up.sh
 #
-# It needs `rt` on the path, and Python. Where nothing has changed, or `rt ci` has passed here, nothing is proved again.
+# It needs `rt` on the path, and Python. If nothing has changed since, or `.ci/run` has passed here, nothing is proved again.
 # Given again, it gets the same replies, and posts nothing twice.
 set -eu
 cd "$(dirname "$0")/.."

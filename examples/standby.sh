@@ -4,23 +4,33 @@
 #
 #     examples/standby.sh LEADER FILE [OPTIONS OF CURL]
 #     examples/standby.sh https://bank.example:8443 second.db --cacert bank.crt --cert standby.crt --key standby.key
+#     examples/standby.sh --behind FILE [SECONDS]
 #
 # LEADER is nginx in front of the counter, as in examples/nginx.conf, whose file `followers` names the certificate. FILE is
 # the bank that follows; where there is none it is made. FILE.plan is the leader's plan, which a branch comes to before the
-# first entry that needs it. FILE.followed says how many requests were handed on, and how old it is when that was: it is
-# there once the leader has answered.
+# first entry that needs it. FILE.followed says how many requests were handed on, and at which second the leader last had
+# no more: it is there once the leader has answered, and stays when the leader is lost. `--behind` prints it, and ends with
+# status 5 if that is longer ago than SECONDS, or than the 48 hours that senders keep and send again.
 #
 # It goes on until it is stopped, at any moment. What fails is said once on standard error and tried again each second, at
 # the leader and here. With status 4 it ends where the leader has fewer requests than FILE, or no log, and with 5 where an
 # entry isn't what FILE has: then FILE is no copy, and has to be made anew. BANK is the program.
 set -eu -o pipefail
 export LC_ALL=C
+if [ "${1:-}" = --behind ]; then
+    read -r count current <"${2:?the bank that follows}.followed"
+    ago=$(($(date +%s) - current))
+    echo "$count requests, all that the leader had on $(date -d "@$current" '+%F %T %z'), $ago seconds ago"
+    if ((ago <= ${3:-172800})); then exit 0; fi
+    echo "standby: what senders keep begins later: ask them for what they sent since then" >&2
+    exit 5
+fi
 bank="${BANK:-bank}"
 leader="${1:?the address of the leader}"
 file="${2:?the bank that follows}"
 options=("${@:3}")
 # Bytes of an entry, the most entries that one answer has, and how many answers are asked for at once.
-entry=308 most=192 answers=1
+entry=308 most=192 answers=1 current=0
 work="$(mktemp -d)"
 follower=
 stop() {
@@ -28,7 +38,7 @@ stop() {
         kill "$follower" || true
         wait "$follower" || true
     fi 2>/dev/null
-    rm -rf "$work" "$file.followed"
+    rm -rf "$work"
 }
 trap stop EXIT
 
@@ -57,6 +67,7 @@ no_answer() {
 fetch() {
     rm -f "$work"/{entries,part.*,new.plan}
     local asked=() place
+    asked_at="$(date +%s)"
     for ((place = 0; place < answers; place++)); do
         asked+=(--output "$work/part.$place" "$leader/log/$(($1 + place * most))")
     done
@@ -104,7 +115,9 @@ follows() {
                 cat "$work/entries" >&3 || break
                 at=$((at + got))
                 said=
-                echo "$at" >"$file.followed"
+                if ((got < answers * most)); then current="$asked_at"; fi
+                echo "$at $current" >"$file.followed.new"
+                mv "$file.followed.new" "$file.followed"
                 if ((got == answers * most)); then
                     answers=16
                     continue
@@ -123,7 +136,7 @@ follows() {
     return "$status"
 }
 
-rm -f "$file.followed"
+if [ -e "$file.followed" ]; then read -r _ current <"$file.followed"; fi
 if [ ! -e "$file" ]; then "$bank" init "$file" >/dev/null; fi
 until [ -e "$file.plan" ]; do
     if fetch 0; then keep_plan; else sleep 1; fi

@@ -6,7 +6,8 @@ loaded, it is served, and every teller sends its day again, and goes on.
 
 After it the first n requests, which the follower had, are the leader's by their digest, and have their first answers;
 each request of each teller stands once, with the reply that it got last; the books agree. The last lines tell how far the
-follower was behind: how many of the leader's requests it lacked, and how old the oldest of these was that was answered.
+follower was behind: how many of the leader's requests it lacked, how old the oldest of these was that was answered, and how many
+that the leader had posted were refused in the end, which examples/took_over.sh has to list.
 
 It needs the built program, nginx, curl and openssl."""
 import contextlib
@@ -25,7 +26,7 @@ from serve_client import (BANK, FROM_PAGE, HERE, Place, Sender, check_books, cle
 PLAN, LATE = [(1, 3)], 2
 TELLERS = range(1, 9), range(11, 19)
 ACCOUNTS = [1, 2, 3, 100001, 100002, 999999999]
-FILES = ("bank.crt", "bank.key", "tellers.crt", "passwords", "tellers", "followers")
+FILES = ("bank.crt", "bank.key", "tellers.crt", "passwords", "tellers", "followers", "revoked")
 # The most postings of a teller's day, and no wait takes longer than this, in seconds.
 DAY, LONGEST = 2000, 120
 
@@ -98,6 +99,9 @@ class Drill:
         for name, part in (("requests", 0), ("seconds", 1)):
             all_of = [lag[part] for lag in lags]
             print(f"lag in {name}: {statistics.median(all_of):.2f} in the median, {max(all_of):.2f} at most")
+        refused = [lag[3] for lag in lags if lag[3]]
+        print(f"posted by the leader and refused by the follower: {sum(refused)} of {sum(lag[0] for lag in lags)} that it lacked, in "
+              f"{len(refused)} rounds")
         print(f"failover: {len(lags)} leaders lost, and each request stands once, with one reply")
 
     def anew(self):
@@ -194,7 +198,7 @@ class Drill:
         lag = self.check(first, second, count, moment)
         print(f"{number:3}: {sum(len(it.replies) for it in first.values())} answered by the leader, {disturbed} kills before "
               f"it was lost; the follower had {count}, lacked {lag[0]}, the oldest {lag[1]:.2f} s old, and served after "
-              f"{taken:.1f} s; {lag[2]} second answers are others", flush=True)
+              f"{taken:.1f} s; {lag[2]} second answers are others, {lag[3]} of them refusals of what was posted", flush=True)
         return lag
 
     def check(self, first, second, count, moment):
@@ -203,8 +207,7 @@ class Drill:
         same(f"the first {count} requests", *(done("digest", it, str(count)) for it in (file, lost)))
         kept = {text[:100]: text[100:300] for text in entries(done("log", lost))}
         had = {text[:100] for text in entries(done("log", file))[:count]}
-        others, oldest = 0, moment
-        answered = {}
+        others, refused, oldest, answered = 0, 0, moment, {}
         for teller, again in second.items():
             ensure(not again.fault, again.fault)
             for place, body in enumerate(teller.records[:len(again.replies)]):
@@ -214,6 +217,7 @@ class Drill:
                     same(f"what the leader answered to {body}", first[teller].replies[place], kept[body])
                 if body in had:
                     same(f"what is answered now to {body}", reply, kept[body])
+                refused += body in kept and kept[body][4:6] == b"00" != reply[4:6]
                 if is_first and body not in had:
                     oldest = min(oldest, first[teller].times[place])
                     others += first[teller].replies[place] != reply
@@ -223,7 +227,9 @@ class Drill:
             third = done("post", file, data=b"".join(teller.records[:len(again.replies)]))
             ensure(third == b"".join(again.replies), f"teller {teller.number}: a third sending has other answers")
         same("how many requests stand", len(done("export", file)) // 100, len(answered))
-        return len(kept) - count, moment - oldest, others
+        listed = subprocess.run([HERE + "/examples/took_over.sh", lost, file], check=True, stdout=subprocess.PIPE).stdout
+        same("what took_over.sh lists", max(0, listed.count(b"\n") - 1), refused)
+        return len(kept) - count, moment - oldest, others, refused
 
 
 def entries(log):

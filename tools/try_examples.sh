@@ -124,6 +124,24 @@ grep -q "^evening: accepted after a recovery: .*are not those" said || fail "an 
 evening changed.db safe/10 safe/recovered.digests || fail "an evening after that one: $(cat said)"
 stop=true open=false SECONDS_TO_OPEN=1 alarms "the counter did not open" my.db safe/11
 alarms "has not the $count requests" safe/1/my.db safe/7 safe/my.db.digests
+
+# A place away, and the newest three copies that are kept.
+mkdir away
+cat >away.sh <<'END'
+case "$1" in
+    put) cp -r "$2" away/ ;;
+    get) cp -r "away/$2/." "$3" && if [ -e spoilt ]; then rm "$3"/my.db; fi ;;
+esac
+END
+export AWAY="bash away.sh" COPIES=evenings KEEP=3
+for it in 1 2 3 4; do
+    good_evening my.db
+    sleep 1
+done
+same "$(ls -d evenings/*T* | wc -l) $(ls away | wc -l) $(stat -c %a evenings/my.db.digests)" "3 4 600" "copies here and away"
+touch spoilt
+alarms "came back otherwise" my.db
+unset AWAY COPIES KEEP
 echo "evening.sh"
 
 # Recovery as in docs/USING.md: the copy of the first evening gets what was posted since.
@@ -192,7 +210,7 @@ leads() {
 }
 followed() {
     for _ in $(seq 300); do
-        if [ "$(cat second.db.followed 2>/dev/null)" = "$1" ]; then return; fi
+        if [ "$(cut -d ' ' -f 1 second.db.followed 2>/dev/null)" = "$1" ]; then return; fi
         sleep 0.1
     done
     fail "second.db has not followed to $1: $(cat follows)"
@@ -212,13 +230,15 @@ leads curl.db
 echo "$base" >leader
 bash second.sh start
 followed "$count"
-STOP="bash second.sh stop" START="bash second.sh start" OPEN="test -e second.db.followed" BANK="$bank" \
+STOP="bash second.sh stop" START="bash second.sh start" OPEN=follows BANK="$bank" \
     "$top/examples/evening.sh" second.db safe/second >said 2>&1 || fail "an evening of a bank that follows: $(cat said)"
 printf '%-100s' DC01000000000001000000010000019000000001+0000000500 >record
 ask --data-binary @record -o reply "$base/post"
 count=$((count + 1))
 followed "$count"
 bash second.sh stop
+"$top/examples/standby.sh" --behind second.db 60 | grep -q "^$count requests, all that the leader had on " || fail "how far it is behind"
+if "$top/examples/standby.sh" --behind second.db -1 2>/dev/null; then fail "a follower that is behind"; fi
 # What was handed on is posted a moment later. A stop before that leaves it to the next start.
 for pause in 1 2 4 8; do
     if "$bank" digest second.db "$count" >/dev/null 2>&1; then break; fi
