@@ -1,9 +1,4 @@
-pub mod Rows
-pub mod Walked
-pub mod Levels
-pub mod Shapes
-pub mod Stopped
-pub mod Complete
+pub mod Matched
 pub mod OwnWords
 pub mod Help
 pub mod Getters

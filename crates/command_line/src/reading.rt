@@ -1,22 +1,22 @@
 //! Which of the program's commands the words of the command line ask for, and on which files.
-ghost use Rattle.std.specs.Prelude.{◌≡◌, ℕ, IfErr, IfOk, IsErrAnd, IsSomeAnd, codes, map, option_map, true};
-ghost use Rattle.clap.specs.Words.{FailsBy, fault_of, first_of, found_of, kind_of, rows_of, subcommand_of};
+ghost use Rattle.std.specs.Prelude.{◌≡◌, IfErr, IfOk, IfSome, IsErrAnd, IsSomeAnd, codes, map, option_map, true};
+ghost use Rattle.clap.specs.Words.{FailsBy, fault_of, first_of, found_of, kind_of, one_of, rows_of, subcommand_of};
 ghost use Rattle.clap.specs.Words.{subcommand_rows_of, takes};
 ghost use Rattle.command_line.specs.CommandLine.{bank_app};
 ghost use Rattle.command_line.specs.Queries.{query_in};
-ghost use Rattle.command_line.specs.Words.{AreInRange, AsksForHelp, HasMoreValues, HasNumber, HasNumberIfAny};
-ghost use Rattle.command_line.specs.Words.{HasSomeNumber, HasText, IsCommandOf, IsComplete, IsCompleteOnFile};
-ghost use Rattle.command_line.specs.Words.{IsHelp, IsNumberIfAny, IsNumberIn, IsReadFrom, IsSpelledIn, IsText};
-ghost use Rattle.command_line.specs.Words.{money_in, money_of_flag, words_read};
+ghost use Rattle.command_line.specs.Words.{AreInRange, AsksForHelp, IsCommandOf, IsHelp, IsNumber, IsReadFrom, IsText};
+ghost use Rattle.command_line.specs.Words.{money_in, money_of_flag, spelled, words_read};
 
 use crate::command_line::bank_command;
+use crate::limits::MAX_CONNECTIONS;
 use crate::queries::{QueryFault, query_told};
 use clap::ArgMatches;
 use clap::error::ErrorKind;
+use load_driver::MAX_DRIVEN;
 use message_records::Account;
 use posting_sheets::Money;
 use report_contents::Query;
-use std::alloc::Global;
+use std::alloc::{AllocError, Global};
 use std::convert::AsStr;
 
 /// What the program is asked to do.
@@ -120,10 +120,11 @@ pub fn read_words<'a, S: AsStr>(alloc: Global, words: &'a [S]) -> Result<Command
     ensures help { AsksForHelp (map S.text words.entry.now) → IsErrAnd result IsHelp }
 {
     let matches = matches_of(alloc, own_words(words))?;
-    let Some((name, values)) = matches.subcommand() else {
-        unreachable!()
-    };
-    Ok(command_of(name, values))
+    match command_in(&matches) {
+        Some(command) => Ok(command),
+        // clap matches each command with its values, so that there is one.
+        None => Err(clap::Error::from(AllocError)),
+    }
 }
 
 // The words that clap is given: it knows no `bank help --help`, which is read as `bank --help`.
@@ -137,11 +138,10 @@ fn own_words<S: AsStr>(words: &[S]) -> &[S]
     }
 }
 
-// What clap matches in the words: a command of the program, with all its values.
+// What clap matches in the words.
 fn matches_of<'a, S: AsStr>(alloc: Global, words: &'a [S]) -> Result<ArgMatches<'a>, clap::Error>
     ensures matches { IfOk result (λ matches. subcommand_rows_of matches
         ≡ subcommand_of bank_app (map S.text words.entry.now)) }
-    ensures complete { IfOk result (λ matches. IsSomeAnd (subcommand_rows_of matches) IsComplete) }
     ensures taken { IfErr result (λ error. takes bank_app (map S.text words.entry.now) ≡ true
         → kind_of error ≡ ErrorKind.OutOfMemory) }
     ensures fault { FailsBy (fault_of bank_app (map S.text words.entry.now)) result }
@@ -149,99 +149,105 @@ fn matches_of<'a, S: AsStr>(alloc: Global, words: &'a [S]) -> Result<ArgMatches<
     bank_command(alloc)?.try_get_matches_from(words)
 }
 
-// The command that a subcommand's name and values tell.
-fn command_of<'a>(name: &str, values: &ArgMatches<'a>) -> Command<'a>
-    requires { IsComplete (name.now, rows_of (found_of values.now)) }
-    ensures command { IsCommandOf (name.now, rows_of (found_of values.now)) result }
-    ensures ranges { AreInRange result }
+// The command that was matched, if it has all its values.
+fn command_in<'a>(matches: &ArgMatches<'a>) -> Option<Command<'a>>
+    ensures command { IfSome result (λ command. IsSomeAnd (subcommand_rows_of matches.now)
+        (λ p. IsCommandOf p command)) }
+    ensures ranges { IfSome result AreInRange }
+{
+    let (name, values) = matches.subcommand()?;
+    command_of(name, values)
+}
+
+// The command that a subcommand's name and values tell, if they tell one.
+fn command_of<'a>(name: &str, values: &ArgMatches<'a>) -> Option<Command<'a>>
+    ensures command { IfSome result (IsCommandOf (name.now, rows_of (found_of values.now))) }
+    ensures ranges { IfSome result AreInRange }
 {
     match name {
-        "encode" => Command::Encode,
+        "encode" => Some(Command::Encode),
         "decode" => {
             let money = money_in(values);
-            let sheet = text_if_any(values, "sheet");
-            Command::Decode { money, sheet }
+            let sheet = text_in(values, "sheet");
+            Some(Command::Decode { money, sheet })
         }
-        _ => command_on_file(name, values),
+        _ => command_on_file(name, text_in(values, "file")?, values),
     }
 }
 
-// The command on a file that a subcommand's name and values tell.
-fn command_on_file<'a>(name: &str, values: &ArgMatches<'a>) -> Command<'a>
-    requires { IsCompleteOnFile (name.now, rows_of (found_of values.now)) }
-    ensures command { IsCommandOf (name.now, rows_of (found_of values.now)) result }
-    ensures ranges { AreInRange result }
+// The command on a file that a subcommand's name, its file and its other values tell, if they tell one.
+fn command_on_file<'a>(name: &str, file: &'a str, values: &ArgMatches<'a>) -> Option<Command<'a>>
+    requires { IsText (codes "file") (rows_of (found_of values.now)) file.now }
+    ensures command { IfSome result (IsCommandOf (name.now, rows_of (found_of values.now))) }
+    ensures ranges { IfSome result AreInRange }
 {
-    let file = text_in(values, "file");
     match name {
-        "init" => Command::Init { file },
-        "post" => Command::Post { file },
-        "audit" => Command::Audit { file },
-        "replay" => Command::Replay { file },
-        "plan" => Command::Plan { file },
-        "migrate" => Command::Migrate { file },
-        "why" => Command::Why { file },
+        "init" => Some(Command::Init { file }),
+        "post" => Some(Command::Post { file }),
+        "audit" => Some(Command::Audit { file }),
+        "replay" => Some(Command::Replay { file }),
+        "plan" => Some(Command::Plan { file }),
+        "migrate" => Some(Command::Migrate { file }),
+        "why" => Some(Command::Why { file }),
         "statements" => {
             let query = query_in(values);
-            Command::Statements { file, query }
+            Some(Command::Statements { file, query })
         }
         _ => command_with_values(name, file, values),
     }
 }
 
-// The command that a subcommand's name, its file and its other values tell.
-fn command_with_values<'a>(name: &str, file: &'a str, values: &ArgMatches<'a>) -> Command<'a>
-    requires more { HasMoreValues (name.now, rows_of (found_of values.now)) }
-    requires file { IsText (codes "file") (rows_of (found_of values.now)) file.now }
-    ensures command { IsCommandOf (name.now, rows_of (found_of values.now)) result }
-    ensures ranges { AreInRange result }
+// The command that a subcommand's name, its file and its other values tell, if they tell one.
+fn command_with_values<'a>(
+    name: &str,
+    file: &'a str,
+    values: &ArgMatches<'a>,
+) -> Option<Command<'a>>
+    requires { IsText (codes "file") (rows_of (found_of values.now)) file.now }
+    ensures command { IfSome result (IsCommandOf (name.now, rows_of (found_of values.now))) }
+    ensures ranges { IfSome result AreInRange }
 {
     match name {
         "load" => {
-            let plan = text_in(values, "plan");
-            Command::Load { file, plan }
+            let plan = text_in(values, "plan")?;
+            Some(Command::Load { file, plan })
         }
-        "drive" => {
-            let seed = number_in(values, "seed");
-            let count = number_in(values, "count");
-            Command::Drive { file, seed, count }
-        }
+        "drive" => drive_in(
+            file,
+            number_in(values, "seed")?,
+            number_in(values, "count")?,
+        ),
         "statement" => {
-            let number = number_in(values, "account");
-            let account = Account::new(number).unwrap();
+            let account = Account::new(number_in(values, "account")?)?;
             let query = query_in(values);
-            Command::Statement {
+            Some(Command::Statement {
                 file,
                 account,
                 query,
-            }
+            })
         }
         "digest" => {
-            let requests = number_in(values, "requests");
-            Command::Digest { file, requests }
+            let requests = number_in(values, "requests")?;
+            Some(Command::Digest { file, requests })
         }
         "export" => {
-            let after = number_if_any(values, "after");
-            Command::Export { file, after }
+            let after = number_if_any(values, "after")?.unwrap_or(0);
+            Some(Command::Export { file, after })
         }
         "log" => {
-            let after = number_if_any(values, "after");
-            Command::Log { file, after }
+            let after = number_if_any(values, "after")?.unwrap_or(0);
+            Some(Command::Log { file, after })
         }
         "follow" => {
-            let plan = text_in(values, "plan");
-            Command::Follow { file, plan }
+            let plan = text_in(values, "plan")?;
+            Some(Command::Follow { file, plan })
         }
-        "serve" => {
-            let address = text_in(values, "address");
-            let connections = number_or_none(values, "connections");
-            Command::Serve {
-                file,
-                address,
-                connections,
-            }
-        }
-        _ => unreachable!(),
+        "serve" => serve_in(
+            file,
+            text_in(values, "address")?,
+            number_if_any(values, "connections")?,
+        ),
+        _ => None,
     }
 }
 
@@ -274,42 +280,49 @@ fn query_in(values: &ArgMatches<'_>) -> Result<Query, QueryFault>
     query_told(from, to, zone, reference, csv)
 }
 
-// The value of an argument that has one.
-fn text_in<'a>(values: &ArgMatches<'a>, id: &str) -> &'a str
-    requires { HasText id.now (rows_of (found_of values.now)) }
-    ensures { IsText id.now (rows_of (found_of values.now)) result.now }
+// A drive of so many records from this seed on, if the count is in its range.
+fn drive_in(file: &str, seed: u64, count: u64) -> Option<Command<'_>>
+    ensures command { IfSome result (λ command. command ≡ Command.Drive file.entry seed count) }
+    ensures ranges { IfSome result AreInRange }
 {
-    values.get_str(id).unwrap()
+    if count < 1 || count > MAX_DRIVEN {
+        return None;
+    }
+    Some(Command::Drive { file, seed, count })
 }
 
-// The value of an argument that may have been left out.
-fn text_if_any<'a>(values: &ArgMatches<'a>, id: &str) -> Option<&'a str>
+// A counter at this address, if the number of its connections is in its range.
+fn serve_in<'a>(file: &'a str, address: &'a str, connections: Option<u64>) -> Option<Command<'a>>
+    ensures command { IfSome result (λ command. command ≡ Command.Serve file.entry address.entry connections) }
+    ensures ranges { IfSome result AreInRange }
+{
+    match connections {
+        Some(count) if count < 1 || count > MAX_CONNECTIONS => None,
+        _ => Some(Command::Serve {
+            file,
+            address,
+            connections,
+        }),
+    }
+}
+
+// The value of an argument, if it has one.
+fn text_in<'a>(values: &ArgMatches<'a>, id: &str) -> Option<&'a str>
     ensures { option_map (λ s. s.now) result ≡ first_of id.now (rows_of (found_of values.now)) }
 {
     values.get_str(id)
 }
 
-// The number of an argument that has one, within each range that its value keeps.
-fn number_in(values: &ArgMatches<'_>, id: &str) -> u64
-    requires { HasSomeNumber id.now (rows_of (found_of values.now)) }
-    ensures { (least most : ℕ) → HasNumber id.now least most (rows_of (found_of values.now))
-        → IsNumberIn id.now least most (rows_of (found_of values.now)) result }
-{
-    values.get_one::<u64>(id).unwrap()
-}
-
-// The number of an argument that may have been left out.
-fn number_or_none(values: &ArgMatches<'_>, id: &str) -> Option<u64>
-    ensures { (least most : ℕ) → HasNumberIfAny id.now least most (rows_of (found_of values.now))
-        → IsSpelledIn id.now least most (rows_of (found_of values.now)) result }
+// The number that an argument's value spells, if it has one that does.
+fn number_in(values: &ArgMatches<'_>, id: &str) -> Option<u64>
+    ensures { IfSome result (IsNumber id.now (rows_of (found_of values.now))) }
 {
     values.get_one::<u64>(id)
 }
 
-// The number of an argument that may have been left out, which is 0 then.
-fn number_if_any(values: &ArgMatches<'_>, id: &str) -> u64
-    ensures { (least most : ℕ) → HasNumberIfAny id.now least most (rows_of (found_of values.now))
-        → IsNumberIfAny id.now (rows_of (found_of values.now)) result }
+// The number that an argument's value spells, none if it was left out, if it has no other value.
+fn number_if_any(values: &ArgMatches<'_>, id: &str) -> Option<Option<u64>>
+    ensures { IfSome result (λ number. number ≡ spelled (one_of id.now (rows_of (found_of values.now)))) }
 {
-    values.get_one::<u64>(id).unwrap_or(0)
+    values.try_get_one::<u64>(id).ok()
 }

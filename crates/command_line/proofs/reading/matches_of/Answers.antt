@@ -1,7 +1,7 @@
 use Rattle.std.proofs.Common.{ap, map, ◌∙◌}
 use Rattle.std.proofs.lemmas.Result.{IfErr-weaker}
 use Rattle.clap.specs.Words.{App, app_of, takes}
-use Rattle.command_line.proofs.Complete.{matches_complete, matches_fail, matches_told}
+use Rattle.command_line.proofs.Matched.{matches_fail, matches_told}
 use Rattle.command_line.proofs.reading.matches_of.Goals as goal
 
 pub returns-clause-matches : goal.returns-clause-matches
@@ -13,12 +13,6 @@ pub returns-clause-fault : goal.returns-clause-fault
 returns-clause-fault g c =
     matches_fail c.try_get_matches_from.result (app_of c.in_ok-bank_command.field-0)
     (map g.S.AsStr.text c.args.words.now) c.in_ok-bank_command.ensures c.try_get_matches_from.ensures.kinds
-
-pub returns-clause-complete : goal.returns-clause-complete
-returns-clause-complete g c =
-    matches_complete c.try_get_matches_from.result (app_of c.in_ok-bank_command.field-0)
-    (map g.S.AsStr.text c.args.words.now)
-    c.in_ok-bank_command.ensures c.try_get_matches_from.ensures.matches c.try_get_matches_from.ensures.kinds
 
 pub returns-clause-taken : goal.returns-clause-taken
 returns-clause-taken g c =

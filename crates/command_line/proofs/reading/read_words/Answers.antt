@@ -1,16 +1,11 @@
 -- What clap makes of the words that it is given is said of the words of the command line.
-use Rattle.std.proofs.Common.{◌≡◌, ◌∙◌, [], ap, map, rules, subst, sym, List, Some}
+use Rattle.std.proofs.Common.{◌≡◌, ◌∙◌, [], ap, map, rules, subst, sym, List}
 use Rattle.std.proofs.lemmas.Result.{err_from_is_err_and}
-use Rattle.clap.specs.Words.{FailsBy, Text, fault_of, found_of, rows_of, subcommand_of, takes}
+use Rattle.clap.specs.Words.{FailsBy, Text, fault_of, subcommand_of, subcommand_rows_of, takes}
 use Rattle.command_line.specs.{CommandLine.bank_app, Words.words_read}
-use Rattle.command_line.proofs.{Getters.met_complete, Getters.met_rows, Help.help_given, Help.no_help_asked}
+use Rattle.command_line.proofs.Help.{help_given, no_help_asked}
 use Rattle.command_line.proofs.OwnWords.{fails_as_read, same_at_none, taken_as_read}
 use Rattle.command_line.proofs.reading.read_words.Goals as goal
-
-pub command_of-requires : goal.command_of-requires
-command_of-requires g c =
-    met_complete c.in_ok-matches.matches c.in-Some.name.now (rows_of (found_of c.in-Some.values.now))
-    c.in-Some.ensures.name c.in-Some.ensures.rows c.in_ok-matches.ensures.complete
 
 pub returns-in_err-matches : goal.returns-in_err-matches
 returns-in_err-matches g c =
@@ -31,20 +26,17 @@ returns-in_err-matches g c =
       help = help_given c.from_residual.result words fails;
     }
 
-pub returns : goal.returns
-returns g c =
+pub returns-in-Some : goal.returns-in-Some
+returns-in-Some g c =
     let words = map g.S.AsStr.text c.args.words.now in
     let none : fault_of bank_app (words_read words) ≡ [] =
     subst (λ (w : List Text). fault_of bank_app w ≡ []) c.own_words.ensures c.in_ok-matches.ensures.fault in
     let same = c.own_words.ensures ∙ same_at_none words none in
-    let name = c.in-Some.name.now in
-    let rows = rows_of (found_of c.in-Some.values.now) in
-    let met = met_rows c.in_ok-matches.matches name rows c.in-Some.ensures.name c.in-Some.ensures.rows in
-    let asked : subcommand_of bank_app words ≡ Some (name, rows) =
-    ap (subcommand_of bank_app) (sym same) ∙ (sym c.in_ok-matches.ensures.matches ∙ met) in
+    let asked : subcommand_rows_of c.in_ok-matches.matches ≡ subcommand_of bank_app words =
+    c.in_ok-matches.ensures.matches ∙ ap (subcommand_of bank_app) same in
     record {
-      command = rw asked c.command_of.ensures.command;
-      ranges = c.command_of.ensures.ranges;
+      command = rw asked at c.in-Some.ensures.command;
+      ranges = c.in-Some.ensures.ranges;
       taken = tt;
       fault = ap (fault_of bank_app) (sym (same_at_none words none)) ∙ none;
       help = no_help_asked words none;
