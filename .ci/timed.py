@@ -104,6 +104,9 @@ def main():
     say(f"{minutes:.1f} minutes, {max(peaks) / 2**30:.1f} GiB of memory at most")
     if last is not None:
         say(last)
+    # What the gate said of these sources goes into the manifest of the program that it has built.
+    if not status and sys.argv[2:] == ["rt", "ci"]:
+        subprocess.run([sys.executable, TOP / "tools/build.py", "manifest", last], stdout=subprocess.DEVNULL, check=False)
     return status
 
 

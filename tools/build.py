@@ -2,6 +2,12 @@
 """Proves and builds the program `bank`, or another crate, and the libraries below it, several side by side.
 
     tools/build.py [CRATE]
+    tools/build.py manifest LINE    notes that the gate passed the built program, with LINE as its last: .ci/run does so
+    tools/build.py fits             whether what is built is what the gate passed of this commit, else why not
+
+Beside the program comes MANIFEST: the commit, the kit, what the gate said, and the SHA-256 of the sources, of the program,
+and of each library of this repository that it is linked from. Nothing is proved or built again while sources and program
+are as it says.
 
 `rt` locks a crate's folder and those of the libraries below it, so that one checkout proves one crate after another.
 So there are lanes: the checkout, and copies of it in .git or in a temporary folder. Of the crates that can be proved,
@@ -9,7 +15,9 @@ the one with the longest chain of crates above it gets all processors, and the o
 it leaves idle; near the end, where a processor would wait, all get all. What a lane has built is linked into the
 others, and what it kept for the next check goes to the checkout.
 """
+import hashlib
 import os
+import re
 import shutil
 import subprocess
 import sys
@@ -33,6 +41,63 @@ def below(crate):
 
 def files(crate):
     return [it for part in PARTS for it in (TOP / "crates" / crate / part).rglob("*") if it.is_file()]
+
+
+def digest_of(paths, top):
+    """SHA-256 of the names and the bytes of files, in the order of their names."""
+    every = hashlib.sha256()
+    for path in sorted(paths):
+        every.update(f"{path.relative_to(top)} {hashlib.sha256(path.read_bytes()).hexdigest()}\n".encode())
+    return every.hexdigest()
+
+
+def told(*words):
+    """What a program says, in one line; a dash if there is none that does."""
+    try:
+        said = subprocess.run(words, cwd=TOP, stdin=subprocess.DEVNULL, capture_output=True, text=True, check=False)
+    except OSError:
+        return "-"
+    return " ".join(said.stdout.split()) if not said.returncode else "-"
+
+
+def here(program):
+    """What a manifest says, of the files as they stand here."""
+    changed = "" if told("git", "status", "--porcelain", "--untracked-files=no") in ("", "-") else ", and changes"
+    sources = [TOP / "crates.txt", TOP / "HANDLES", *(it for crate in below(program) for it in files(crate))]
+    made = TOP / "crates" / program / "out" / program
+    return {"commit": told("git", "rev-parse", "HEAD") + changed, "sources": digest_of(sources, TOP),
+            program: hashlib.sha256(made.read_bytes()).hexdigest() if made.is_file() else "-"}
+
+
+def manifest(program):
+    """The manifest beside a program."""
+    try:
+        return dict(it.split(": ", 1) for it in (TOP / "crates" / program / "out/MANIFEST").read_text().splitlines())
+    except (OSError, ValueError):
+        return {}
+
+
+def write_manifest(program, gate):
+    """Writes it; what the gate said before goes on to hold of the same sources and program."""
+    now, before = here(program), manifest(program)
+    is_same = all(before.get(it) == now[it] for it in ("sources", program))
+    lines = {**now, "kit": told("rt", "version"), "gate": gate or (is_same and before.get("gate")) or "not run"}
+    for crate in sorted(below(program) - {program}):
+        library = TOP / "crates" / crate / "out/rlib"
+        lines[f"library {crate}"] = digest_of((it for it in library.rglob("*") if it.is_file()), library) \
+            if library.is_dir() else "-"
+    (TOP / "crates" / program / "out/MANIFEST").write_text("".join(f"{it}: {value}\n" for it, value in lines.items()))
+
+
+def misfit(program):
+    """Why a program isn't known to be the one that the gate passed of this commit; none where it is."""
+    now, said = here(program), manifest(program)
+    other = [it for it in now if said.get(it) != now[it]]
+    if other:
+        return f"its manifest doesn't fit, or there is none: {', '.join(other)}"
+    if "changes" in now["commit"] or now["commit"] == "-":
+        return "what is here isn't committed"
+    return None if re.fullmatch(r"\d+ passed, 0 failed", said["gate"]) else f"the gate said of it: {said['gate']}"
 
 
 def lanes_in(room, crates):
@@ -110,18 +175,22 @@ def build(room, program):
 
 
 def main():
-    program = sys.argv[1] if len(sys.argv) > 1 else "bank"
-    made = TOP / "crates" / program / "out" / program
-    sources = [TOP / "crates.txt", *(file for it in below(program) for file in files(it))]
-    if made.is_file() and made.stat().st_mtime > max(it.stat().st_mtime for it in sources):
-        # `rt ci` leaves it too, without the stamp by which `rt run` would know it.
-        print(f"{made.relative_to(TOP)} was proved and built of these very files")
-        return
+    words = sys.argv[1:] or ["bank"]
+    program = "bank" if words[0] in ("manifest", "fits") else words[0]
+    now, said = here(program), manifest(program)
+    if words[0] == "fits":
+        sys.exit(misfit(program))
+    if words[0] == "manifest":
+        return write_manifest(program, words[1])
+    if now[program] != "-" and all(said.get(it) == now[it] for it in ("sources", program)):
+        print(f"crates/{program}/out/{program} was proved and built of these very files")
+        return None
     if not shutil.which("rt"):
         sys.exit("build: there is no `rt` on the path")
     git = TOP / ".git"
     with tempfile.TemporaryDirectory(prefix="lanes-", dir=git if git.is_dir() else None) as room:
         build(room, program)
+    return write_manifest(program, None)
 
 
 if __name__ == "__main__":
