@@ -18,7 +18,11 @@
 set -eu -o pipefail
 export LC_ALL=C
 if [ "${1:-}" = --behind ]; then
-    read -r count current <"${2:?the bank that follows}.followed"
+    if [ ! -e "${2:?the bank that follows}.followed" ]; then
+        echo "standby: $2 has heard of no leader yet" >&2
+        exit 5
+    fi
+    read -r count current <"$2.followed"
     ago=$(($(date +%s) - current))
     echo "$count requests, all that the leader had on $(date -d "@$current" '+%F %T %z'), $ago seconds ago"
     if ((ago <= ${3:-172800})); then exit 0; fi

@@ -6,13 +6,14 @@
 #
 # FILE is the bank; the file FIGURES, if its folder is there, gets the figures as Prometheus reads them. An alarm is less
 # than a tenth of the disk, or ten times the -wal; a follower that is LATE, 900 seconds, behind; and a certificate, or the
-# list of those that were revoked, that ends within two weeks.
+# list of those that were revoked, that ends within two weeks. One that goes on is told again each hour, if there is a
+# STATE_DIRECTORY, as systemd gives one.
 set -eu -o pipefail
 export LC_ALL=C
-file="${1:?the bank}" figures="${2:-}" status=0 told=
+file="${1:?the bank}" figures="${2:-}" alarms= told=
 alarm() {
     echo "watch: $1" >&2
-    status=1
+    alarms+="${1//[0-9]/}"$'\n'
 }
 figure() {
     told+="$1 $2"$'\n'
@@ -52,4 +53,9 @@ if [ "$figures" ] && [ -d "$(dirname "$figures")" ]; then
     printf %s "$told" >"$figures.new"
     mv "$figures.new" "$figures"
 fi
-exit "$status"
+if [ "${STATE_DIRECTORY:-}" ]; then
+    said="$STATE_DIRECTORY/said"
+    if [ "$(find "$said" -mmin -60 2>/dev/null)" ] && cmp -s "$said" <<<"$alarms"; then exit 0; fi
+    cat >"$said" <<<"$alarms"
+fi
+[ -z "$alarms" ]

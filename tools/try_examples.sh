@@ -122,7 +122,7 @@ cp safe/my.db.digests safe/recovered.digests
 evening --after-recovery changed.db safe/9 safe/recovered.digests || fail "an evening after a recovery: $(cat said)"
 grep -q "^evening: accepted after a recovery: .*are not those" said || fail "an evening that says nothing: $(cat said)"
 evening changed.db safe/10 safe/recovered.digests || fail "an evening after that one: $(cat said)"
-stop=true open=false SECONDS_TO_OPEN=1 alarms "the counter did not open" my.db safe/11
+stop=true open=false SECONDS_TO_OPEN=1 alarms "it did not open" my.db safe/11
 alarms "has not the $count requests" safe/1/my.db safe/7 safe/my.db.digests
 
 # A place away, and the newest three copies that are kept.
@@ -238,7 +238,7 @@ count=$((count + 1))
 followed "$count"
 bash second.sh stop
 "$top/examples/standby.sh" --behind second.db 60 | grep -q "^$count requests, all that the leader had on " || fail "how far it is behind"
-if "$top/examples/standby.sh" --behind second.db -1 2>/dev/null; then fail "a follower that is behind"; fi
+if "$top/examples/standby.sh" --behind second.db -1 >/dev/null 2>&1; then fail "a follower that is behind"; fi
 # What was handed on is posted a moment later. A stop before that leaves it to the next start.
 for pause in 1 2 4 8; do
     if "$bank" digest second.db "$count" >/dev/null 2>&1; then break; fi
