@@ -114,46 +114,25 @@ entries-append (x ∷ xs) ys one two = (one.0, entries-append xs ys one.1 two)
 
 module _ {C : Type 0} (seen : C → Seen) (spares : C → C → Type 0) (reason : Fault → C → C → Type 0) (rows : Rows)
     (old new : C) (entries : List AnsweredRequest) where
-  taken_leaves : (commands : List Command) → HasTaken seen spares rows old new entries commands
+  pub taken_leaves : (commands : List Command) → HasTaken seen spares rows old new entries [] commands
       → LeavesTaken (seen old) (seen new) commands []
   taken_leaves commands taken h log stood =
       subst (λ (l : List Command). LeavesOnly (seen new) (ShowsPrefix log l (length commands))) (sym (append-nil commands))
       (stop_all (seen new) log commands commands refl (taken.takes.stands h log stood))
 
-  pub followed_leaves : (it : HasFollowed seen spares rows old new entries)
+  pub followed_leaves : (it : HasFollowed seen spares rows old new entries [])
       → LeavesTaken (seen old) (seen new) it.commands []
   followed_leaves it = taken_leaves it.commands it.taken
 
-  refused_leaves : (fault : Fault) (it : IsRefusedFollowing seen spares reason rows old new entries fault)
+  pub refused_leaves : (fault : Fault) (it : IsRefusedFollowing seen spares reason rows old new entries fault)
       → LeavesTaken (seen old) (seen new) it.followed.commands it.refused
   refused_leaves fault it h log stood =
       stop_part (seen new) log it.followed.commands it.refused (it.followed.commands ++ it.refused) refl
       (refused_stop fault (seen it.stood) (seen new) (followed_by log it.followed.commands) it.refused it.refuses h
       (it.followed.taken.takes.stands (it.honest h) log stood))
 
-  pub stops_did : length entries < 2 ^ 128 → (fault : FollowFault)
-      → Stops seen spares reason rows old new entries fault
-      → Did seen spares reason rows old new entries (Err fault)
-  stops_did few (Bank fault) it = it
-  stops_did few (Differs other) it = it few
-  stops_did few (Truncated n) it = absurd it
-  stops_did few Read it = absurd it
-  stops_did few (NoEntry n) it = absurd it
-  stops_did few Memory it = absurd it
-
-  pub stops_leaves : (few : length entries < 2 ^ 128) (fault : FollowFault)
-      (it : Stops seen spares reason rows old new entries fault)
-      → LeavesFollowed seen spares reason rows old new entries (Err fault) (stops_did few fault it)
-  unfolding stops_did
-  stops_leaves few (Bank fault) it = refused_leaves fault it
-  stops_leaves few (Differs other) it = taken_leaves (it few).commands (it few).taken
-  stops_leaves few (Truncated n) it = absurd it
-  stops_leaves few Read it = absurd it
-  stops_leaves few (NoEntry n) it = absurd it
-  stops_leaves few Memory it = absurd it
-
   -- to the end, the log has the entries that were new
-  pub followed_grows : AllByRecursion IsEntry entries → HasFollowed seen spares rows old new entries
+  pub followed_grows : AllByRecursion IsEntry entries → HasFollowed seen spares rows old new entries []
       → (seen new).honest → (log : List Command) → ShowsLog (seen old) log
       → ShowsEntries (seen new) (log_entries log ++ entries_of (new_after (requests_of log) entries))
   followed_grows are it h log shows = record {
@@ -190,27 +169,44 @@ module _ {C : Type 0} (seen : C → Seen) (spares : C → C → Type 0) (reason 
       )
 
   stopped : (fault : FollowFault) (entries : List AnsweredRequest) (rest : List (List ℕ)) → AllByRecursion IsEntry entries
-      → entries_of entries ++ rest ≡ texts → Stops seen spares reason rows old new (given ++ entries) fault
+      → entries_of entries ++ rest ≡ texts
+      → (did : Did seen spares reason rows old new (given ++ entries) (Err fault))
+      → LeavesFollowed seen spares reason rows old new (given ++ entries) (Err fault) did
       → EndsFollowing (Err fault) r' q q' (length (given ++ entries)) (joined rest ++ left)
       → FollowsLog seen spares reason rows r r' q q' old new (Err fault)
-  stopped fault entries rest more_are same stops ends = record {
+  stopped fault entries rest more_are same did leaves ends = record {
     entries = given ++ entries;
     are = entries-append given entries are more_are;
     rest = joined rest ++ left;
     read = read_entries r r' given entries bytes (joined rest ++ left) read (cut ∙ texts_apart entries texts rest left same);
     ends = ends;
-    did = stops_did seen spares reason rows old new (given ++ entries) (few_taken entries rest same) fault stops;
-    survives = stops_leaves seen spares reason rows old new (given ++ entries) (few_taken entries rest same) fault stops;
+    did = did;
+    survives = leaves;
     grows = tt;
   }
 
+  -- with the next, for which a branch was to be opened
+  with_next : (entries next : List AnsweredRequest) (rest : List (List ℕ))
+      → entries_of entries ++ (entries_of next ++ rest) ≡ texts → entries_of (entries ++ next) ++ rest ≡ texts
+  with_next entries next rest same =
+      ap (λ (l : List (List ℕ)). l ++ rest) (map-append entry_of entries next)
+      ∙ append_assoc (entries_of entries) (entries_of next) rest ∙ same
+
   pub broke_off : (fault : FollowFault) → TakesAll seen spares reason rows old new given texts before w looked (Err fault)
       → FollowsLog seen spares reason rows r r' q q' old new (Err fault)
-  broke_off (Bank fault) it = stopped (Bank fault) it.0 it.1 it.2 it.3 it.4 tt
-  broke_off (Differs other) it = stopped (Differs other) it.0 it.1 it.2 it.3 it.4 tt
-  broke_off (Truncated n) it = absurd it.4
-  broke_off Read it = absurd it.4
-  broke_off Memory it = absurd it.4
+  broke_off (Bank fault) it =
+      let refused : IsRefusedFollowing seen spares reason rows old new (given ++ (it.0 ++ it.1)) fault =
+      subst (λ (l : List AnsweredRequest). IsRefusedFollowing seen spares reason rows old new l fault)
+      (append_assoc given it.0 it.1) it.6 in
+      stopped (Bank fault) (it.0 ++ it.1) it.2 (entries-append it.0 it.1 it.3 it.4) (with_next it.0 it.1 it.2 it.5)
+      refused (refused_leaves seen spares reason rows old new (given ++ (it.0 ++ it.1)) fault refused) tt
+  broke_off (Differs other) it =
+      let differed = it.6 (few_taken it.0 (entries_of it.1 ++ it.2) it.5) in
+      stopped (Differs other) it.0 (entries_of it.1 ++ it.2) it.3 it.5 differed
+      (taken_leaves seen spares reason rows old new (given ++ it.0) differed.commands differed.taken) tt
+  broke_off (Truncated n) it = absurd it.6
+  broke_off Read it = absurd it.6
+  broke_off Memory it = absurd it.6
   broke_off (NoEntry count) it =
       let long : length it.1 ≡ 308 =
       next_whole 308 (entries_of it.0) it.1 it.2 (subst (AllByRecursion (λ t. length t ≡ 308)) (sym it.4) whole) in

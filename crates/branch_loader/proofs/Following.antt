@@ -5,7 +5,7 @@ use Rattle.std.specs.List.{slice_get}
 use Rattle.std.specs.Prelude.{◌⊎◌, Bool, true, false, if◌then◌else◌, Contains, IsSome, MatchResult, None, Option, Some}
 use Rattle.std.specs.List.{AllByRecursion}
 use Rattle.std.proofs.lemmas.List.{length-append, length-map, map-append}
-use Rattle.std.proofs.lemmas.List.Elements.{Contains-append_left, Contains-push}
+use Rattle.std.proofs.lemmas.List.Elements.{Contains-append_left, Contains-push, Contains-push_cases}
 use Rattle.posting_rules.specs.believed.{Commands.Command, Commands.Open, Commands.Post, Commands.Terms}
 use Rattle.posting_rules.specs.believed.Counter.{IsCounterCall, Seen, ShowsLog}
 use Rattle.posting_rules.specs.believed.{Runs.followed_by, Runs.posts, Runs.replies_to}
@@ -57,30 +57,63 @@ posts_open_none m [] = refl
 posts_open_none m (r ∷ rs) = posts_open_none m rs
 
 opens-append : (rows : Rows) (opened : List ℕ) (xs ys : List AnsweredRequest) (cs ds : List Command)
-    → ArePostsOf (planned rows) xs cs → OpensFirst rows opened xs cs → OpensFirst rows (opened ++ opened_by cs) ys ds
-    → OpensFirst rows opened (xs ++ ys) (cs ++ ds)
+    → ArePostsOf (planned rows) xs cs → OpensFirst rows opened (xs ++ ys) cs
+    → OpensFirst rows (opened ++ opened_by cs) ys ds → OpensFirst rows opened (xs ++ ys) (cs ++ ds)
 opens-append rows opened xs ys [] ds are one two =
     subst (λ (l : List AnsweredRequest). OpensFirst rows opened (l ++ ys) ds) (sym are)
     (subst (λ (o : List ℕ). OpensFirst rows o ys ds) (append-nil opened) two)
-opens-append rows opened xs ys (Open b t ∷ cs) ds are one two =
-    opens-append rows (opened ++ b ∷ []) xs ys cs ds are.1 one
-    (subst (λ (o : List ℕ). OpensFirst rows o ys ds) (sym (append_assoc opened (b ∷ []) (opened_by cs))) two)
+opens-append rows opened [] [] (Open b t ∷ cs) ds are one two = absurd one
+opens-append rows opened [] (y ∷ ys) (Open b t ∷ cs) ds are one two = (
+  one.0,
+  one.1,
+  opens-append rows (opened ++ b ∷ []) [] (y ∷ ys) cs ds are.1 one.2
+      (subst (λ (o : List ℕ). OpensFirst rows o (y ∷ ys) ds) (sym (append_assoc opened (b ∷ []) (opened_by cs))) two),
+)
+opens-append rows opened (a ∷ xs) ys (Open b t ∷ cs) ds are one two = (
+  one.0,
+  one.1,
+  opens-append rows (opened ++ b ∷ []) (a ∷ xs) ys cs ds are.1 one.2
+      (subst (λ (o : List ℕ). OpensFirst rows o ys ds) (sym (append_assoc opened (b ∷ []) (opened_by cs))) two),
+)
 opens-append rows opened [] ys (Post m r ∷ cs) ds are one two = absurd are
 opens-append rows opened (a ∷ xs) ys (Post m r ∷ cs) ds are one two =
     (one.0, opens-append rows opened xs ys cs ds are.2 one.1 two)
 
-posts_open_first : (rows : Rows) (opened : List ℕ) (m : ℕ) (entries : List AnsweredRequest)
-    → AllByRecursion (AreOpen rows opened) entries → OpensFirst rows opened entries (posts m (map record_text entries))
-posts_open_first rows opened m [] ready = tt
-posts_open_first rows opened m (a ∷ more) ready = (ready.0, posts_open_first rows opened m more ready.1)
+-- more entries may follow
+opens_further : (rows : Rows) (opened : List ℕ) (xs ys : List AnsweredRequest) (cs : List Command)
+    → OpensFirst rows opened xs cs → OpensFirst rows opened (xs ++ ys) cs
+opens_further rows opened xs ys [] it = tt
+opens_further rows opened [] ys (c ∷ cs) it = absurd it
+opens_further rows opened (a ∷ xs) ys (Open b t ∷ cs) it =
+    (it.0, it.1, opens_further rows (opened ++ b ∷ []) (a ∷ xs) ys cs it.2)
+opens_further rows opened (a ∷ xs) ys (Post m r ∷ cs) it = (it.0, opens_further rows opened xs ys cs it.1)
+
+-- and where the posts are those of the first, those after the next are of no account
+opens_up_to : (rows : Rows) (opened : List ℕ) (xs : List AnsweredRequest) (e : AnsweredRequest)
+    (ys zs : List AnsweredRequest) (cs : List Command) → ArePostsOf (planned rows) xs cs
+    → OpensFirst rows opened (xs ++ e ∷ ys) cs → OpensFirst rows opened (xs ++ e ∷ zs) cs
+opens_up_to rows opened xs e ys zs [] are it = tt
+opens_up_to rows opened [] e ys zs (Open b t ∷ cs) are it =
+    (it.0, it.1, opens_up_to rows (opened ++ b ∷ []) [] e ys zs cs are.1 it.2)
+opens_up_to rows opened (a ∷ xs) e ys zs (Open b t ∷ cs) are it =
+    (it.0, it.1, opens_up_to rows (opened ++ b ∷ []) (a ∷ xs) e ys zs cs are.1 it.2)
+opens_up_to rows opened [] e ys zs (Post m r ∷ cs) are it = absurd are
+opens_up_to rows opened (a ∷ xs) e ys zs (Post m r ∷ cs) are it =
+    (it.0, opens_up_to rows opened xs e ys zs cs are.2 it.1)
+
+posts_open_first : (rows : Rows) (opened : List ℕ) (m : ℕ) (entries next : List AnsweredRequest)
+    → AllByRecursion (AreOpen rows opened) entries
+    → OpensFirst rows opened (entries ++ next) (posts m (map record_text entries))
+posts_open_first rows opened m [] next ready = tt
+posts_open_first rows opened m (a ∷ more) next ready = (ready.0, posts_open_first rows opened m more next ready.1)
 
 -- what waits is posted where what it needs is opened
 pub texts_open_first : (rows : Rows) (opened : List ℕ) (m : ℕ) (records replies : List (List ℕ))
-    (entries : List AnsweredRequest) → AreTexts m records replies entries → AllByRecursion (AreOpen rows opened) entries
-    → OpensFirst rows opened entries (posts m records)
-texts_open_first rows opened m records replies entries it ready =
-    subst (λ (l : List (List ℕ)). OpensFirst rows opened entries (posts m l)) (sym it.records_are)
-    (posts_open_first rows opened m entries ready)
+    (entries next : List AnsweredRequest) → AreTexts m records replies entries
+    → AllByRecursion (AreOpen rows opened) entries → OpensFirst rows opened (entries ++ next) (posts m records)
+texts_open_first rows opened m records replies entries next it ready =
+    subst (λ (l : List (List ℕ)). OpensFirst rows opened (entries ++ next) (posts m l)) (sym it.records_are)
+    (posts_open_first rows opened m entries next ready)
 
 -- nothing was opened, and the plan was looked at no further
 pub looks_still : (rows : Rows) (looked : List Bool) (opened more : List ℕ) → more ≡ [] → LooksOpen rows looked opened
@@ -91,11 +124,18 @@ looks_still rows looked opened more none looks =
 
 -- this branch was opened
 pub looks_at : (rows : Rows) (looked looked' : List Bool) (branch : ℕ) (opened : List ℕ) → LooksAt looked looked' branch
-    → LooksOpen rows looked opened → LooksOpen rows looked' (opened ++ branch ∷ [])
-looks_at rows looked looked' branch opened at looks b marked some = elim (at.others b marked) [
-  | inl same ↦ subst (λ (n : ℕ). Contains (opened ++ branch ∷ []) n) (sym same) (Contains-push opened branch)
-  | inr before ↦ Contains-append_left opened (branch ∷ []) b (looks b before some)
-]
+    → slice_get looked' branch ≡ Some true → LooksOpen rows looked opened
+    → LooksOpen rows looked' (opened ++ branch ∷ [])
+looks_at rows looked looked' branch opened at here looks = record {
+  there = λ b marked some. elim (at.others b marked) [
+    | inl same ↦ subst (λ (n : ℕ). Contains (opened ++ branch ∷ []) n) (sym same) (Contains-push opened branch)
+    | inr before ↦ Contains-append_left opened (branch ∷ []) b (looks.there b before some)
+  ];
+  noted = λ b has. elim (Contains-push_cases opened branch b has) [
+    | inl before ↦ at.keeps b (looks.noted b before)
+    | inr same ↦ subst (λ (n : ℕ). slice_get looked' n ≡ Some true) same here
+  ];
+}
 
 pub none_is_not : {Q : Type 0} (r : Option Row) → r ≡ None → IsSome r → Q
 none_is_not None is some = cc some
@@ -104,14 +144,17 @@ none_is_not (Some p) is some = cc is
 -- or the plan hasn't it
 pub looks_past : (rows : Rows) (looked looked' : List Bool) (branch : ℕ) (opened : List ℕ) → LooksAt looked looked' branch
     → row_of rows branch ≡ None → LooksOpen rows looked opened → LooksOpen rows looked' opened
-looks_past rows looked looked' branch opened at none looks b marked some = elim (at.others b marked) [
-  | inl same ↦ none_is_not (row_of rows b) (ap (row_of rows) same ∙ none) some
-  | inr before ↦ looks b before some
-]
+looks_past rows looked looked' branch opened at none looks = record {
+  there = λ b marked some. elim (at.others b marked) [
+    | inl same ↦ none_is_not (row_of rows b) (ap (row_of rows) same ∙ none) some
+    | inr before ↦ looks.there b before some
+  ];
+  noted = λ b has. at.keeps b (looks.noted b has);
+}
 
 is_open : (rows : Rows) (looked : List Bool) (opened : List ℕ) (b : ℕ) → LooksOpen rows looked opened → IsLooked rows looked b
     → IsSome (row_of rows b) → Contains opened b
-is_open rows looked opened b looks (inl marked) some = looks b marked some
+is_open rows looked opened b looks (inl marked) some = looks.there b marked some
 is_open rows looked opened b looks (inr none) some = none_is_not (row_of rows b) none some
 
 -- those of an entry were looked for
@@ -208,7 +251,25 @@ other_behind n front given due other it many = record {
 -- ---- one call more
 
 module _ {C : Type 0} (seen : C → Seen) (spares : C → C → Type 0) (rows : Rows) where
-  pub followed_none : (c : C) → spares c c → HasFollowed seen spares rows c c []
+  -- the same commands, where others come next
+  abbrev pub for_others : (old new : C) (entries next others : List AnsweredRequest)
+      (it : HasFollowed seen spares rows old new entries next) → OpensFirst rows [] (entries ++ others) it.commands
+      → HasFollowed seen spares rows old new entries others
+  for_others old new entries next others it opens = record {
+    commands = it.commands;
+    taken = record {
+      are = it.taken.are;
+      opens = opens;
+      takes = it.taken.takes;
+      honest = it.taken.honest;
+      up = it.taken.up;
+      idle = it.taken.idle;
+      others = it.taken.others;
+    };
+    replies = it.replies;
+  }
+
+  abbrev pub followed_none : (c : C) → spares c c → HasFollowed seen spares rows c c [] []
   followed_none c same = record {
     commands = [];
     taken = record {
@@ -224,17 +285,20 @@ module _ {C : Type 0} (seen : C → Seen) (spares : C → C → Type 0) (rows : 
   }
 
   module _ (old mid new : C) (spares_then : spares old mid → spares mid new → spares old new)
-      (done entries : List AnsweredRequest) (it : HasFollowed seen spares rows old mid done) (cs : List Command)
-      (are : ArePostsOf (planned rows) entries cs) (first : OpensFirst rows (opened_by it.commands) entries cs) where
+      (done entries next : List AnsweredRequest) (it : HasFollowed seen spares rows old mid done (entries ++ next))
+      (cs : List Command) (are : ArePostsOf (planned rows) entries cs)
+      (first : OpensFirst rows (opened_by it.commands) (entries ++ next) cs) where
     module _ {K X : Type 0} (contents : C → K) (reason : Fault → C → C → Type 0) (x : X)
         (call : IsCounterCall seen contents reason mid new cs (Ok x)) (others : spares mid new) where
       was_up : (seen mid).is_down → ⊥
       was_up down = let no : (let r : Result X Fault = Ok x in r) ≡ Err Down = call.down down in cc
 
-      taken_more : HasTaken seen spares rows old new (done ++ entries) (it.commands ++ cs)
+      taken_more : HasTaken seen spares rows old new (done ++ entries) next (it.commands ++ cs)
       taken_more = record {
         are = posts-append (planned rows) done entries it.commands cs it.taken.are are;
-        opens = opens-append rows [] done entries it.commands cs it.taken.are it.taken.opens first;
+        opens = subst (λ (l : List AnsweredRequest). OpensFirst rows [] l (it.commands ++ cs))
+            (sym (append_assoc done entries next))
+            (opens-append rows [] done (entries ++ next) it.commands cs it.taken.are it.taken.opens first);
         takes = Takes-append (seen old) (seen mid) (seen new) it.commands cs it.taken.takes call.done call.honest;
         honest = λ h. it.taken.honest (call.honest h);
         up = λ down. absurd (call.up down);
@@ -256,7 +320,8 @@ module _ {C : Type 0} (seen : C → Seen) (spares : C → C → Type 0) (rows : 
 
       -- it gave the replies of the entries
       pub followed_more : (looked : List Bool) → LooksOpen rows looked (opened_by it.commands ++ opened_by cs)
-          → GaveReplies (seen mid) (seen new) entries cs → HasOpened seen spares rows old new (done ++ entries) looked
+          → GaveReplies (seen mid) (seen new) entries cs
+          → HasOpened seen spares rows old new (done ++ entries) next looked
       followed_more looked looks gave = record {
         followed = record {
           commands = it.commands ++ cs;
@@ -271,13 +336,14 @@ module _ {C : Type 0} (seen : C → Seen) (spares : C → C → Type 0) (rows : 
       }
 
       -- it gave others
-      pub differed : (other : OtherReply) → length (done ++ entries) < other.entry + RECORDS_PER_BATCH
+      pub differed : next ≡ [] → (other : OtherReply) → length (done ++ entries) < other.entry + RECORDS_PER_BATCH
           → ((seen new).honest → (log : List Command) → ShowsLog (seen mid) log
           → IsFirstOther (length done) (replies_to log cs) (map reply_text entries) other)
           → HasDiffered seen spares rows old new (done ++ entries) other
-      differed other last first = record {
+      differed none other last first = record {
         commands = it.commands ++ cs;
-        taken = taken_more;
+        taken = subst (λ (l : List AnsweredRequest). HasTaken seen spares rows old new (done ++ entries) l
+            (it.commands ++ cs)) none taken_more;
         last = last;
         first = λ h log shows.
             let behind =
@@ -294,11 +360,12 @@ module _ {C : Type 0} (seen : C → Seen) (spares : C → C → Type 0) (rows : 
     -- it refused them
     pub refused_then : {K X : Type 0} (contents : C → K) (reason : Fault → C → C → Type 0) (fault : Fault)
         → IsCounterCall {X = X} seen contents reason mid new cs (Err fault) → spares mid new
-        → IsRefusedFollowing seen spares reason rows old new (done ++ entries) fault
+        → IsRefusedFollowing seen spares reason rows old new ((done ++ entries) ++ next) fault
     refused_then {X = X} contents reason fault call others = record {
       done = done;
       tried = entries;
-      all = refl;
+      after = next;
+      all = sym (append_assoc done entries next);
       stood = mid;
       followed = it;
       refused = cs;
@@ -316,6 +383,15 @@ module _ {C : Type 0} (seen : C → Seen) (spares : C → C → Type 0) (rows : 
         one_fault is = cc
 
 -- ---- what waits
+
+-- nothing waits: the next are the next still
+pub opened_none : {C : Type 0} (seen : C → Seen) (spares : C → C → Type 0) (rows : Rows) (old new : C)
+    (looked : List Bool) (done entries next : List AnsweredRequest) → entries ≡ []
+    → HasOpened seen spares rows old new done (entries ++ next) looked
+    → HasOpened seen spares rows old new (done ++ entries) next looked
+opened_none seen spares rows old new looked done [] next none it =
+    subst (λ (l : List AnsweredRequest). HasOpened seen spares rows old new l next looked) (sym (append-nil done)) it
+opened_none seen spares rows old new looked done (e ∷ more) next none it = absurd (cc none)
 
 waits-append : (m : ℕ) (xs ys : List AnsweredRequest) → AllByRecursion (λ a. IsMomentOf a m) xs
     → AllByRecursion (λ a. IsMomentOf a m) ys → AllByRecursion (λ a. IsMomentOf a m) (xs ++ ys)
@@ -370,40 +446,85 @@ no_entry_waits m records replies entries it none = none_waits records entries it
 module _ {C : Type 0} (seen : C → Seen) (spares : C → C → Type 0) (reason : Fault → C → C → Type 0) (rows : Rows)
     (old new : C) (given : List AnsweredRequest) where
   -- all of them were followed, and nothing waits
-  pub following_none : (w : Waiting) (looked : List Bool) → HasPosted seen spares rows old new given w looked
-      → IsWaiting w [] → IsFollowing seen spares rows old new given w looked
-  following_none w looked posted waits =
+  pub following_none : (next : List AnsweredRequest) (w : Waiting) (looked : List Bool)
+      → HasPosted seen spares rows old new given next w looked → IsWaiting w []
+      → IsFollowing seen spares rows old new given next w looked
+  following_none next w looked posted waits =
       record { done = given; left = []; all = append-nil given; posted = posted; waits = waits; ready = tt }
 
   -- the same, where what was done is done ++ left
-  pub followed_same : (looked : List Bool) (done left : List AnsweredRequest) → done ++ left ≡ given
-      → HasOpened seen spares rows old new (done ++ left) looked → HasOpened seen spares rows old new given looked
-  followed_same looked done left same =
-      subst (λ (l : List AnsweredRequest). HasOpened seen spares rows old new l looked) same
+  pub followed_same : (next : List AnsweredRequest) (looked : List Bool) (done left : List AnsweredRequest)
+      → done ++ left ≡ given → HasOpened seen spares rows old new (done ++ left) next looked
+      → HasOpened seen spares rows old new given next looked
+  followed_same next looked done left same =
+      subst (λ (l : List AnsweredRequest). HasOpened seen spares rows old new l next looked) same
 
-  pub stops_same : (other : List AnsweredRequest) (fault : FollowFault) → other ≡ given
-      → Stops seen spares reason rows old new other fault → Stops seen spares reason rows old new given fault
-  stops_same other fault same =
-      subst (λ (l : List AnsweredRequest). Stops seen spares reason rows old new l fault) same
+  pub stops_same : (next other : List AnsweredRequest) (fault : FollowFault) → other ≡ given
+      → Stops seen spares reason rows old new other next fault
+      → Stops seen spares reason rows old new given next fault
+  stops_same next other fault same =
+      subst (λ (l : List AnsweredRequest). Stops seen spares reason rows old new l next fault) same
 
-  -- one more waits
+  -- others come next
+  abbrev following_with : (next others : List AnsweredRequest) (w w' : Waiting) (looked : List Bool)
+      (it : IsFollowing seen spares rows old new given next w looked) (left : List AnsweredRequest)
+      → OpensFirst rows [] (it.done ++ (left ++ others)) it.posted.opened.followed.commands → w'.posted ≡ w.posted
+      → HasPosted seen spares rows old new it.done (left ++ others) w' looked
+  following_with next others w w' looked it left opens same = record {
+    opened = record {
+      followed = for_others seen spares rows old new it.done (it.left ++ next) (left ++ others)
+          it.posted.opened.followed opens;
+      looks = it.posted.opened.looks;
+    };
+    counted = λ few. same ∙ it.posted.counted few;
+  }
+
+  -- one comes next
+  pub following_next : (next : List AnsweredRequest) (w : Waiting) (looked : List Bool)
+      → IsFollowing seen spares rows old new given [] w looked → IsFollowing seen spares rows old new given next w looked
+  following_next next w looked it =
+      let commands = it.posted.opened.followed.commands in
+      record {
+        done = it.done;
+        left = it.left;
+        all = it.all;
+        posted = following_with [] next w w looked it it.left
+            (subst (λ (l : List AnsweredRequest). OpensFirst rows [] l commands) (append_assoc it.done it.left next)
+            (opens_further rows [] (it.done ++ it.left) next commands
+            (subst (λ (l : List AnsweredRequest). OpensFirst rows [] (it.done ++ l) commands) (append-nil it.left)
+            it.posted.opened.followed.taken.opens))) refl;
+        waits = it.waits;
+        ready = it.ready;
+      }
+
+  -- the next waits, too
   pub following_more : (w w' : Waiting) (looked : List Bool) (a : AnsweredRequest)
-      → IsFollowing seen spares rows old new given w looked
+      → IsFollowing seen spares rows old new given (a ∷ []) w looked
       → ((entries : List AnsweredRequest) → IsWaiting w entries → IsWaiting w' (entries ++ a ∷ []))
       → w'.posted ≡ w.posted → AllByRecursion (IsLooked rows looked) (needed_by a)
-      → IsFollowing seen spares rows old new (given ++ a ∷ []) w' looked
-  following_more w w' looked a it more same marked = record {
-    done = it.done;
-    left = it.left ++ a ∷ [];
-    all = sym (append_assoc it.done it.left (a ∷ [])) ∙ ap (λ (l : List AnsweredRequest). l ++ a ∷ []) it.all;
-    posted = record {
-      opened = it.posted.opened;
-      counted = λ few. same ∙ it.posted.counted few;
-    };
-    waits = more it.left it.waits;
-    ready = ready-snoc rows (opened_by it.posted.opened.followed.commands) it.left a it.ready
-        (are_open rows looked (opened_by it.posted.opened.followed.commands) (needed_by a) it.posted.opened.looks marked);
-  }
+      → IsFollowing seen spares rows old new (given ++ a ∷ []) [] w' looked
+  following_more w w' looked a it more same marked =
+      let commands = it.posted.opened.followed.commands in
+      record {
+        done = it.done;
+        left = it.left ++ a ∷ [];
+        all = sym (append_assoc it.done it.left (a ∷ [])) ∙ ap (λ (l : List AnsweredRequest). l ++ a ∷ []) it.all;
+        posted = following_with (a ∷ []) [] w w' looked it (it.left ++ a ∷ [])
+            (subst (λ (l : List AnsweredRequest). OpensFirst rows [] (it.done ++ l) commands)
+            (sym (append-nil (it.left ++ a ∷ []))) it.posted.opened.followed.taken.opens) same;
+        waits = more it.left it.waits;
+        ready = ready-snoc rows (opened_by commands) it.left a it.ready
+            (are_open rows looked (opened_by commands) (needed_by a) it.posted.opened.looks marked);
+      }
+
+  -- where some wait, no branch was opened for those after them
+  pub opened_for : (done : List AnsweredRequest) (entries next : List AnsweredRequest) (looked : List Bool)
+      (it : HasOpened seen spares rows old new done (entries ++ next) looked) → (entries ≡ [] → ⊥)
+      → OpensFirst rows [] (done ++ (entries ++ [])) it.followed.commands
+  opened_for done [] next looked it some = absurd (some refl)
+  opened_for done (e ∷ more) next looked it some =
+      opens_up_to rows [] done e (more ++ next) (more ++ []) it.followed.commands it.followed.taken.are
+      it.followed.taken.opens
 
 -- ---- some entries
 
@@ -418,8 +539,8 @@ module _ {C : Type 0} (seen : C → Seen) (spares : C → C → Type 0) (reason 
   -- one more
   pub some_more : (text : List ℕ) (a : AnsweredRequest) → IsEntry a → entry_of a ≡ text
       → ((first : C) (rows : Rows) (given : List AnsweredRequest) → plan ≡ rows
-      → IsFollowing seen spares rows first mid given w looked
-      → IsFollowing seen spares rows first new (given ++ a ∷ []) w' looked')
+      → IsFollowing seen spares rows first mid given [] w looked
+      → IsFollowing seen spares rows first new (given ++ a ∷ []) [] w' looked')
       → TakesSome seen spares old new plan none looked_none (texts ++ text ∷ []) w' looked'
   some_more text a is same more first rows given planned posted =
       let it = some first rows given planned posted in (
@@ -428,36 +549,39 @@ module _ {C : Type 0} (seen : C → Seen) (spares : C → C → Type 0) (reason 
         map-append entry_of it.0 (a ∷ [])
             ∙ ap (λ (l : List (List ℕ)). l ++ entry_of a ∷ []) it.2
             ∙ ap (λ (t : List ℕ). texts ++ t ∷ []) same,
-        subst (λ (l : List AnsweredRequest). IsFollowing seen spares rows first new l w' looked')
+        subst (λ (l : List AnsweredRequest). IsFollowing seen spares rows first new l [] w' looked')
             (append_assoc given it.0 (a ∷ []))
             (more first rows (given ++ it.0) planned it.3),
       )
 
   module _ (all : List (List ℕ)) (before : ℕ) (first : C) (rows : Rows) (given : List AnsweredRequest)
-      (planned : plan ≡ rows) (before_all : HasPosted seen spares rows first old given none looked_none) where
+      (planned : plan ≡ rows) (before_all : HasPosted seen spares rows first old given [] none looked_none) where
     -- all of them
     pub took_all : texts ≡ all
-        → ((given : List AnsweredRequest) → IsFollowing seen spares rows first mid given w looked
-        → HasPosted seen spares rows first new given w' looked')
+        → ((given : List AnsweredRequest) → IsFollowing seen spares rows first mid given [] w looked
+        → HasPosted seen spares rows first new given [] w' looked')
         → TakesAll seen spares reason rows first new given all before w' looked' (Ok tt)
     took_all same posted =
         let it = some first rows given planned before_all in
         (it.0, it.1, it.2 ∙ same, posted (given ++ it.0) it.3)
 
-    -- it stopped at one of them
-    pub took_some : (rest : List (List ℕ)) (fault : FollowFault) → texts ++ rest ≡ all
-        → ((given : List AnsweredRequest) → IsFollowing seen spares rows first mid given w looked
-        → Stops seen spares reason rows first new given fault)
+    -- it stopped at one of them, or at the next
+    pub took_some : (next : List AnsweredRequest) (rest : List (List ℕ)) (fault : FollowFault)
+        → AllByRecursion IsEntry next → texts ++ (entries_of next ++ rest) ≡ all
+        → ((given : List AnsweredRequest) → IsFollowing seen spares rows first mid given [] w looked
+        → Stops seen spares reason rows first new given next fault)
         → TakesAll seen spares reason rows first new given all before w' looked' (Err fault)
-    took_some rest fault same stops =
+    took_some next rest fault next_are same stops =
         let it = some first rows given planned before_all in
-        stopped fault it.0 it.1 (ap (λ (l : List (List ℕ)). l ++ rest) it.2 ∙ same) (stops (given ++ it.0) it.3)
+        stopped fault it.0 it.1 (ap (λ (l : List (List ℕ)). l ++ (entries_of next ++ rest)) it.2 ∙ same)
+        (stops (given ++ it.0) it.3)
       where
         stopped : (fault : FollowFault) (entries : List AnsweredRequest) → AllByRecursion IsEntry entries
-            → entries_of entries ++ rest ≡ all → Stops seen spares reason rows first new (given ++ entries) fault
+            → entries_of entries ++ (entries_of next ++ rest) ≡ all
+            → Stops seen spares reason rows first new (given ++ entries) next fault
             → TakesAll seen spares reason rows first new given all before w' looked' (Err fault)
-        stopped (Bank fault) entries are same stops = (entries, rest, are, same, stops)
-        stopped (Differs other) entries are same stops = (entries, rest, are, same, stops)
+        stopped (Bank fault) entries are same stops = (entries, next, rest, are, next_are, same, stops)
+        stopped (Differs other) entries are same stops = (entries, next, rest, are, next_are, same, stops)
         stopped (Truncated n) entries are same stops = absurd stops
         stopped Read entries are same stops = absurd stops
         stopped (NoEntry n) entries are same stops = absurd stops
@@ -466,8 +590,8 @@ module _ {C : Type 0} (seen : C → Seen) (spares : C → C → Type 0) (reason 
     -- the next is none
     pub took_up_to : (text : List ℕ) (rest : List (List ℕ)) (count : ℕ) → texts ++ text ∷ rest ≡ all
         → count ≡ before + length texts → IsNoEntry text
-        → ((given : List AnsweredRequest) → IsFollowing seen spares rows first mid given w looked
-        → HasPosted seen spares rows first new given w' looked')
+        → ((given : List AnsweredRequest) → IsFollowing seen spares rows first mid given [] w looked
+        → HasPosted seen spares rows first new given [] w' looked')
         → TakesAll seen spares reason rows first new given all before w' looked' (Err (NoEntry count))
     took_up_to text rest count same many no_entry posted =
         let it = some first rows given planned before_all in (
@@ -484,9 +608,9 @@ module _ {C : Type 0} (seen : C → Seen) (spares : C → C → Type 0) (reason 
 
     -- the rest was posted, or it stopped there
     pub took_last : (result : Result (Unit {0}) FollowFault) → texts ≡ all
-        → ((given : List AnsweredRequest) → IsFollowing seen spares rows first mid given w looked
-        → MatchResult result (λ done. HasPosted seen spares rows first new given w' looked')
-        (Stops seen spares reason rows first new given))
+        → ((given : List AnsweredRequest) → IsFollowing seen spares rows first mid given [] w looked
+        → MatchResult result (λ done. HasPosted seen spares rows first new given [] w' looked')
+        (Stops seen spares reason rows first new given []))
         → TakesAll seen spares reason rows first new given all before w' looked' result
     took_last (Ok done) same posted = took_all same posted
-    took_last (Err fault) same stops = took_some [] fault (append-nil texts ∙ same) stops
+    took_last (Err fault) same stops = took_some [] [] fault tt (append-nil texts ∙ same) stops

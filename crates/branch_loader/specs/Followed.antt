@@ -32,14 +32,14 @@ EndsFollowing (Err Memory) r' q q' followed rest = GrowsBy q q' [] × (rest ≡ 
 EndsFollowing (Err (Differs other)) r' q q' followed rest = ⊤
 EndsFollowing (Err (Bank fault)) r' q q' followed rest = ⊤
 
--- all of the entries were followed; or it stopped at the last of them, or nothing was done
+-- all of the entries were followed; or it stopped at the last of them, or at the opening for it; or nothing was done
 abbrev pub Did : {C : Type 0} → (C → Seen) → (C → C → Type 0) → (Fault → C → C → Type 0) → Rows → (old new : C)
     → List AnsweredRequest → Result ℕ FollowFault → Type 0
 Did seen spares reason rows old new entries (Err (Bank fault)) =
     IsRefusedFollowing seen spares reason rows old new entries fault
 Did seen spares reason rows old new entries (Err (Differs other)) = HasDiffered seen spares rows old new entries other
 Did seen spares reason rows old new entries (Err Memory) = (entries ≡ []) × (new ≡ old)
-Did seen spares reason rows old new entries result = HasFollowed seen spares rows old new entries
+Did seen spares reason rows old new entries result = HasFollowed seen spares rows old new entries []
 
 -- it shows a log that has these entries
 pub record ShowsEntries (seen : Seen) (texts : List (List ℕ)) : Type 0 where

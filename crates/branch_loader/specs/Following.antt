@@ -54,16 +54,20 @@ opened_by (Post moment bytes ∷ cs) = opened_by cs
 abbrev pub AreOpen : Rows → (opened : List ℕ) → AnsweredRequest → Type 0
 AreOpen rows opened a = AllByRecursion (λ b. IsSome (row_of rows b) → Contains opened b) (needed_by a)
 
--- they are opened before an entry is posted, where these were opened before
+-- Commands that take these entries, or the first of them, where these branches were opened before. A branch is opened
+-- where the next entry needs it and it isn't open yet, and at no other place; an entry is posted once those are open that
+-- it needs.
 abbrev pub OpensFirst : Rows → (opened : List ℕ) → List AnsweredRequest → List Command → Type 0
 OpensFirst rows opened entries [] = ⊤
-OpensFirst rows opened entries (Open branch terms ∷ cs) = OpensFirst rows (opened ++ branch ∷ []) entries cs
-OpensFirst rows opened [] (Post moment bytes ∷ cs) = ⊥
+OpensFirst rows opened [] (c ∷ cs) = ⊥
+OpensFirst rows opened (a ∷ more) (Open branch terms ∷ cs) = Contains (needed_by a) branch
+    × (Contains opened branch → ⊥) × OpensFirst rows (opened ++ branch ∷ []) (a ∷ more) cs
 OpensFirst rows opened (a ∷ more) (Post moment bytes ∷ cs) = AreOpen rows opened a × OpensFirst rows opened more cs
 
--- the plan was looked at for these branches, by their numbers: those that it has are open
-abbrev pub LooksOpen : Rows → (looked : List Bool) → (opened : List ℕ) → Type 0
-LooksOpen rows looked opened = (b : ℕ) → slice_get looked b ≡ Some true → IsSome (row_of rows b) → Contains opened b
+-- the plan was looked at for these branches, by their numbers: those that it has are open, and no others are
+pub record LooksOpen (rows : Rows) (looked : List Bool) (opened : List ℕ) : Type 0 where
+  pub there : (b : ℕ) → slice_get looked b ≡ Some true → IsSome (row_of rows b) → Contains opened b
+  pub noted : (b : ℕ) → Contains opened b → slice_get looked b ≡ Some true
 
 abbrev pub NoneLooked : List Bool → Type 0
 NoneLooked looked = (b : ℕ) → slice_get looked b ≡ Some true → ⊥
@@ -97,11 +101,12 @@ HasRoom w = (length w.records.items < RECORDS_PER_BATCH) × (length w.replies.it
 abbrev pub AreCounted : ℕ → List AnsweredRequest → Type 0
 AreCounted count entries = length entries < 2 ^ 128 → count ≡ length entries
 
--- it took the commands that some entries are: openings as planned, and posts of the entries at their moments
+-- It took the commands that some entries are: openings as planned, and posts of the entries at their moments. The last
+-- openings may be for the next entry, which isn't posted yet.
 pub record HasTaken {C : Type 0} (seen : C → Seen) (spares : C → C → Type 0) (rows : Rows) (old new : C)
-    (entries : List AnsweredRequest) (commands : List Command) : Type 0 where
+    (entries next : List AnsweredRequest) (commands : List Command) : Type 0 where
   pub are : ArePostsOf (planned rows) entries commands
-  pub opens : OpensFirst rows [] entries commands
+  pub opens : OpensFirst rows [] (entries ++ next) commands
   pub takes : Takes (seen old) (seen new) commands
   pub honest : (seen new).honest → (seen old).honest
   pub up : (seen new).is_down → (seen old).is_down
@@ -115,52 +120,55 @@ GaveReplies old new entries commands = new.honest → (log : List Command) → S
 
 -- it took them, and gave these replies
 pub record HasFollowed {C : Type 0} (seen : C → Seen) (spares : C → C → Type 0) (rows : Rows) (old new : C)
-    (entries : List AnsweredRequest) : Type 0 where
+    (entries next : List AnsweredRequest) : Type 0 where
   pub commands : List Command
-  pub taken : HasTaken seen spares rows old new entries commands
+  pub taken : HasTaken seen spares rows old new entries next commands
   pub replies : GaveReplies (seen old) (seen new) entries commands
 
 -- and the branches are open for which the plan was looked at
 pub record HasOpened {C : Type 0} (seen : C → Seen) (spares : C → C → Type 0) (rows : Rows) (old new : C)
-    (entries : List AnsweredRequest) (looked : List Bool) : Type 0 where
-  pub followed : HasFollowed seen spares rows old new entries
+    (entries next : List AnsweredRequest) (looked : List Bool) : Type 0 where
+  pub followed : HasFollowed seen spares rows old new entries next
   pub looks : LooksOpen rows looked (opened_by followed.commands)
 
 -- what these need is open by then
 abbrev pub AreReady : {C : Type 0} {seen : C → Seen} {spares : C → C → Type 0} {rows : Rows} {old new : C}
-    {entries : List AnsweredRequest} → HasFollowed seen spares rows old new entries → List AnsweredRequest → Type 0
+    {entries next : List AnsweredRequest} → HasFollowed seen spares rows old new entries next → List AnsweredRequest
+    → Type 0
 AreReady {rows = rows} it more = AllByRecursion (AreOpen rows (opened_by it.commands)) more
 
 -- it took all of these, as its count of them says
 pub record HasPosted {C : Type 0} (seen : C → Seen) (spares : C → C → Type 0) (rows : Rows) (old new : C)
-    (entries : List AnsweredRequest) (w : Waiting) (looked : List Bool) : Type 0 where
-  pub opened : HasOpened seen spares rows old new entries looked
+    (entries next : List AnsweredRequest) (w : Waiting) (looked : List Bool) : Type 0 where
+  pub opened : HasOpened seen spares rows old new entries next looked
   pub counted : AreCounted w.posted entries
 
 -- it took all of these but the last, which wait
 pub record IsFollowing {C : Type 0} (seen : C → Seen) (spares : C → C → Type 0) (rows : Rows) (old new : C)
-    (given : List AnsweredRequest) (w : Waiting) (looked : List Bool) : Type 0 where
+    (given next : List AnsweredRequest) (w : Waiting) (looked : List Bool) : Type 0 where
   pub done : List AnsweredRequest
   pub left : List AnsweredRequest
   pub all : done ++ left ≡ given
-  pub posted : HasPosted seen spares rows old new done w looked
+  pub posted : HasPosted seen spares rows old new done (left ++ next) w looked
   pub waits : IsWaiting w left
   pub ready : AreReady posted.opened.followed left
 
 -- ---- how it stops
 
--- it took the commands of some, stood there, and refused those of the next
+-- It took the commands of some, stood there, and refused those of the next: posts, or an opening for the first of those
+-- after them.
 pub record IsRefusedFollowing {C : Type 0} (seen : C → Seen) (spares : C → C → Type 0)
     (reason : Fault → C → C → Type 0) (rows : Rows) (old new : C) (entries : List AnsweredRequest) (fault : Fault)
     : Type 0 where
   pub done : List AnsweredRequest
   pub tried : List AnsweredRequest
-  pub all : done ++ tried ≡ entries
+  pub after : List AnsweredRequest
+  pub all : done ++ (tried ++ after) ≡ entries
   pub stood : C
-  pub followed : HasFollowed seen spares rows old stood done
+  pub followed : HasFollowed seen spares rows old stood done (tried ++ after)
   pub refused : List Command
   pub are : ArePostsOf (planned rows) tried refused
-  pub opens : OpensFirst rows (opened_by followed.commands) tried refused
+  pub opens : OpensFirst rows (opened_by followed.commands) (tried ++ after) refused
   pub refuses : Refuses fault (seen stood) (seen new) refused
   pub why : reason fault stood new
   pub honest : (seen new).honest → (seen stood).honest
@@ -183,20 +191,21 @@ pub record IsFirstOther (before : ℕ) (given due : List (List ℕ)) (other : Ot
 pub record HasDiffered {C : Type 0} (seen : C → Seen) (spares : C → C → Type 0) (rows : Rows) (old new : C)
     (entries : List AnsweredRequest) (other : OtherReply) : Type 0 where
   pub commands : List Command
-  pub taken : HasTaken seen spares rows old new entries commands
+  pub taken : HasTaken seen spares rows old new entries [] commands
   -- those after it were posted with it
   pub last : length entries < other.entry + RECORDS_PER_BATCH
   pub first : (seen new).honest → (log : List Command) → ShowsLog (seen old) log
       → IsFirstOther 0 (replies_to log commands) (map reply_text entries) other
 
--- why it stops where entries are posted, and what was done with those that were given, if they can be counted
+-- why it stops where entries are posted, or branches opened for the next, and what was done with those that were given, if
+-- they can be counted
 abbrev pub Stops : {C : Type 0} → (C → Seen) → (C → C → Type 0) → (Fault → C → C → Type 0) → Rows → (old new : C)
-    → List AnsweredRequest → FollowFault → Type 0
-Stops seen spares reason rows old new entries (Bank fault) =
-    IsRefusedFollowing seen spares reason rows old new entries fault
-Stops seen spares reason rows old new entries (Differs other) =
+    → (entries next : List AnsweredRequest) → FollowFault → Type 0
+Stops seen spares reason rows old new entries next (Bank fault) =
+    IsRefusedFollowing seen spares reason rows old new (entries ++ next) fault
+Stops seen spares reason rows old new entries next (Differs other) =
     length entries < 2 ^ 128 → HasDiffered seen spares rows old new entries other
-Stops seen spares reason rows old new entries fault = ⊥
+Stops seen spares reason rows old new entries next fault = ⊥
 
 -- ---- some entries
 
@@ -206,21 +215,22 @@ abbrev pub TakesSome : {C : Type 0} → (C → Seen) → (C → C → Type 0) �
     → List (List ℕ) → Waiting → List Bool → Type 0
 TakesSome {C} seen spares old new plan none before texts w looked =
     (first : C) (rows : Rows) (given : List AnsweredRequest)
-    → plan ≡ rows → HasPosted seen spares rows first old given none before
+    → plan ≡ rows → HasPosted seen spares rows first old given [] none before
     → (entries : List AnsweredRequest) × AllByRecursion IsEntry entries × (entries_of entries ≡ texts)
-    × IsFollowing seen spares rows first new (given ++ entries) w looked
+    × IsFollowing seen spares rows first new (given ++ entries) [] w looked
 
 -- all of the texts are entries, and were followed after those that were given; or the first of them, and the next is
--- none, or it stopped at the last of them. So many were followed before, and w is what waits then.
+-- none, or it stopped at the last of them or at the next. So many were followed before, and w is what waits then.
 abbrev pub TakesAll : {C : Type 0} → (C → Seen) → (C → C → Type 0) → (Fault → C → C → Type 0) → Rows → (old new : C)
     → List AnsweredRequest → List (List ℕ) → ℕ → Waiting → List Bool → Result (Unit {0}) FollowFault → Type 0
 TakesAll seen spares reason rows old new given texts before w looked (Ok done) =
     (entries : List AnsweredRequest) × AllByRecursion IsEntry entries × (entries_of entries ≡ texts)
-    × HasPosted seen spares rows old new (given ++ entries) w looked
+    × HasPosted seen spares rows old new (given ++ entries) [] w looked
 TakesAll seen spares reason rows old new given texts before w looked (Err (NoEntry count)) =
     (entries : List AnsweredRequest) × (text : List ℕ) × (rest : List (List ℕ)) × AllByRecursion IsEntry entries
-    × (entries_of entries ++ text ∷ rest ≡ texts) × HasFollowed seen spares rows old new (given ++ entries)
+    × (entries_of entries ++ text ∷ rest ≡ texts) × HasFollowed seen spares rows old new (given ++ entries) []
     × (count ≡ before + length entries) × IsNoEntry text
 TakesAll seen spares reason rows old new given texts before w looked (Err fault) =
-    (entries : List AnsweredRequest) × (rest : List (List ℕ)) × AllByRecursion IsEntry entries
-    × (entries_of entries ++ rest ≡ texts) × Stops seen spares reason rows old new (given ++ entries) fault
+    (entries next : List AnsweredRequest) × (rest : List (List ℕ)) × AllByRecursion IsEntry entries
+    × AllByRecursion IsEntry next × (entries_of entries ++ (entries_of next ++ rest) ≡ texts)
+    × Stops seen spares reason rows old new (given ++ entries) next fault

@@ -1,6 +1,6 @@
 //! Entries of a log are posted at their moments, and branches of a plan are opened where the first entry needs them.
 ghost use Rattle.std.specs.Prelude.{◌≡◌, ◌≤◌, ◌<◌, ◌+◌, ◌^◌, ◌++◌, ◌∷◌, [], List, IfNone, IfOk, IfSome};
-ghost use Rattle.std.specs.Prelude.{Bool, IsSome, MatchResult, OnOk, Some, length, true, vec_len};
+ghost use Rattle.std.specs.Prelude.{Bool, Contains, IsSome, MatchResult, OnOk, Some, false, length, true, vec_len};
 ghost use Rattle.std.specs.List.{slice_get};
 ghost use Rattle.message_records.specs.believed.Outcomes.{has_balance};
 ghost use Rattle.posting_rules.specs.declared.limits.TheConstants.{LAST_BRANCH};
@@ -8,7 +8,7 @@ ghost use Rattle.posting_core.specs.Entries.{IsMomentOf, answered};
 ghost use Rattle.posting_core.specs.believed.LogEntries.{AnsweredRequest};
 ghost use Rattle.branch_loader.specs.Following.{AreCounted, AreReady, AreTexts, HasOpened, HasPosted, HasRoom};
 ghost use Rattle.branch_loader.specs.Following.{IsFirstOther, IsFollowing, IsLooked, IsWaiting, LooksAt, NoneLooked, Stops};
-ghost use Rattle.branch_loader.specs.Following.{TakesAll, had_account, row_of};
+ghost use Rattle.branch_loader.specs.Following.{TakesAll, had_account, needed_by, row_of};
 ghost use Rattle.branch_loader.specs.believed.Plans.{Rows};
 ghost use Rattle.branch_loader.specs.Plans.{IsRow};
 
@@ -63,11 +63,11 @@ fn post_together<C: Counter>(
     counter: &mut C,
 ) -> Result<(), FollowFault>
     requires { length records.now ≤ RECORDS_PER_BATCH }
-    ensures { (first : C) (rows : Rows) (looked : List Bool) (done entries : List AnsweredRequest)
-        → (it : HasOpened C.seen C.spares rows first counter.old done looked) → AreCounted before done
-        → AreTexts moment records.now due.now entries → AreReady it.followed entries
-        → MatchResult result (λ _. HasOpened C.seen C.spares rows first counter.new (done ++ entries) looked)
-        (Stops C.seen C.spares C.reason rows first counter.new (done ++ entries)) }
+    ensures { (first : C) (rows : Rows) (looked : List Bool) (done entries next : List AnsweredRequest)
+        → (it : HasOpened C.seen C.spares rows first counter.old done (entries ++ next) looked)
+        → AreCounted before done → AreTexts moment records.now due.now entries → AreReady it.followed entries
+        → MatchResult result (λ _. HasOpened C.seen C.spares rows first counter.new (done ++ entries) next looked)
+        (Stops C.seen C.spares C.reason rows first counter.new (done ++ entries) next) }
 {
     if records.is_empty() {
         return Ok(());
@@ -81,10 +81,10 @@ fn post_together<C: Counter>(
 
 // Posts what waits.
 fn post_waiting<C: Counter>(waiting: &mut Waiting, counter: &mut C) -> Result<(), FollowFault>
-    ensures follows { (first : C) (rows : Rows) (looked : List Bool) (given : List AnsweredRequest)
-        → IsFollowing C.seen C.spares rows first counter.old given waiting.old looked
-        → MatchResult result (λ _. HasPosted C.seen C.spares rows first counter.new given waiting.new looked)
-        (Stops C.seen C.spares C.reason rows first counter.new given) }
+    ensures follows { (first : C) (rows : Rows) (looked : List Bool) (given next : List AnsweredRequest)
+        → IsFollowing C.seen C.spares rows first counter.old given next waiting.old looked
+        → MatchResult result (λ _. HasPosted C.seen C.spares rows first counter.new given next waiting.new looked)
+        (Stops C.seen C.spares C.reason rows first counter.new given next) }
     ensures empty { OnOk result (IsWaiting waiting.new []) }
     ensures moment { waiting.new.moment ≡ waiting.old.moment }
 {
@@ -122,12 +122,15 @@ fn row_of(plan: &Plan, branch: u64) -> Option<PlanRow>
     find_row(plan.rows(), branch)
 }
 
-// Opens a branch as the plan has it, if it has the branch.
+// Opens a branch as the plan has it, if it has the branch, for the next entry, where it wasn't opened before.
 fn open_planned<C: Counter>(plan: &Plan, branch: u64, counter: &mut C) -> Result<(), FollowFault>
-    ensures opens { (first : C) (rows : Rows) (looked looked' : List Bool) (done : List AnsweredRequest) → plan.now ≡ rows
-        → LooksAt looked looked' branch → HasOpened C.seen C.spares rows first counter.old done looked
-        → MatchResult result (λ _. HasOpened C.seen C.spares rows first counter.new done looked')
-        (Stops C.seen C.spares C.reason rows first counter.new done) }
+    ensures opens { (first : C) (rows : Rows) (looked : List Bool) (done : List AnsweredRequest) (a : AnsweredRequest)
+        → plan.now ≡ rows → Contains (needed_by a) branch → (slice_get looked branch ≡ Some true → ⊥)
+        → HasOpened C.seen C.spares rows first counter.old done (a ∷ []) looked
+        → MatchResult result (λ _. (looked' : List Bool) → LooksAt looked looked' branch
+        → (branch ≤ LAST_BRANCH → slice_get looked' branch ≡ Some true)
+        → HasOpened C.seen C.spares rows first counter.new done (a ∷ []) looked')
+        (Stops C.seen C.spares C.reason rows first counter.new done (a ∷ [])) }
     ensures within { IsSome (row_of plan.now branch) → branch ≤ LAST_BRANCH }
 {
     let Some(row) = row_of(plan, branch) else {
@@ -211,10 +214,11 @@ impl<'p> Follower<'p> {
 
     // Posts what waits.
     pub(crate) fn post<C: Counter>(&mut self, counter: &mut C) -> Result<(), FollowFault>
-        ensures follows { (first : C) (rows : Rows) (looked : List Bool) (given : List AnsweredRequest)
-            → IsFollowing C.seen C.spares rows first counter.old given self.old.waiting looked
-            → MatchResult result (λ _. HasPosted C.seen C.spares rows first counter.new given self.new.waiting looked)
-            (Stops C.seen C.spares C.reason rows first counter.new given) }
+        ensures follows { (first : C) (rows : Rows) (looked : List Bool) (given next : List AnsweredRequest)
+            → IsFollowing C.seen C.spares rows first counter.old given next self.old.waiting looked
+            → MatchResult result
+            (λ _. HasPosted C.seen C.spares rows first counter.new given next self.new.waiting looked)
+            (Stops C.seen C.spares C.reason rows first counter.new given next) }
         ensures empty { OnOk result (IsWaiting self.new.waiting []) }
         ensures plan { self.new.plan.now ≡ self.old.plan.now }
         ensures looked { self.new.looked ≡ self.old.looked }
@@ -222,14 +226,16 @@ impl<'p> Follower<'p> {
         post_waiting(&mut self.waiting, counter)
     }
 
-    // Opens a branch, if the plan has it and it wasn't asked for yet, after all that came before.
+    // Opens a branch that the next entry needs, if the plan has it and it wasn't asked for yet, after all that came
+    // before.
     fn open<C: Counter>(&mut self, branch: u64, counter: &mut C) -> Result<(), FollowFault>
-        ensures follows { (first : C) (rows : Rows) (given : List AnsweredRequest)
-            → self.old.plan.now ≡ rows
-            → IsFollowing C.seen C.spares rows first counter.old given self.old.waiting self.old.looked.items
+        ensures follows { (first : C) (rows : Rows) (given : List AnsweredRequest) (a : AnsweredRequest)
+            → self.old.plan.now ≡ rows → Contains (needed_by a) branch
+            → IsFollowing C.seen C.spares rows first counter.old given (a ∷ []) self.old.waiting self.old.looked.items
             → MatchResult result
-            (λ _. IsFollowing C.seen C.spares rows first counter.new given self.new.waiting self.new.looked.items)
-            (Stops C.seen C.spares C.reason rows first counter.new given) }
+            (λ _. IsFollowing C.seen C.spares rows first counter.new given (a ∷ []) self.new.waiting
+            self.new.looked.items)
+            (Stops C.seen C.spares C.reason rows first counter.new given (a ∷ [])) }
         ensures looked { OnOk result (IsLooked self.old.plan.now self.new.looked.items branch) }
         ensures keeps { OnOk result (LooksAt self.old.looked.items self.new.looked.items branch) }
         ensures plan { self.new.plan.now ≡ self.old.plan.now }
@@ -245,7 +251,8 @@ impl<'p> Follower<'p> {
 
     // Whether the plan was looked at for a branch.
     fn has_looked(&self, branch: u64) -> bool
-        ensures { result ≡ true → slice_get self.now.looked.items branch ≡ Some true }
+        ensures yes { result ≡ true → slice_get self.now.looked.items branch ≡ Some true }
+        ensures no { result ≡ false → slice_get self.now.looked.items branch ≡ Some true → ⊥ }
     {
         match self.looked.get(branch as usize) {
             Some(looked) => *looked,
@@ -267,12 +274,12 @@ impl<'p> Follower<'p> {
 
     // Posts what waits at another moment, or is as much as is posted together.
     fn make_room<C: Counter>(&mut self, moment: Moment, counter: &mut C) -> Result<(), FollowFault>
-        ensures follows { (first : C) (rows : Rows) (given : List AnsweredRequest)
-            → self.old.plan.now ≡ rows
-            → IsFollowing C.seen C.spares rows first counter.old given self.old.waiting self.old.looked.items
+        ensures follows { (first : C) (rows : Rows) (given next : List AnsweredRequest)
+            → IsFollowing C.seen C.spares rows first counter.old given next self.old.waiting self.old.looked.items
             → MatchResult result
-            (λ _. IsFollowing C.seen C.spares rows first counter.new given self.new.waiting self.new.looked.items)
-            (Stops C.seen C.spares C.reason rows first counter.new given) }
+            (λ _. IsFollowing C.seen C.spares rows first counter.new given next self.new.waiting
+            self.new.looked.items)
+            (Stops C.seen C.spares C.reason rows first counter.new given next) }
         ensures moment { OnOk result (self.new.waiting.moment ≡ moment) }
         ensures room { OnOk result (HasRoom self.new.waiting) }
         ensures plan { self.new.plan.now ≡ self.old.plan.now }
@@ -308,11 +315,11 @@ impl<'p> Follower<'p> {
     ) -> Result<(), FollowFault>
         ensures follows { (first : C) (rows : Rows) (given : List AnsweredRequest)
             → self.old.plan.now ≡ rows
-            → IsFollowing C.seen C.spares rows first counter.old given self.old.waiting self.old.looked.items
+            → IsFollowing C.seen C.spares rows first counter.old given [] self.old.waiting self.old.looked.items
             → MatchResult result
-            (λ _. IsFollowing C.seen C.spares rows first counter.new (given ++ answered entry.now ∷ [])
+            (λ _. IsFollowing C.seen C.spares rows first counter.new (given ++ answered entry.now ∷ []) []
             self.new.waiting self.new.looked.items)
-            (Stops C.seen C.spares C.reason rows first counter.new given) }
+            (Stops C.seen C.spares C.reason rows first counter.new given (answered entry.now ∷ [])) }
         ensures plan { self.new.plan.now ≡ self.old.plan.now }
     {
         self.open(branch_of_teller(entry.request.teller()), counter)?;
@@ -336,7 +343,7 @@ impl<'p> Follower<'p> {
         requires few { before + length entries.now < 2 ^ 128 }
         ensures follows { (first : C) (rows : Rows) (given : List AnsweredRequest)
             → self.old.plan.now ≡ rows
-            → HasPosted C.seen C.spares rows first counter.old given self.old.waiting self.old.looked.items
+            → HasPosted C.seen C.spares rows first counter.old given [] self.old.waiting self.old.looked.items
             → TakesAll C.seen C.spares C.reason rows first counter.new given entries.now before self.new.waiting
             self.new.looked.items result }
         ensures empty { OnOk result (IsWaiting self.new.waiting []) }

@@ -1,5 +1,6 @@
 -- A read, the entries that it completed, and each way to end.
 use Rattle.std.proofs.Common.{◌≡◌, ◌≤◌, ◌<◌, ◌++◌, ◌∙◌, [], List, ℕ, inl, inr, refl, sym, ap, arith, length, take}
+use Rattle.std.specs.Prelude.{Contains}
 use Rattle.std.proofs.KnownBytes.{Consumes-nil}
 use Rattle.std.proofs.lemmas.{List.length-append, List.length-map, List.length-take-le, Result.err_from_is_err_and}
 use Rattle.posting_core.specs.{believed.Batches.joined, believed.LogEntries.entries_of, believed.LogEntries.entry_of}
@@ -12,6 +13,9 @@ use Rattle.branch_loader.specs.declared.entry_stream.TheConstants.{BUFFER}
 use Rattle.branch_loader.proofs.entry_stream.follow.Goals as goal
 use Rattle.branch_loader.proofs.entry_stream.follow.Goals.{then-filled-ge-ENTRY_BYTES+in_ok-take_all}
 use Rattle.branch_loader.proofs.entry_stream.follow.Goals.{else-filled-ge-ENTRY_BYTES, in-Ok-fill_buffer, in-Err}
+
+no_elements : (b : ℕ) → Contains [] b → ⊥
+no_elements b has = omega (arith, has.1)
 
 few_left : (filled : ℕ) (buffer : List ℕ) → filled < 308 → length buffer ≡ BUFFER → length (take filled buffer) < 308
 few_left filled buffer few long =
@@ -47,7 +51,10 @@ reads-init g c = record {
     opened = record {
       followed = followed_none g.C.Counter.seen g.C.Counter.spares c.args.plan.now c.args.bank.now
           (g.met.C.Counter.spares_itself c.args.bank.now);
-      looks = λ b marked some. absurd (c.in-Ok.ensures.3 b marked);
+      looks = record {
+        there = λ b marked some. absurd (c.in-Ok.ensures.3 b marked);
+        noted = λ b has. absurd (no_elements b has);
+      };
     };
     counted = λ few. c.in-Ok.ensures.2;
   };

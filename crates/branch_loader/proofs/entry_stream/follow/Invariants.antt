@@ -20,6 +20,6 @@ invariant-reads g l = record {
   made : HasMade (g.R.Source.calls l.fn.reader) (g.R.Source.calls l.reader) l.counter;
   plan : l.follower.plan.now ≡ l.fn.plan;
   waits : IsWaiting l.follower.waiting [];
-  posted : HasPosted g.C.Counter.seen g.C.Counter.spares l.fn.plan l.fn.bank l.bank entries l.follower.waiting
+  posted : HasPosted g.C.Counter.seen g.C.Counter.spares l.fn.plan l.fn.bank l.bank entries [] l.follower.waiting
       l.follower.looked.items;
 }

@@ -7,7 +7,7 @@ use Rattle.posting_core.specs.believed.LogEntries.{AnsweredRequest}
 use Rattle.branch_loader.specs.Following.{HasOpened, IsFirstOther, opened_by, planned}
 use Rattle.branch_loader.specs.declared.follow_fault.FollowFault.TheVariants.{Bank}
 use Rattle.branch_loader.specs.declared.follow_fault.OtherReply.{OtherReply}
-use Rattle.branch_loader.proofs.Following.{differed, followed_more, looks_still, no_entry_waits, posts_open_none, refused_then}
+use Rattle.branch_loader.proofs.Following.{differed, followed_more, for_others, opened_for, opened_none, looks_still, no_entry_waits, posts_open_none, refused_then}
 use Rattle.branch_loader.proofs.Following.{texts_are_posts, texts_open_first}
 use Rattle.branch_loader.proofs.followers.post_together.Goals as goal
 
@@ -15,23 +15,28 @@ no_texts : (texts : List (List ℕ)) → length texts ≡ 0 → texts ≡ []
 no_texts [] zero = refl
 no_texts (text ∷ more) zero = absurd (omega (arith, zero))
 
+-- where there are records, there are entries
+some_records : (entries : List AnsweredRequest) (records : List (List ℕ)) → records ≡ map record_text entries
+    → (length records ≡ 0 → ⊥) → entries ≡ [] → ⊥
+some_records entries records are some none =
+    some (ap (λ (l : List (List ℕ)). length l) are ∙ length-map entries record_text
+    ∙ ap (λ (l : List AnsweredRequest). length l) none)
+
 pub returns-then-is_empty : goal.returns-then-is_empty
-returns-then-is_empty g c first rows looked done entries it counted texts ready =
+returns-then-is_empty g c first rows looked done entries next it counted texts ready =
     let zero : length c.args.records.now ≡ 0 = grind arith in
     let none = no_texts c.args.records.now zero in
-    subst (λ (l : List AnsweredRequest). HasOpened g.C.Counter.seen g.C.Counter.spares rows first c.args.counter.now l looked)
-    (sym (append-nil done) ∙ ap (λ (l : List AnsweredRequest). done ++ l)
-    (sym (no_entry_waits _ c.args.records.now _ entries texts none)))
-    it
+    opened_none g.C.Counter.seen g.C.Counter.spares rows first c.args.counter.now looked done entries next
+    (no_entry_waits _ c.args.records.now _ entries texts none) it
 
 pub returns-in_err-replies : goal.returns-in_err-replies
-returns-in_err-replies g c first rows looked done entries it counted texts ready =
+returns-in_err-replies g c first rows looked done entries next it counted texts ready =
     let fault = c.in_err-replies.field-0.0 in
     let same : c.from_residual.result ≡ Err (Bank fault) = search rules in
     rw same (refused_then g.C.Counter.seen g.C.Counter.spares rows first c.args.counter.now c.submit_all.new.self
-    (g.met.C.Counter.spares_then first c.args.counter.now c.submit_all.new.self) done entries it.followed _
+    (g.met.C.Counter.spares_then first c.args.counter.now c.submit_all.new.self) done entries next it.followed _
     (texts_are_posts (planned rows) c.args.moment c.args.records.now _ entries texts)
-    (texts_open_first rows (opened_by it.followed.commands) c.args.moment c.args.records.now _ entries texts ready)
+    (texts_open_first rows (opened_by it.followed.commands) c.args.moment c.args.records.now _ entries next texts ready)
     g.C.Counter.contents g.C.Counter.reason fault c.in_err-replies.ensures.call c.in_err-replies.ensures.spares)
 
 same_other : (n n' : ℕ) (given given' due due' : List (List ℕ)) (other : OtherReply) → IsFirstOther n given due other
@@ -54,12 +59,12 @@ as_many entries records replies due ours theirs same =
     ∙ sym (ap (λ (l : List (List ℕ)). length l) theirs ∙ length-map entries reply_text)
 
 pub returns-in-None : goal.returns-in-None
-returns-in-None g c first rows looked done entries it counted texts ready =
+returns-in-None g c first rows looked done entries next it counted texts ready =
     let given = c.in_ok-replies.ensures in
     followed_more g.C.Counter.seen g.C.Counter.spares rows first c.args.counter.now c.submit_all.new.self
-    (g.met.C.Counter.spares_then first c.args.counter.now c.submit_all.new.self) done entries it.followed _
+    (g.met.C.Counter.spares_then first c.args.counter.now c.submit_all.new.self) done entries next it.followed _
     (texts_are_posts (planned rows) c.args.moment c.args.records.now _ entries texts)
-    (texts_open_first rows (opened_by it.followed.commands) c.args.moment c.args.records.now _ entries texts ready)
+    (texts_open_first rows (opened_by it.followed.commands) c.args.moment c.args.records.now _ entries next texts ready)
     g.C.Counter.contents g.C.Counter.reason _ given.call given.spares looked
     (looks_still rows looked (opened_by it.followed.commands) _ (posts_open_none c.args.moment c.args.records.now) it.looks)
     (λ h log shows. sym (given.answer h log shows) ∙ sym c.as_slice.ensures.value
@@ -67,7 +72,7 @@ returns-in-None g c first rows looked done entries it counted texts ready =
     ∙ texts.replies_are)
 
 pub returns : goal.returns
-returns g c first rows looked done entries it counted texts ready few =
+returns g c first rows looked done entries next it counted texts ready few =
     let given = c.in_ok-replies.ensures in
     let replies = c.in_ok-replies.replies.items in
     let due = c.args.due.now in
@@ -80,11 +85,15 @@ returns g c first rows looked done entries it counted texts ready few =
     ∙ sym (ap (λ (l : List (List ℕ)). length l) texts.records_are ∙ length-map entries record_text) in
     let shown : length c.as_slice.result.now ≡ length replies = ap (λ (l : List (List ℕ)). length l) c.as_slice.ensures.value in
     let other = c.in-Some.ensures.other (omega (arith, few, all, before, same, shown)) in
+    let alone = for_others g.C.Counter.seen g.C.Counter.spares rows first c.args.counter.now done (entries ++ next)
+    (entries ++ []) it.followed (opened_for g.C.Counter.seen g.C.Counter.spares g.C.Counter.reason rows first
+    c.args.counter.now entries done entries next looked it
+    (λ none. some_records _ _ texts.records_are (grind arith) none)) in
     differed g.C.Counter.seen g.C.Counter.spares rows first c.args.counter.now c.submit_all.new.self
-    (g.met.C.Counter.spares_then first c.args.counter.now c.submit_all.new.self) done entries it.followed _
+    (g.met.C.Counter.spares_then first c.args.counter.now c.submit_all.new.self) done entries [] alone _
     (texts_are_posts (planned rows) c.args.moment c.args.records.now _ entries texts)
-    (texts_open_first rows (opened_by it.followed.commands) c.args.moment c.args.records.now _ entries texts ready)
-    g.C.Counter.contents g.C.Counter.reason _ given.call given.spares c.in-Some.other
+    (texts_open_first rows (opened_by it.followed.commands) c.args.moment c.args.records.now _ entries [] texts ready)
+    g.C.Counter.contents g.C.Counter.reason _ given.call given.spares refl c.in-Some.other
     (omega (arith, all, ours, other.entry, before, c.requires))
     (λ h log shows. same_other _ _ _ _ _ _ c.in-Some.other other before
     (c.as_slice.ensures.value ∙ given.answer h log shows) texts.replies_are)

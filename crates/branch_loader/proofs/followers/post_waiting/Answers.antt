@@ -15,20 +15,20 @@ counted_all done left given records all are =
     (sym (ap (λ (l : List (List ℕ)). length l) are ∙ length-map left record_text))
 
 pub returns-in_err-post_together-clause-follows : goal.returns-in_err-post_together-clause-follows
-returns-in_err-post_together-clause-follows g c first rows looked given it =
+returns-in_err-post_together-clause-follows g c first rows looked given next it =
     let fault = c.in_err-post_together.field-0.0 in
     let same : c.from_residual.result ≡ Err fault = search rules in
     rw same (stops_same g.C.Counter.seen g.C.Counter.spares g.C.Counter.reason rows first c.post_together.new.counter given
-    (it.done ++ it.left) fault it.all
-    (c.in_err-post_together.ensures first rows looked it.done it.left it.posted.opened it.posted.counted
+    next (it.done ++ it.left) fault it.all
+    (c.in_err-post_together.ensures first rows looked it.done it.left next it.posted.opened it.posted.counted
     (shown_texts _ _ _ _ _ it.left it.waits c.as_slice.ensures.value c.as_slice-2.ensures.value) it.ready))
 
 pub returns-clause-follows : goal.returns-clause-follows
-returns-clause-follows g c first rows looked given it = record {
+returns-clause-follows g c first rows looked given next it = record {
   opened =
       followed_same g.C.Counter.seen g.C.Counter.spares g.C.Counter.reason rows first c.post_together.new.counter given
-      looked it.done it.left it.all
-      (c.in_ok-post_together.ensures first rows looked it.done it.left it.posted.opened it.posted.counted
+      next looked it.done it.left it.all
+      (c.in_ok-post_together.ensures first rows looked it.done it.left next it.posted.opened it.posted.counted
       (shown_texts _ _ _ _ _ it.left it.waits c.as_slice.ensures.value c.as_slice-2.ensures.value) it.ready);
   counted = λ few.
       let all = counted_all it.done it.left given _ it.all it.waits.records_are in

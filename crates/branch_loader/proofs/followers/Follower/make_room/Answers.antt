@@ -8,8 +8,8 @@ returns-in_err-post g c =
     let fault = c.in_err-post.field-0.0 in
     let same : c.from_residual.result ≡ Err fault = search rules in
     record {
-      follows = λ first rows given is it.
-          rw same (c.in_err-post.ensures.follows first rows c.args.self.now.looked.items given it);
+      follows = λ first rows given next it.
+          rw same (c.in_err-post.ensures.follows first rows c.args.self.now.looked.items given next it);
       moment = rw same tt;
       room = rw same tt;
       plan = c.in_err-post.ensures.plan;
@@ -17,9 +17,9 @@ returns-in_err-post g c =
     }
 
 pub returns-clause-follows : goal.returns-clause-follows
-returns-clause-follows g c first rows given is it =
+returns-clause-follows g c first rows given next it =
     let looked = c.args.self.now.looked.items in
-    let posted = c.in_ok-post.ensures.follows first rows looked given it in
+    let posted = c.in_ok-post.ensures.follows first rows looked given next it in
     rw (c.in_ok-post.ensures.looked) (following_none g.C.Counter.seen g.C.Counter.spares g.C.Counter.reason rows first
-    c.post.new.counter given _ looked (record { opened = posted.opened; counted = posted.counted })
+    c.post.new.counter given next _ looked (record { opened = posted.opened; counted = posted.counted })
     (none_waits_at _ _ _ _ c.in_ok-post.ensures.empty))

@@ -1,5 +1,5 @@
 -- What came before is posted first.
-use Rattle.std.proofs.Common.{rules, ◌≡◌, ◌≤◌, ◌∙◌, Err, inl, refl, sym, subst}
+use Rattle.std.proofs.Common.{rules, ◌≡◌, ◌≤◌, ◌∙◌, [], ◌∷◌, Err, inl, refl, sym, subst}
 use Rattle.std.specs.Prelude.{IsSome}
 use Rattle.posting_rules.specs.declared.limits.TheConstants.{LAST_BRANCH}
 use Rattle.branch_loader.specs.Following.{row_of}
@@ -9,8 +9,8 @@ use Rattle.branch_loader.proofs.followers.Follower.open.Goals as goal
 
 pub returns-then-has_looked : goal.returns-then-has_looked
 returns-then-has_looked g c = record {
-  follows = λ first rows given is it. it;
-  looked = inl (c.has_looked.ensures c.if-has_looked.true);
+  follows = λ first rows given a is needs it. it;
+  looked = inl (c.has_looked.ensures.yes c.if-has_looked.true);
   keeps = looks_same c.args.self.now.looked.items c.args.branch;
   plan = refl;
 }
@@ -20,8 +20,8 @@ returns-in_err-post g c =
     let fault = c.in_err-post.field-0.0 in
     let same : c.from_residual.result ≡ Err fault = search rules in
     record {
-      follows = λ first rows given is it.
-          rw same (c.in_err-post.ensures.follows first rows c.args.self.now.looked.items given it);
+      follows = λ first rows given a is needs it.
+          rw same (c.in_err-post.ensures.follows first rows c.args.self.now.looked.items given (a ∷ []) it);
       looked = rw same tt;
       keeps = rw same tt;
       plan = c.in_err-post.ensures.plan;
@@ -33,10 +33,10 @@ returns-in_err-open_planned g c =
     let same : c.from_residual-in_err-open_planned.result ≡ Err fault = search rules in
     let looked = c.args.self.now.looked.items in
     record {
-      follows = λ first rows given is it.
-          let posted = c.in_ok-post.ensures.follows first rows looked given it in
-          rw same (c.in_err-open_planned.ensures.opens first rows looked looked given (c.in_ok-post.ensures.plan ∙ is)
-          (looks_same looked c.args.branch) posted.opened);
+      follows = λ first rows given a is needs it.
+          let posted = c.in_ok-post.ensures.follows first rows looked given (a ∷ []) it in
+          rw same (c.in_err-open_planned.ensures.opens first rows looked given a (c.in_ok-post.ensures.plan ∙ is) needs
+          (c.has_looked.ensures.no c.if-has_looked.false) posted.opened);
       looked = rw same tt;
       keeps = rw same tt;
       plan = c.in_ok-post.ensures.plan;
@@ -51,12 +51,12 @@ returns g c =
     c.in_ok-open_planned.ensures.within
     (subst (λ (l : Rows). IsSome (row_of l c.args.branch)) (sym c.in_ok-post.ensures.plan) some) in
     record {
-      follows = λ first rows given is it.
-          let posted = c.in_ok-post.ensures.follows first rows looked given it in
+      follows = λ first rows given a is needs it.
+          let posted = c.in_ok-post.ensures.follows first rows looked given (a ∷ []) it in
           rw (c.note.ensures.waiting) (following_none g.C.Counter.seen g.C.Counter.spares g.C.Counter.reason rows first
-          c.open_planned.new.counter given _ noted (record {
-            opened = c.in_ok-open_planned.ensures.opens first rows looked noted given (c.in_ok-post.ensures.plan ∙ is) at
-                posted.opened;
+          c.open_planned.new.counter given (a ∷ []) _ noted (record {
+            opened = c.in_ok-open_planned.ensures.opens first rows looked given a (c.in_ok-post.ensures.plan ∙ is) needs
+                (c.has_looked.ensures.no c.if-has_looked.false) posted.opened noted at c.note.ensures.has;
             counted = posted.counted;
           }) c.in_ok-post.ensures.empty);
       looked = unplanned_or_within c.args.self.now.plan.now noted c.args.branch within c.note.ensures.has;

@@ -2,4 +2,5 @@
 use Rattle.branch_loader.proofs.followers.Follower.post.Goals as goal
 
 pub returns-clause-follows : goal.returns-clause-follows
-returns-clause-follows g c first rows looked given it = c.post_waiting.ensures.follows first rows looked given it
+returns-clause-follows g c first rows looked given next it =
+    c.post_waiting.ensures.follows first rows looked given next it

@@ -1,20 +1,37 @@
 -- The branches are opened, there is room, and the entry waits.
-use Rattle.std.proofs.Common.{rules, ◌≡◌, ◌∙◌, ℕ, List, Bool, Err, ap, refl, sym, subst, true}
+use Rattle.std.proofs.Common.{rules, ◌≡◌, ◌∙◌, ℕ, List, [], ◌∷◌, Bool, Err, ap, refl, sym, subst, true, arith}
+use Rattle.std.specs.Prelude.{Contains, if◌then◌else◌}
+use Rattle.posting_core.specs.believed.LogEntries.{AnsweredRequest}
 use Rattle.posting_core.specs.Entries.{IsMomentOf, answered}
 use Rattle.std.specs.List.{AllByRecursion}
 use Rattle.branch_loader.specs.Following.{IsFollowing, IsLooked, had_account, needed_by}
 use Rattle.branch_loader.specs.believed.Plans.{Rows}
 use Rattle.posting_rules.specs.believed.Numbering.{branch_of_account, branch_of_teller}
-use Rattle.branch_loader.proofs.Following.{following_more, looked_still, needed_looked}
+use Rattle.branch_loader.proofs.Following.{following_more, following_next, looked_still, needed_looked}
 use Rattle.branch_loader.proofs.followers.Follower.take.Goals as goal
 use Rattle.branch_loader.proofs.followers.Follower.take.Goals.{else-had_account, then-had_account+in_ok-open-2}
+
+-- the branch of its teller, and that of its account where it was judged by that
+needs_teller : (a : AnsweredRequest) (b : ℕ) → b ≡ branch_of_teller a.request.teller → Contains (needed_by a) b
+needs_teller a b is = (0, omega arith, sym is)
+
+needs_account : (a : AnsweredRequest) (b : ℕ) → b ≡ branch_of_account a.request.account
+    → had_account a.reply.outcome ≡ true → Contains (needed_by a) b
+needs_account a b is had =
+    subst (λ (t : Bool). Contains (branch_of_teller a.request.teller
+    ∷ (if t then branch_of_account a.request.account ∷ [] else [])) b) (sym had) (1, omega arith, sym is)
 
 pub returns-in_err-open : goal.returns-in_err-open
 returns-in_err-open g c =
     let fault = c.in_err-open.field-0.0 in
     let same : c.from_residual.result ≡ Err fault = search rules in
     record {
-      follows = λ first rows given is it. rw same (c.in_err-open.ensures.follows first rows given is it);
+      follows = λ first rows given is it.
+          let a = answered c.args.entry.now in
+          rw same (c.in_err-open.ensures.follows first rows given a is (needs_teller a _ (c.branch_of_teller.ensures
+          ∙ ap branch_of_teller c.teller.ensures))
+          (following_next g.C.Counter.seen g.C.Counter.spares g.C.Counter.reason rows first c.args.counter.now given
+          (a ∷ []) c.args.self.now.waiting c.args.self.now.looked.items it));
       plan = c.in_err-open.ensures.plan;
     }
 
@@ -23,9 +40,16 @@ returns-in_err-open-2 g c =
     let fault = c.in_err-open-2.field-0.0 in
     let same : c.from_residual-in_err-open-2.result ≡ Err fault = search rules in
     let one = c.in_ok-open.ensures in
+    let a = answered c.args.entry.now in
     record {
       follows = λ first rows given is it.
-          rw same (c.in_err-open-2.ensures.follows first rows given (one.plan ∙ is) (one.follows first rows given is it));
+          rw same (c.in_err-open-2.ensures.follows first rows given a (one.plan ∙ is)
+          (needs_account a _ (c.branch_of_account.ensures ∙ ap branch_of_account c.account.ensures)
+          (cc (c.if-had_account.ensures, c.outcome.ensures)))
+          (one.follows first rows given a is (needs_teller a _ (c.branch_of_teller.ensures
+          ∙ ap branch_of_teller c.teller.ensures))
+          (following_next g.C.Counter.seen g.C.Counter.spares g.C.Counter.reason rows first c.args.counter.now given
+          (a ∷ []) c.args.self.now.waiting c.args.self.now.looked.items it)));
       plan = c.in_err-open-2.ensures.plan ∙ one.plan;
     }
 
@@ -41,15 +65,23 @@ returns-in_err-make_room g c =
     ] in
     record {
       follows = λ first rows given is it.
-          let both : IsFollowing g.C.Counter.seen g.C.Counter.spares rows first c.if-had_account.counter given
+          let a = answered c.args.entry.now in
+          let begun =
+          one.follows first rows given a is (needs_teller a _ (c.branch_of_teller.ensures
+          ∙ ap branch_of_teller c.teller.ensures))
+          (following_next g.C.Counter.seen g.C.Counter.spares g.C.Counter.reason rows first c.args.counter.now given
+          (a ∷ []) c.args.self.now.waiting c.args.self.now.looked.items it) in
+          let both : IsFollowing g.C.Counter.seen g.C.Counter.spares rows first c.if-had_account.counter given (a ∷ [])
           c.if-had_account.self.waiting c.if-had_account.self.looked.items =
           elim c.if-had_account.branch [
             | then-had_account+in_ok-open-2 w ↦
                 rw (w.self-is, w.counter-is)
-                (w.in_ok-open-2.ensures.follows first rows given (one.plan ∙ is) (one.follows first rows given is it))
-            | else-had_account w ↦ rw (w.self-is, w.counter-is) (one.follows first rows given is it)
+                (w.in_ok-open-2.ensures.follows first rows given a (one.plan ∙ is)
+                (needs_account a _ (w.branch_of_account.ensures ∙ ap branch_of_account w.account.ensures)
+                (cc (w.if-had_account.ensures, c.outcome.ensures))) begun)
+            | else-had_account w ↦ rw (w.self-is, w.counter-is) begun
           ] in
-          rw same (c.in_err-make_room.ensures.follows first rows given (planned ∙ is) both);
+          rw same (c.in_err-make_room.ensures.follows first rows given (a ∷ []) both);
       plan = c.in_err-make_room.ensures.plan ∙ planned;
     }
 
@@ -64,13 +96,21 @@ returns g c =
     ] in
     record {
       follows = λ first rows given is it.
-          let both : IsFollowing g.C.Counter.seen g.C.Counter.spares rows first c.if-had_account.counter given
+          let a = answered c.args.entry.now in
+          let begun =
+          one.follows first rows given a is (needs_teller a _ (c.branch_of_teller.ensures
+          ∙ ap branch_of_teller c.teller.ensures))
+          (following_next g.C.Counter.seen g.C.Counter.spares g.C.Counter.reason rows first c.args.counter.now given
+          (a ∷ []) c.args.self.now.waiting c.args.self.now.looked.items it) in
+          let both : IsFollowing g.C.Counter.seen g.C.Counter.spares rows first c.if-had_account.counter given (a ∷ [])
           c.if-had_account.self.waiting c.if-had_account.self.looked.items =
           elim c.if-had_account.branch [
             | then-had_account+in_ok-open-2 w ↦
                 rw (w.self-is, w.counter-is)
-                (w.in_ok-open-2.ensures.follows first rows given (one.plan ∙ is) (one.follows first rows given is it))
-            | else-had_account w ↦ rw (w.self-is, w.counter-is) (one.follows first rows given is it)
+                (w.in_ok-open-2.ensures.follows first rows given a (one.plan ∙ is)
+                (needs_account a _ (w.branch_of_account.ensures ∙ ap branch_of_account w.account.ensures)
+                (cc (w.if-had_account.ensures, c.outcome.ensures))) begun)
+            | else-had_account w ↦ rw (w.self-is, w.counter-is) begun
           ] in
           let looked = c.if-had_account.self.looked.items in
           let firstly : IsLooked rows c.open.new.self.looked.items c.branch_of_teller.result =
@@ -102,7 +142,7 @@ returns g c =
           tellers) accounts) in
           following_more g.C.Counter.seen g.C.Counter.spares g.C.Counter.reason rows first c.make_room.new.counter given
           c.make_room.new.self.waiting c.push.new.self c.make_room.new.self.looked.items (answered c.args.entry.now)
-          (made.follows first rows given (planned ∙ is) both)
+          (made.follows first rows given (a ∷ []) both)
           (λ entries waits. c.push.ensures.waits entries waits
           (subst (λ (m : ℕ). IsMomentOf (answered c.args.entry.now) m) (sym made.moment) c.moment_for-moment.ensures))
           c.push.ensures.posted marked;

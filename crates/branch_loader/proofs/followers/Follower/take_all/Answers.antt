@@ -50,7 +50,10 @@ returns-in_err-take-clause-follows g c first rows given is followed =
     c.take.new.counter c.args.self.now.plan.now c.args.self.now.waiting c.args.self.now.looked.items
     (take c.loop-i.i c.args.entries.now) c.loop-i.self.waiting c.take.new.self.waiting c.loop-i.self.looked.items
     c.take.new.self.looked.items c.loop-i.invariant.some c.args.entries.now c.args.before first rows given is followed
-    (drop c.loop-i.i c.args.entries.now) fault (take-append-drop c.loop-i.i c.args.entries.now)
+    (answered c.in-Some.entry ∷ []) (drop (c.loop-i.i + 1) c.args.entries.now) fault (c.in-Some.ensures.0, tt)
+    (ap (λ (t : List ℕ). take c.loop-i.i c.args.entries.now ++ t ∷ drop (c.loop-i.i + 1) c.args.entries.now)
+    c.in-Some.ensures.1
+    ∙ apart c.args.entries.now c.loop-i.i (omega (arith, c.loop-i-test.true)))
     (λ more it. c.in_err-take.ensures.follows first rows more (c.loop-i.invariant.plan ∙ is) it))
 
 pub returns-in_err-post-in-None-clause-follows : goal.returns-in_err-post-in-None-clause-follows
@@ -61,8 +64,8 @@ returns-in_err-post-in-None-clause-follows g c first rows given is followed =
     c.post.new.counter c.args.self.now.plan.now c.args.self.now.waiting c.args.self.now.looked.items
     (take c.loop-i.i c.args.entries.now) c.loop-i.self.waiting c.post.new.self.waiting c.loop-i.self.looked.items
     c.post.new.self.looked.items c.loop-i.invariant.some c.args.entries.now c.args.before first rows given is followed
-    (drop c.loop-i.i c.args.entries.now) fault (take-append-drop c.loop-i.i c.args.entries.now)
-    (λ more it. c.in_err-post-in-None.ensures.follows first rows c.loop-i.self.looked.items more it))
+    [] (drop c.loop-i.i c.args.entries.now) fault tt (take-append-drop c.loop-i.i c.args.entries.now)
+    (λ more it. c.in_err-post-in-None.ensures.follows first rows c.loop-i.self.looked.items more [] it))
 
 pub returns-in-None-clause-follows : goal.returns-in-None-clause-follows
 returns-in-None-clause-follows g c first rows given is followed =
@@ -75,7 +78,7 @@ returns-in-None-clause-follows g c first rows given is followed =
     c.post.new.self.looked.items c.loop-i.invariant.some texts c.args.before first rows given is followed
     (get_or texts c.loop-i.i []) (drop (c.loop-i.i + 1) texts) _ (apart texts c.loop-i.i low)
     (omega (arith, front)) c.in-None.ensures
-    (λ more it. rw (c.in_ok-post-in-None.ensures.looked) (c.in_ok-post-in-None.ensures.follows first rows c.loop-i.self.looked.items more it))
+    (λ more it. rw (c.in_ok-post-in-None.ensures.looked) (c.in_ok-post-in-None.ensures.follows first rows c.loop-i.self.looked.items more [] it))
 
 pub returns-clause-follows : goal.returns-clause-follows
 returns-clause-follows g c first rows given is followed =
@@ -86,4 +89,4 @@ returns-clause-follows g c first rows given is followed =
     (take c.loop-i.i texts) c.loop-i.self.waiting c.post-2.new.self.waiting c.loop-i.self.looked.items
     c.post-2.new.self.looked.items c.loop-i.invariant.some texts c.args.before first rows given is followed
     c.post-2.result (take_all c.loop-i.i texts high)
-    (λ more it. rw (c.post-2.ensures.looked) (c.post-2.ensures.follows first rows c.loop-i.self.looked.items more it))
+    (λ more it. rw (c.post-2.ensures.looked) (c.post-2.ensures.follows first rows c.loop-i.self.looked.items more [] it))
