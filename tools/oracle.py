@@ -195,7 +195,8 @@ def definition(conn, table):
     """What SQLite says of a table: its columns, its indexes, what refers to others, and the words of its other rules."""
     text = conn.execute("SELECT sql FROM sqlite_master WHERE type = 'table' AND name = ?", (table,)).fetchone()
     indexes = conn.execute(f"PRAGMA index_list({table})").fetchall()
-    return (text and re.findall(r"STRICT|CHECK *\(.*?\)|AUTOINCREMENT|COLLATE \w+", text[0], re.IGNORECASE),
+    plain = "".join(re.sub(r"/\*.*?\*/|--[^\n]*", " ", text[0], flags=re.DOTALL).upper().split()) if text else ""
+    return (re.findall(r"STRICT|CHECK\(.*?\)|AUTOINCREMENT|COLLATE\w+", plain),
             conn.execute(f"PRAGMA table_xinfo({table})").fetchall(),
             sorted((row[2:], conn.execute(f"PRAGMA index_xinfo({row[1]})").fetchall()) for row in indexes),
             conn.execute(f"PRAGMA foreign_key_list({table})").fetchall(),
@@ -311,6 +312,18 @@ def difference_line(row, columns, one, other):
 
 def replay(file):
     """What the bank prints of a replay of a path or of a connection, and its status."""
+    conn = sqlite3.connect(file) if isinstance(file, str) else file
+    try:
+        meta = conn.execute("SELECT version FROM meta").fetchall()
+    except sqlite3.OperationalError:
+        return ["bank: no bank"], 4
+    finally:
+        if conn is not file:
+            conn.close()
+    if len(meta) != 1:
+        return ["bank: damaged rule 1"], 3
+    if meta[0][0] != VERSION:
+        return [f"bank: version {meta[0][0]}"], 4
     if other_table(file):
         return [f"table {other_table(file)} is defined otherwise", "DIFFERS"], 5
     tables = tables_of(file)
