@@ -40,6 +40,7 @@ for it in standby evening watch; do
 done
 install -m 644 examples/completion.bash "$root/usr/share/bash-completion/completions/bank"
 install -m 644 examples/bank.nft "$root/etc/bank/"
+install -D -m 644 examples/teller.logrotate "$root/etc/logrotate.d/bank-teller"
 for unit in examples/*.service examples/*.timer; do
     sed -e '/^#     install/d' -e s,/usr/local/bin/,/usr/bin/, "$unit" >"$root/lib/systemd/system/$(basename "$unit")"
 done
@@ -89,7 +90,7 @@ Description: ledger of a bank's tellers in one file
  program is written in Rattle, with a proof of each function; the page for
  tellers, the units and the scripts are tested.
 END
-echo /etc/bank/bank.nft >"$root/DEBIAN/conffiles"
+printf '%s\n' /etc/bank/bank.nft /etc/logrotate.d/bank-teller >"$root/DEBIAN/conffiles"
 cat >"$root/DEBIAN/postinst" <<'END'
 #!/bin/sh
 set -e

@@ -6,8 +6,8 @@ a whole machine. At each end every posting that was answered stands in the bank.
 
     tools/runbook.py
 
-It needs root, the built program, and Debian's nginx, nftables, apache2-utils, openssl, sqlite3, curl and psmisc. It is bounded in
-time, uses no network, and stands outside the gate."""
+It needs root, the built program, and Debian's nginx, nftables, apache2-utils, openssl, sqlite3, curl, logrotate and
+psmisc. It is bounded in time, uses no network, and stands outside the gate. Each unit is 2 or better by `systemd-analyze security`."""
 import contextlib
 import os
 import re
@@ -203,6 +203,10 @@ class Drill:
         time.sleep(2)
         self.posts(one)
         ensure(len(self.answered) == 10, "a teller who joined can't post")
+        one.does("systemd-analyze security --no-pager --threshold=20 bank teller standby evening watch bank-alarm@bank")
+        one.does("logrotate --force /etc/logrotate.d/bank-teller")
+        self.posts(one, 1)
+        ensure(one.does("cat /var/lib/teller/access.log").count(f'"00000001 {self.number:010}"') == 1, "a posting has no line in the log")
         one.plays("Stop and start")
         one.plays("The evening raised an alarm")
         self.posts(one)

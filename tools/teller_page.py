@@ -84,6 +84,20 @@ def hashes():
         file.write(configuration)
 
 
+def texts():
+    """Each language of the page has the same texts with the same places, and each that the page names."""
+    with open(HERE + "/examples/teller.html", encoding="utf-8") as file:
+        page = file.read()
+    table = page[page.index("const TEXTS"):page.index("let language")]
+    parts = re.split(r"^  (\w\w): \{$", table, flags=re.M)[1:]
+    first, *others = ({name: sorted(re.findall(r"\{\w+\}", text)) for name, text in
+                       re.findall(r"'([^'\n]+)':((?:\s+(?:\+ )?'(?:[^'\\]|\\.)*'(?: \+)?)+)", part)} for part in parts[1::2])
+    for other in others:
+        same("the texts of two languages", sorted(other.items()), sorted(first.items()))
+    named = set(re.findall(r"(?:words\(|data-text=|data-label=)['\"]([^'\"]+)['\"]", page))
+    ensure(len(first) > 100 and not named - first.keys(), f"texts that are missing: {named - first.keys()}")
+
+
 class Page:
     """The page in a browser, as somebody who uses it."""
 
@@ -468,11 +482,12 @@ def saved(place, page):
     page.settled()
     try:
         other.sign_in("teller1", "counter1")
-        for change, said in (('"account": "2"', "has no postings of teller 1"), (None, "1 taken in.")):
-            given = json.dumps(text.replace(change, '"account": "3"') if change else text)
-            other.act(f"(it => {{ it.items.add(new File([{given}], 'a.json')); {element('file')}.files = it.files; "
+        for given in (text.replace('"account": "2"', '"account": "3"'), text):
+            other.act(f"(it => {{ it.items.add(new File([{json.dumps(given)}], 'a.json')); {element('file')}.files = it.files; "
                       f"{element('file')}.dispatchEvent(new Event('change')) }})(new DataTransfer())")
-            other.note("wrong" if change else "done", said)
+            if given != text:
+                other.note("wrong", "has no postings of teller 1")
+        other.listed("SAVED")
         other.settled()
         same("what was taken in", other.browser.run(LINES)[0][1:5], ["2", "0.03", "SAVED", "Posted"])
     finally:
@@ -517,6 +532,9 @@ def told(place, page):
         page.browser.keys(ESCAPE)
         page.settled()
     sets('{"bank": "Bank of Trials", "currency": "EUR", "language": "de", "lock after minutes": 0.1}')
+    # Firefox asks its user first.
+    if page.kind is Chromium:
+        same("what may be deleted", page.browser.run(f"navigator.storage.persisted().then(it => it === !{element('keeps')}.textContent)"), True)
     same("its language", page.browser.run(f"[{element('in')}.textContent, {element('list-title')}.textContent]"), ["Ein", "Buchungen"])
     same("texts in both languages", page.browser.run("document.body.innerText.includes('undefined')"), False)
     page.prints(lambda: page.press("Beleg: Nummer"), "Bank of Trials", "Stand danach", "EUR", "Unterschrift")
@@ -796,6 +814,7 @@ def main():
         hashes()
         return
     need_program()
+    texts()
     if sys.argv[1:] == ["pictures"]:
         pictures()
         return
