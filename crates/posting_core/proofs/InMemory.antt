@@ -1,12 +1,14 @@
 -- The rows of a bank in memory show a log, and what a call does to them shows the log with its command.
 use Rattle.std.proofs.Common.{◌≡◌, List, [], length, Option, Some, None, Result, Ok, Err, refl, sym, subst, ◌∙◌}
-use Rattle.std.proofs.Common.{ℕ, ◌+◌, ◌≤◌, ◌<◌, IfOk, arith}
+use Rattle.std.proofs.Common.{ℕ, ◌+◌, ◌≤◌, ◌<◌, IfOk, ap, arith}
 use Rattle.std.specs.{Prelude.ℤ, Option.option_map, Result.IsErrAnd}
 use Rattle.std.proofs.lemmas.Result.{err_from_is_err_and}
 use Rattle.posting_rules.specs.declared.{rows.BranchRow.BranchRow, rows.TellerRow.TellerRow, fault.Fault.Fault}
 use Rattle.posting_rules.specs.declared.{rows.AccountRow.AccountRow, rows.HistoryRow.HistoryRow}
 use Rattle.posting_rules.specs.declared.{rows.RequestRow.RequestRow, rows.FloorRow.FloorRow}
 use Rattle.posting_rules.specs.declared.{rows.ReferenceRow.ReferenceRow, fault.Fault.TheVariants.Memory}
+use Rattle.posting_rules.specs.believed.AnyTables.{AnswersByTables}
+use Rattle.posting_rules.specs.believed.Changes.{replies_past_all, tables_past_all}
 use Rattle.posting_rules.specs.believed.Commands.{Command, AreCommands}
 use Rattle.posting_rules.specs.believed.{Runs.followed_by, Tables.Tables, Tables.AreTablesOf}
 use Rattle.posting_rules.specs.believed.Counter.{IsCounterCall, IsSeenUnchanged, ShowsLog, StandsAt, Takes}
@@ -86,6 +88,18 @@ pub after_plain : (old new : PlainBank) (cs : List Command) (change : Tables →
 after_plain old new cs change valid is shows =
     takes_plain old new cs valid
     (λ log s. subst (λ (t : Tables). AreTablesOf t (followed_by log cs)) (sym is) (shows log s))
+
+-- records led to its rows, whatever they were
+pub by_tables_plain : (old new : PlainBank) (m : ℕ) (records answers : List (List ℕ))
+    → answers ≡ replies_past_all (plain_tables old) m records
+    → plain_tables new ≡ tables_past_all (plain_tables old) m records
+    → AnswersByTables (plain_seen old) (plain_seen new) m records answers
+by_tables_plain old new m records answers replies rows = record {
+  are = λ h t room is. replies ∙ ap (λ (u : Tables). replies_past_all u m records) (sym is);
+  shows = λ h t room is. ap (λ (u : Tables). tables_past_all u m records) is ∙ sym rows;
+  survives = λ h t room is only remains left.
+      (remains, refl, left ∙ rows ∙ ap (λ (u : Tables). tables_past_all u m records) (sym is));
+}
 
 -- ---- a call
 

@@ -9,6 +9,7 @@ pub mod Batched
 pub mod Again
 pub mod Prompt
 pub mod Stops
+pub mod ByTables
 pub mod Streaming
 pub mod ReadsFollowed
 pub mod StreamedBatches

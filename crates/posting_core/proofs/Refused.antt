@@ -42,7 +42,7 @@ pub refused_broken : {C : Type 0} (seen : C → Seen) (reason : Fault → C → 
     → length rs ≤ RECORDS_PER_BATCH
     → (count ≡ 0 → stood ≡ old) → ((seen stood).is_down → (seen old).is_down × (count ≡ 0))
     → ((seen new).honest → (seen stood).honest)
-    → BreaksOff fault v v' (seen stood) (seen new) (posts m rs) → ((seen stood).is_down → fault ≡ Bank Down)
+    → BreaksOff fault v v' (seen stood) (seen new) m rs → ((seen stood).is_down → fault ≡ Bank Down)
     → IfBank fault (λ cause. reason cause stood new)
     → IfBank fault (IsRefusedAfterBatches seen reason old new r r')
 refused_broken seen reason old stood new {r = r} {r' = r'} {done = done} {count = count} v v'
@@ -83,13 +83,13 @@ refused_broken seen reason old stood new v v'
 -- ---- whether it is down
 
 -- a bank that is down after a batch that broke off was down before it
-pub up_broken : (v v' : Option (List ℕ)) (old stood new : Seen) (cs : List Command) (fault : StreamFault)
-    → BreaksOff fault v v' stood new cs
+pub up_broken : (v v' : Option (List ℕ)) (old stood new : Seen) (m : ℕ) (rs : List (List ℕ)) (fault : StreamFault)
+    → BreaksOff fault v v' stood new m rs
     → IfTaken {A = Unit {0}} (Err fault) (new.is_down → ⊥) → (stood.is_down → old.is_down)
     → UnlessDown (Err fault) (new.is_down → old.is_down)
-up_broken v v' old stood new cs Write a up before = λ d. absurd (up d)
-up_broken v v' old stood new cs (Bank Memory) a up before = λ d. before (a.refuses.down d)
-up_broken v v' old stood new cs (Bank Store) a up before = tt
-up_broken v v' old stood new cs Read a up before = absurd a
-up_broken v v' old stood new cs (Truncated n) a up before = absurd a
-up_broken v v' old stood new cs other a up before = tt
+up_broken v v' old stood new m rs Write a up before = λ d. absurd (up d)
+up_broken v v' old stood new m rs (Bank Memory) a up before = λ d. before (a.refuses.down d)
+up_broken v v' old stood new m rs (Bank Store) a up before = tt
+up_broken v v' old stood new m rs Read a up before = absurd a
+up_broken v v' old stood new m rs (Truncated n) a up before = absurd a
+up_broken v v' old stood new m rs other a up before = tt

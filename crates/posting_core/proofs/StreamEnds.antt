@@ -9,10 +9,14 @@ use Rattle.posting_rules.specs.declared.fault.Fault.TheVariants.{Memory}
 use Rattle.posting_core.specs.{declared.stream.StreamFault.StreamFault, believed.Clock.AreReadings, Clock.IsReading}
 use Rattle.posting_core.specs.{Batches.BreaksOff, believed.EndCalls.ReadCall, EndCalls.Beside, EndCalls.WriteCall}
 use Rattle.posting_core.specs.declared.stream.StreamFault.TheVariants.{Truncated, Read, Write, Bank}
-use Rattle.posting_rules.specs.believed.Counter.{Seen, ShowsLog, StandsAt, Refuses, IsSeenUnchanged}
+use Rattle.posting_rules.specs.believed.Counter.{LeavesOnly, Seen, ShowsLog, StandsAt, Refuses, IsSeenUnchanged}
+use Rattle.posting_rules.specs.believed.Tables.{Tables}
 use Rattle.posting_rules.specs.believed.Runs.{followed_by, posts, replies_to}
 use Rattle.posting_core.specs.believed.Batches.{Batch, IsBatch, IsRecord, joined, moments_of, records_of, posts_of}
-use Rattle.posting_core.specs.believed.Stream.{EndsStream, RepliesAreWritten, IfUp, UnlessDown}
+use Rattle.posting_core.specs.believed.Stream.{EndsStream, IsStreamedOn, RepliesAreWritten, IfUp, UnlessDown}
+use Rattle.posting_rules.specs.believed.AnyTables.{HasRoom}
+use Rattle.posting_core.specs.believed.ByTables.{BatchesByTables}
+use Rattle.posting_core.proofs.{Batched.joined-append, ByTables.batch_more}
 use Rattle.posting_core.specs.Stream.{FollowReads, StreamsAsRead, read_by, submitted_by}
 use Rattle.posting_core.proofs.{ReadsFollowed.Following, Prompt.prompt_written, Streaming.Going}
 use Rattle.posting_core.proofs.Batched.{posts_of_one_more, replies_of_one_more}
@@ -26,6 +30,26 @@ use Rattle.posting_core.proofs.StreamedBatches.{all_more, takes_batch, read_batc
 pub record FitsAll (result : Result ℕ StreamFault) : Type 1 where
   pub written : (t s : List ℕ) → t ≡ s → RepliesAreWritten result t s
   pub up : (P : Type 0) → P → UnlessDown result P
+
+streamed_on : (result : Result ℕ StreamFault) → FitsAll result → (c c' : Seen) (done : List Batch) (written : List ℕ)
+    (answers : List (List ℕ)) → BatchesByTables c c' done answers → written ≡ joined answers → c'.honest → (t : Tables)
+    → HasRoom t → c.tables t → IsStreamedOn t c c' done written result
+streamed_on result fits c c' done written answers led texts h t room there = record {
+  replies = fits.written written _ (texts ∙ ap joined (led.are h t room there));
+  shows = fits.up _ (led.shows h t room there);
+  survives = λ only. fits.up _ (led.survives h t room there only);
+}
+
+-- so it is where the last of the replies were written in part
+streamed_in_part : (c c'' : Seen) (bs : List Batch) (one two : List ℕ) (before answers : List (List ℕ))
+    → BatchesByTables c c'' bs (before ++ answers) → one ≡ joined before → two ≡ take (length two) (joined answers)
+    → c''.honest → (t : Tables) → HasRoom t → c.tables t → IsStreamedOn t c c'' bs (one ++ two) (Err Write)
+streamed_in_part c c'' bs one two before answers led is part h t room there = record {
+  replies = written_part one two (joined before) (joined answers) is part
+      ∙ ap (take (length (one ++ two))) (sym (joined-append before answers) ∙ ap joined (led.are h t room there));
+  shows = led.shows h t room there;
+  survives = led.survives h t room there;
+}
 
 -- batches and none more follow the same reads
 abbrev follow_all : {q q' : Option (List ReadCall)} {done : List Batch} → FollowReads q q' done
@@ -45,7 +69,7 @@ end_of : {r r' w w' k k' : Option (List ℕ)} {q q' : Option (List ReadCall)} {b
     (result : Result ℕ StreamFault) (g : Going r r' w w' k k' c c' done rest count written)
     → FitsAll result → length rest < 100 → EndsStream result r' done [] rest
     → Following q q' b b' w t done left written → StreamsAsRead r r' q q' b b' w w' t k k' c c' result
-end_of {r = r} {r' = r'} {k = k} {k' = k'} {c' = c'} {done = done} {rest = rest}
+end_of {r = r} {r' = r'} {k = k} {k' = k'} {c = c} {c' = c'} {done = done} {rest = rest}
     {written = written} result g fits few ends follow =
     let none : done ++ [] ≡ done = append-nil done in
     record {
@@ -66,6 +90,7 @@ end_of {r = r} {r' = r'} {k = k} {k' = k'} {c' = c'} {done = done} {rest = rest}
             (g.replies h log s);
         shows = λ h log s. fits.up (ShowsLog c' (followed_by log (posts_of done))) (g.takes.shows h log s);
         stands = λ h log s. fits.up (StandsAt c' (followed_by log (posts_of done))) (g.takes.stands h log s);
+        by_tables = streamed_on result fits c c' done written g.answers g.by_tables g.texts;
         survives = λ h log s. stop_all c' log (posts_of (done ++ [])) (posts_of done)
             (ap posts_of none)
             (g.takes.stands h log s);
@@ -130,6 +155,16 @@ refused_stands Memory c c' log cs u s = record {
 }
 refused_stands other c c' log cs u s = tt
 
+refused_tables : (fault : Fault) (c c' : Seen) (t : Tables) (cs : List Command) → Refuses fault c c' cs → c.tables t
+    → IfUp fault (c'.tables t)
+refused_tables Memory c c' t cs u there = u.tables t there
+refused_tables other c c' t cs u there = tt
+
+refused_leaves : (fault : Fault) (c c' : Seen) (t : Tables) (cs : List Command) → Refuses fault c c' cs
+    → LeavesOnly c (λ left. left ≡ t) → IfUp fault (LeavesOnly c' (λ left. left ≡ t))
+refused_leaves Memory c c' t cs u only = leaves_still c c' (λ left. left ≡ t) u.left only
+refused_leaves other c c' t cs u only = tt
+
 -- a batch broke off
 pub end_broken : (fault : StreamFault) {r r' w w' w'' k k' k'' : Option (List ℕ)}
     {q q' : Option (List ReadCall)} {v v' : Option (List Beside)} {t : Option (List WriteCall)}
@@ -137,7 +172,7 @@ pub end_broken : (fault : StreamFault) {r r' w w' w'' k k' k'' : Option (List �
     (rs : List (List ℕ))
     → Going r r' w w' k k' c c' done all count written → (all ≡ joined rs ++ rest) × AllByRecursion IsRecord rs
     → (1 ≤ length rs) × (length rs ≤ RECORDS_PER_BATCH) → length rest < 100
-    → IsReading k' k'' m → (c''.honest → c'.honest) → BreaksOff fault w' w'' c' c'' (posts m rs)
+    → IsReading k' k'' m → (c''.honest → c'.honest) → BreaksOff fault w' w'' c' c'' m rs
     → Following q q' v v' w t (done ++ record { moment = m; records = rs } ∷ []) left written
     → StreamsAsRead r r' q q' v v' w w'' t k k'' c c'' (Err fault)
 end_broken Write {r = r} {r' = r'} {w = w} {w' = w'} {w'' = w''} {k = k} {k' = k'} {k'' = k''}
@@ -172,6 +207,8 @@ end_broken Write {r = r} {r' = r'} {w = w} {w' = w'} {w'' = w''} {k = k} {k' = k
             (sym (replies_of_one_more log done b));
         shows = λ h log s. takes.shows h log s;
         stands = λ h log s. takes.stands h log s;
+        by_tables = streamed_in_part c c'' bs written a.written g.answers a.answers
+            (batch_more c c' c'' done b g.answers a.answers honest g.by_tables a.by_tables) g.texts a.texts;
         survives = λ h log s. stop_all c'' log (posts_of (bs ++ [])) (posts_of bs) (ap posts_of none)
             (takes.stands h log s);
       };
@@ -200,6 +237,14 @@ end_broken (Bank fault) {r = r} {r' = r'} {w = w} {w' = w'} {w'' = w''} {k = k} 
             (g.takes.shows (honest h) log s);
         stands = λ h log s. refused_stands fault c' c'' (followed_by log (posts_of done)) (posts m rs) a.refuses
             (g.takes.stands (honest h) log s);
+        by_tables = λ h t room there.
+            let led = g.by_tables in
+            record {
+              replies = g.texts ∙ ap joined (led.are (honest h) t room there);
+              shows = refused_tables fault c' c'' _ (posts m rs) a.refuses (led.shows (honest h) t room there);
+              survives = λ only. refused_leaves fault c' c'' _ (posts m rs) a.refuses
+                  (led.survives (honest h) t room there only);
+            };
         survives = λ h log s. stop_part c'' log (posts_of done) (posts m rs)
             (posts_of (done ++ b ∷ []))
             (posts_of_one_more done b)

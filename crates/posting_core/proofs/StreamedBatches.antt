@@ -12,8 +12,8 @@ use Rattle.posting_core.specs.{Clock.IsReading, Batches.BatchIsAnswered}
 use Rattle.posting_core.specs.believed.Batches.{Batch, IsBatch, IsRecord, joined, moment_of, moments_of, records_of}
 use Rattle.posting_core.specs.believed.Batches.{posts_in, posts_of}
 use Rattle.posting_rules.proofs.Sequence.{after-append}
-use Rattle.posting_core.proofs.Batched.{joined_one_more, records_one_more, posts_of_one_more, replies_of_one_more}
-use Rattle.posting_core.proofs.Streaming.{Going}
+use Rattle.posting_core.proofs.Batched.{joined-append, joined_one_more, records_one_more, posts_of_one_more, replies_of_one_more}
+use Rattle.posting_core.proofs.{ByTables.batch_more, Streaming.Going}
 pub use Rattle.posting_batch.proofs.NextOrdinals.{all_more}
 
 readings_more : (k k' k'' : Option (List ℕ)) (ms : List ℕ) (m : ℕ) → AreReadings k k' ms → IsReading k' k'' m
@@ -64,12 +64,11 @@ clock_batch k k' k'' bs b x y =
     (readings_more k k' k'' (moments_of bs) b.moment x y)
 
 longer_by : (bs : List Batch) (b : Batch) (before written : List ℕ)
-    → length before ≡ 200 * length (records_of bs) → length written ≡ 200 * length (posts_in b)
+    → length before ≡ 200 * length (records_of bs) → length written ≡ 200 * length b.records
     → length (before ++ written) ≡ 200 * length (records_of (bs ++ b ∷ []))
 longer_by bs b before written x y = omega (
   arith,
   length-append before written,
-  length-map b.records (Post b.moment),
   ap length (records_one_more bs b) ∙ length-append (records_of bs) b.records,
 )
 
@@ -80,7 +79,7 @@ pub going_batch : {r r' w w' w'' k k' k'' : Option (List ℕ)} {c c' c'' : Seen}
     → Going r r' w w' k k' c c' done all count before → (all ≡ joined rs ++ rest) × AllByRecursion IsRecord rs
     → (1 ≤ length rs) × (length rs ≤ RECORDS_PER_BATCH)
     → count' ≡ count + length rs
-    → IsReading k' k'' m → (c''.honest → c'.honest) → (a : BatchIsAnswered w' w'' c' c'' (posts m rs))
+    → IsReading k' k'' m → (c''.honest → c'.honest) → (a : BatchIsAnswered w' w'' c' c'' m rs)
     → Going r r' w w'' k k'' c c'' (done ++ record { moment = m; records = rs } ∷ []) rest count'
     (before ++ a.written)
 going_batch {r = r} {r' = r'} {w = w} {w' = w'} {w'' = w''} {k = k} {k' = k'} {k'' = k''} {c = c} {c' = c'}
@@ -101,4 +100,8 @@ going_batch {r = r} {r' = r'} {w = w} {w' = w'} {w'' = w''} {k = k} {k' = k'} {k
           ∙ ap (λ (t : List ℕ). joined (replies_to log (posts_of bs)) ++ t)
           (a.replies h (followed_by log (posts_of bs)) (g.takes.shows (honest h) log s))
           ∙ sym (replies_of_one_more log bs b);
+      answers = g.answers ++ a.answers;
+      by_tables = batch_more c c' c'' bs b g.answers a.answers honest g.by_tables a.by_tables;
+      texts = ap (λ (t : List ℕ). t ++ a.written) g.texts ∙ ap (λ (t : List ℕ). joined g.answers ++ t) a.texts
+          ∙ sym (joined-append g.answers a.answers);
     }

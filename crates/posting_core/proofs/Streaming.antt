@@ -10,6 +10,8 @@ use Rattle.posting_core.specs.{declared.stream.TheConstants.BUFFER, believed.Clo
 use Rattle.posting_rules.specs.believed.{Commands.Command, Runs.replies_to}
 use Rattle.posting_rules.specs.believed.Counter.{Seen, ShowsLog, Takes}
 use Rattle.posting_core.specs.believed.Batches.{Batch, IsBatch, IsRecord, joined, moments_of, records_of, posts_of}
+use Rattle.posting_core.specs.believed.ByTables.{BatchesByTables}
+use Rattle.posting_core.proofs.ByTables.{no_batches}
 
 -- ---- where the loop stands
 
@@ -28,11 +30,14 @@ pub record Going (r r' w w' k k' : Option (List ℕ)) (c c' : Seen) (done : List
   pub takes : Takes c c' (posts_of done)
   pub replies : c'.honest → (log : List Command) → ShowsLog c log
       → written ≡ joined (replies_to log (posts_of done))
+  pub answers : List (List ℕ)
+  pub by_tables : BatchesByTables c c' done answers
+  pub texts : written ≡ joined answers
 
 -- at first nothing was done
 pub going_first : {r w k : Option (List ℕ)} {c : Seen} (rest : List ℕ) → rest ≡ []
     → Going r r w w k k c c [] rest 0 []
-going_first {r = r} {w = w} rest e = record {
+going_first {r = r} {w = w} {c = c} rest e = record {
   read = subst (λ (t : List ℕ). Consumes r r t) (sym e) (Consumes-nil r);
   whole = tt;
   sizes = tt;
@@ -43,6 +48,9 @@ going_first {r = r} {w = w} rest e = record {
   honest = λ h. h;
   takes = record { shows = λ h log s. s; stands = λ h log s. s };
   replies = λ h log s. refl;
+  answers = [];
+  by_tables = no_batches c;
+  texts = refl;
 }
 
 -- ---- a read
@@ -67,6 +75,9 @@ going_read {r = r} {r' = r'} {r'' = r''} {done = done} rest more all g got e =
       honest = g.honest;
       takes = g.takes;
       replies = g.replies;
+      answers = g.answers;
+      by_tables = g.by_tables;
+      texts = g.texts;
     }
 
 -- they stand after the rest in the buffer

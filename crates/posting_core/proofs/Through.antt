@@ -2,7 +2,7 @@
 use Rattle.std.proofs.Common.{ℕ, List, Option, Err, sym, subst, inl, inr}
 use Rattle.posting_core.specs.declared.stream.StreamFault.{StreamFault}
 use Rattle.posting_core.specs.declared.stream.StreamFault.TheVariants.{Truncated, Read, Write, Bank}
-use Rattle.posting_rules.specs.{believed.Commands.Command, believed.Counter.Seen}
+use Rattle.posting_rules.specs.believed.Counter.{Seen}
 use Rattle.posting_core.specs.{Batches.BreaksOff, Stream.StreamFaultIsOfItsEnd, Stream.TellsBreak}
 use Rattle.posting_core.specs.believed.EndCalls.{ReadCall, EndsWith}
 use Rattle.posting_core.specs.EndCalls.{WriteCall, HasMore, IsFlush, IsThrough, IsWriteFailure}
@@ -22,11 +22,11 @@ through_batch h flushed = inr (more_last IsFlush (through_more h) flushed)
 
 -- a batch broke off
 pub ends_broken : (r r' : Option (List ReadCall)) (w w' w'' : Option (List WriteCall))
-    (k k' : Option (List ℕ)) (c c' : Seen) (cs : List Command) (fault : StreamFault)
-    → IsThrough w w' → BreaksOff fault k k' c c' cs → TellsBreak fault w' w''
+    (k k' : Option (List ℕ)) (c c' : Seen) (m : ℕ) (rs : List (List ℕ)) (fault : StreamFault)
+    → IsThrough w w' → BreaksOff fault k k' c c' m rs → TellsBreak fault w' w''
     → StreamFaultIsOfItsEnd (Err fault) r r' w w''
-ends_broken r r' w w' w'' k k' c c' cs Write h a failed = more_failed IsWriteFailure (through_more h) failed
-ends_broken r r' w w' w'' k k' c c' cs (Bank fault) h a same =
+ends_broken r r' w w' w'' k k' c c' m rs Write h a failed = more_failed IsWriteFailure (through_more h) failed
+ends_broken r r' w w' w'' k k' c c' m rs (Bank fault) h a same =
     subst (λ (t : Option (List WriteCall)). IsThrough w t) (sym same) h
-ends_broken r r' w w' w'' k k' c c' cs Read h a fault = absurd a
-ends_broken r r' w w' w'' k k' c c' cs (Truncated n) h a fault = absurd a
+ends_broken r r' w w' w'' k k' c c' m rs Read h a fault = absurd a
+ends_broken r r' w w' w'' k k' c c' m rs (Truncated n) h a fault = absurd a

@@ -2,7 +2,6 @@
 ghost use Rattle.std.specs.Prelude.{◌≡◌, ℕ, ◌≤◌, MatchResult, IfErr, length};
 ghost use Rattle.std.specs.Result.{IsErrOf};
 ghost use Rattle.posting_core.specs.Clock.{IsReading};
-ghost use Rattle.posting_rules.specs.believed.Runs.{posts};
 ghost use Rattle.posting_core.specs.Batches.{BatchIsAnswered, BreaksOff};
 ghost use Rattle.posting_core.specs.Stream.{IfTaken, Streams, TellsBreak};
 ghost use Rattle.posting_core.specs.believed.Stream.{IfBank};
@@ -68,10 +67,9 @@ fn reply_to_batch<W: Sink, K: Clock, C: Counter>(
     ensures answers { (moment : ℕ) × IsReading (K.readings clock.old) (K.readings clock.new) moment
         × MatchResult result
         (λ _. BatchIsAnswered (W.contents writer.old) (W.contents writer.new) (C.seen bank.old)
-        (C.seen bank.new)
-        (posts moment records.now))
+        (C.seen bank.new) moment records.now)
         (λ fault. BreaksOff fault (W.contents writer.old) (W.contents writer.new) (C.seen bank.old)
-        (C.seen bank.new) (posts moment records.now)) }
+        (C.seen bank.new) moment records.now) }
     ensures calls { MatchResult result (λ _. EndsWith IsFlush (W.calls writer.old) (W.calls writer.new))
         (λ fault. TellsBreak fault (W.calls writer.old) (W.calls writer.new)) }
     ensures up { IfTaken result ((C.seen bank.new).is_down → ⊥) }

@@ -34,3 +34,4 @@ pub mod ChangesByKey
 pub mod Calls
 pub mod CounterCalls
 pub mod Records
+pub mod AnyTables

@@ -9,4 +9,5 @@ pub mod Damage
 pub mod Runs
 pub mod Laws
 pub mod Counter
+pub mod AnyTables
 pub mod Changes

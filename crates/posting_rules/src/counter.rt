@@ -5,6 +5,7 @@ ghost use Rattle.posting_rules.specs.Branches.{IsNextBranch, IsLineAbove};
 ghost use Rattle.posting_rules.specs.believed.Commands.{Open, Post, opened_with};
 ghost use Rattle.posting_rules.specs.believed.Entries.{reply, balance_after};
 ghost use Rattle.posting_rules.specs.believed.Tables.{Tables};
+ghost use Rattle.posting_rules.specs.believed.AnyTables.{AnswersByTables};
 ghost use Rattle.posting_rules.specs.believed.Counter.{Seen, Answers, IsCounterCall, opening_after};
 ghost use Rattle.posting_rules.specs.Counter.{LeavesSomething};
 ghost use Rattle.posting_rules.specs.believed.Runs.{posts, replies_to};
@@ -75,6 +76,8 @@ pub trait Counter {
             (λ log out. out ≡ reply_spelling (reply log bytes.now)) }
         ensures call { IsCounterCall seen contents reason self.old self.new (Post moment bytes.now ∷ [])
             result }
+        ensures by_tables { IfOk result (λ out. AnswersByTables (seen self.old) (seen self.new) moment
+            (bytes.now ∷ []) (out ∷ [])) }
         ensures spares { spares self.old self.new };
 
     /// Submits 1 to `RECORDS_PER_BATCH` records at one moment, and answers their replies in order, as if each
@@ -90,6 +93,8 @@ pub trait Counter {
         ensures answer { Answers (seen self.old) (seen self.new) result
             (λ log replies. replies.items ≡ replies_to log (posts moment records.now)) }
         ensures call { IsCounterCall seen contents reason self.old self.new (posts moment records.now) result }
+        ensures by_tables { IfOk result (λ replies. AnswersByTables (seen self.old) (seen self.new) moment
+            records.now replies.items) }
         ensures spares { spares self.old self.new };
 
     /// Opens a branch of 1 to `LAST_BRANCH`, its tellers, and 1 to `MAX_ACCOUNTS` accounts, all with a

@@ -1,10 +1,12 @@
 -- Batches of records: each is submitted under one reading of the clock, and its replies are written in order.
-use Rattle.std.specs.Prelude.{◌≡◌, ◌≤◌, ℕ, List, length, map}
+use Rattle.std.specs.Prelude.{◌≡◌, ◌≤◌, ℕ, List, [], ◌∷◌, ◌++◌, length, map}
 use Rattle.std.specs.List.{flat_map}
 use Rattle.message_records.specs.declared.limits.TheConstants.{REQUEST_BYTES}
 use Rattle.posting_rules.specs.declared.limits.TheConstants.{RECORDS_PER_BATCH}
+use Rattle.posting_rules.specs.believed.Changes.{replies_past_all, tables_past_all}
 use Rattle.posting_rules.specs.believed.Commands.{Command}
 use Rattle.posting_rules.specs.believed.Runs.{posts}
+use Rattle.posting_rules.specs.believed.Tables.{Tables}
 
 -- texts one after another
 abbrev pub joined : List (List ℕ) → List ℕ
@@ -40,3 +42,13 @@ records_of bs = flat_map records_in bs
 
 abbrev pub posts_of : List Batch → List Command
 posts_of bs = flat_map posts_in bs
+
+-- what they leave of tables, be these of a log or not, and the replies to them
+abbrev pub tables_past_batches : Tables → List Batch → Tables
+tables_past_batches t [] = t
+tables_past_batches t (b ∷ bs) = tables_past_batches (tables_past_all t b.moment b.records) bs
+
+abbrev pub replies_past_batches : Tables → List Batch → List (List ℕ)
+replies_past_batches t [] = []
+replies_past_batches t (b ∷ bs) =
+    replies_past_all t b.moment b.records ++ replies_past_batches (tables_past_all t b.moment b.records) bs

@@ -13,9 +13,12 @@ use Rattle.posting_core.specs.declared.stream.StreamFault.{StreamFault}
 use Rattle.posting_core.specs.declared.stream.StreamFault.TheVariants.{Truncated, Read, Write, Bank}
 use Rattle.posting_rules.specs.believed.Commands.{Command, Open, Post}
 use Rattle.posting_rules.specs.believed.Counter.{Seen, ShowsLog, LeavesOnly, StandsAt, ShowsPrefix, Takes, Refuses}
+use Rattle.posting_rules.specs.believed.AnyTables.{HasRoom}
 use Rattle.posting_rules.specs.believed.Runs.{followed_by, replies_to, ArePosts}
+use Rattle.posting_rules.specs.believed.Tables.{Tables}
 use Rattle.posting_core.specs.believed.Clock.{AreReadings}
 use Rattle.posting_core.specs.believed.Batches.{Batch, IsBatch, IsRecord, joined, moments_of, records_of, posts_of}
+use Rattle.posting_core.specs.believed.Batches.{replies_past_batches, tables_past_batches}
 use Rattle.posting_rules.specs.believed.Entries.{reply}
 
 -- The reader's known bytes before and after are r and r', the writer's w and w', the clock's known readings k
@@ -61,6 +64,15 @@ abbrev pub UnlessDown : Result ℕ StreamFault → Type 0 → Type 0
 UnlessDown (Err (Bank fault)) P = IfUp fault P
 UnlessDown _ P = P
 
+-- On these tables, of a log or not: what was written are the replies to what the bank took, it shows what that leaves of
+-- them, and where a crash could leave them alone, it leaves that alone.
+pub record IsStreamedOn (t : Tables) (c c' : Seen) (taken : List Batch) (written : List ℕ)
+    (result : Result ℕ StreamFault) : Type 0 where
+  pub replies : RepliesAreWritten result written (joined (replies_past_batches t taken))
+  pub shows : UnlessDown result (c'.tables (tables_past_batches t taken))
+  pub survives : LeavesOnly c (λ left. left ≡ t)
+      → UnlessDown result (LeavesOnly c' (λ left. left ≡ tables_past_batches t taken))
+
 -- what a call did, whatever its result
 pub record Streamed (r r' w w' k k' : Option (List ℕ)) (c c' : Seen)
     (result : Result ℕ StreamFault) : Type 0 where
@@ -85,6 +97,8 @@ pub record Streamed (r r' w w' k k' : Option (List ℕ)) (c c' : Seen)
       → UnlessDown result (ShowsLog c' (followed_by log (posts_of taken)))
   pub stands : c'.honest → (log : List Command) → StandsAt c log
       → UnlessDown result (StandsAt c' (followed_by log (posts_of taken)))
+  -- so it is with whatever tables with room it showed
+  pub by_tables : c'.honest → (t : Tables) → HasRoom t → c.tables t → IsStreamedOn t c c' taken written result
   -- a crash leaves all that it took
   pub survives : c'.honest → (log : List Command) → StandsAt c log
       → LeavesOnly c' (ShowsPrefix log (posts_of (taken ++ refused)) (length (posts_of taken)))

@@ -200,11 +200,11 @@ returns-in_err-reply_to_batch g c =
           (λ down. let e = (c.in_err-reply_to_batch.ensures.down down).0 in cc e)
           c.in_err-reply_to_batch.ensures.why)
           (up_broken _ _ (g.C.Counter.seen c.args.bank.now) (g.C.Counter.seen c.reads.bank)
-          (g.C.Counter.seen c.reply_to_batch.new.bank) _ fault a.2 c.in_err-reply_to_batch.ensures.up
+          (g.C.Counter.seen c.reply_to_batch.new.bank) _ _ fault a.2 c.in_err-reply_to_batch.ensures.up
           (λ down. (c.reads.invariant.up down).0))
           (idle_after g.C.Counter.seen c.args.bank.now c.reads.bank c.reads.invariant.idle
           c.reply_to_batch.new.bank (λ down. (c.in_err-reply_to_batch.ensures.down down).1))
-          (ends_broken _ _ _ _ _ _ _ _ _ _ fault c.reads.invariant.through a.2
+          (ends_broken _ _ _ _ _ _ _ _ _ _ _ fault c.reads.invariant.through a.2
           c.in_err-reply_to_batch.ensures.calls);
       spares = g.met.C.Counter.spares_then c.args.bank.now c.reads.bank c.reply_to_batch.new.bank
           c.reads.invariant.spares c.in_err-reply_to_batch.ensures.spares;

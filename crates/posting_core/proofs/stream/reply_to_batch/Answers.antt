@@ -21,12 +21,15 @@ returns-in-Ok-write_out-clause-answers g c =
           c.as_flattened.ensures.len,
           ap length c.deref.ensures.value,
           c.in-Ok.ensures.count,
-          length-map c.args.records.now (Post c.now-moment.result),
         );
         takes = c.in-Ok.ensures.call.done;
         replies = λ h log s. ap (λ (n : ℕ). take n bytes) w.3 ∙ take-length bytes
             ∙ c.as_flattened.ensures.value
             ∙ ap joined (c.deref.ensures.value ∙ c.in-Ok.ensures.answer h log s);
+        answers = c.in-Ok.replies.items;
+        by_tables = c.in-Ok.ensures.by_tables;
+        texts = ap (λ (n : ℕ). take n bytes) w.3 ∙ take-length bytes ∙ c.as_flattened.ensures.value
+            ∙ ap joined c.deref.ensures.value;
       },
     )
 
@@ -64,6 +67,10 @@ returns-clause-answers g c =
             ∙ ap joined (c.deref.ensures.value ∙ c.in-Ok.ensures.answer h log s))
             ∙ ap (λ (n : ℕ). take n (joined (replies_to log (posts c.now-moment.result c.args.records.now))))
             (sym (length-take-le w.0 bytes w.1));
+        answers = c.in-Ok.replies.items;
+        by_tables = c.in-Ok.ensures.by_tables;
+        texts = ap (take w.0) (c.as_flattened.ensures.value ∙ ap joined c.deref.ensures.value)
+            ∙ ap (λ (n : ℕ). take n (joined c.in-Ok.replies.items)) (sym (length-take-le w.0 bytes w.1));
       },
     )
 

@@ -1,8 +1,8 @@
-use Rattle.std.proofs.Common.{[], ◌∷◌, ap, ◌∙◌, rules}
+use Rattle.std.proofs.Common.{[], ◌∷◌, List, ℕ, ap, ◌∙◌, rules}
 use Rattle.posting_rules.specs.believed.{Commands.Post, Changes.reply_past, Changes.tables_past, Tables.Tables}
 use Rattle.posting_rules.proofs.Records.{past_shown, past_reply}
 use Rattle.posting_core.specs.Plain.{plain_tables}
-use Rattle.posting_core.proofs.InMemory.{answered_plain, after_plain, memory_refused, no_answer, plain_shows}
+use Rattle.posting_core.proofs.InMemory.{answered_plain, after_plain, by_tables_plain, memory_refused, no_answer, plain_shows}
 use Rattle.posting_core.proofs.InMemory.{room_for_one, spared_plain, still_memory}
 use Rattle.posting_core.proofs.plain_bank.PlainBankCounter.submit.Goals as goal
 
@@ -25,6 +25,15 @@ returns-clause-call c =
     (c.submit_within_capacity.ensures.tables ∙ ap (λ (u : Tables). tables_past u m bytes) c.make_room.ensures.stays)
     (λ log s. past_shown t log m bytes s))
 
+pub returns-clause-by_tables : goal.returns-clause-by_tables
+returns-clause-by_tables c =
+    by_tables_plain c.args.self.now c.submit_within_capacity.new.self c.args.moment (c.args.bytes.now ∷ [])
+    (c.submit_within_capacity.result ∷ [])
+    (ap (λ (out : List ℕ). out ∷ []) (c.submit_within_capacity.ensures.reply
+    ∙ ap (λ (u : Tables). reply_past u c.args.bytes.now) c.make_room.ensures.stays))
+    (c.submit_within_capacity.ensures.tables
+    ∙ ap (λ (u : Tables). tables_past u c.args.moment c.args.bytes.now) c.make_room.ensures.stays)
+
 pub returns-clause-spares : goal.returns-clause-spares
 returns-clause-spares c = tt
 
@@ -34,6 +43,7 @@ returns-in_err-make_room c =
     record {
       answer = no_answer _ _ refused;
       call = spared_plain _ _ _ _ (memory_refused _ refused) c.make_room.ensures.stays;
+      by_tables = no_answer _ _ refused;
       spares = tt;
     }
 

@@ -3,7 +3,7 @@ use Rattle.posting_rules.specs.believed.Changes.{replies_past_all, tables_past, 
 use Rattle.posting_rules.specs.believed.{Tables.Tables, Runs.posts}
 use Rattle.posting_rules.proofs.Records.{all_past, all_replies, are_posts}
 use Rattle.posting_core.specs.Plain.{plain_tables}
-use Rattle.posting_core.proofs.InMemory.{answered_plain, after_plain, memory_refused, no_answer, plain_shows}
+use Rattle.posting_core.proofs.InMemory.{answered_plain, after_plain, by_tables_plain, memory_refused, no_answer, plain_shows}
 use Rattle.posting_core.proofs.InMemory.{spared_plain, still_memory}
 use Rattle.posting_core.proofs.plain_bank.PlainBankCounter.submit_all.Goals as goal
 
@@ -46,6 +46,16 @@ returns-clause-answer c h log s =
     (c.reserve.ensures.items ∙ c.new-replies.ensures.items) c.make_room.ensures.stays
     ∙ all_replies t log m rs (plain_shows c.args.self.now log s)
 
+pub returns-clause-by_tables : goal.returns-clause-by_tables
+returns-clause-by_tables c =
+    let m = c.args.moment in
+    let rs = c.args.records.now in
+    by_tables_plain c.args.self.now c.submit_all_within_capacity.new.self m rs _
+    (replies_are _ _ m rs _ _ c.submit_all_within_capacity.ensures.replies
+    (c.reserve.ensures.items ∙ c.new-replies.ensures.items) c.make_room.ensures.stays)
+    (c.submit_all_within_capacity.ensures.tables
+    ∙ ap (λ (u : Tables). tables_past_all u m rs) c.make_room.ensures.stays)
+
 pub returns-clause-spares : goal.returns-clause-spares
 returns-clause-spares c = tt
 
@@ -56,6 +66,7 @@ returns-in_err-reserve c =
       count = no_answer _ _ refused;
       answer = no_answer _ _ refused;
       call = spared_plain _ _ _ _ (memory_refused _ refused) refl;
+      by_tables = no_answer _ _ refused;
       spares = tt;
     }
 
@@ -66,6 +77,7 @@ returns-in_err-make_room c =
       count = no_answer _ _ refused;
       answer = no_answer _ _ refused;
       call = spared_plain _ _ _ _ (memory_refused _ refused) c.make_room.ensures.stays;
+      by_tables = no_answer _ _ refused;
       spares = tt;
     }
 
