@@ -2,6 +2,7 @@
 pub mod AsFound
 pub mod Broke
 pub mod Either
+pub mod ByTables
 pub mod CarriedOver
 pub mod Causes
 pub mod Countered

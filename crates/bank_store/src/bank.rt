@@ -248,13 +248,12 @@ impl<S: Alter + Drop> Counter for Bank<S> {
     ghost use Rattle.bank_store.specs.Down.{WasBroken};
     ghost use Rattle.bank_store.specs.believed.Down.{bank_reason};
     ghost use Rattle.bank_store.specs.Leaving.{OnlyReads};
-    ghost use Rattle.bank_store.specs.believed.NoneOrAll.{LeavesBatch, LeavesNoneOrAll, LeavesRecords};
+    ghost use Rattle.bank_store.specs.believed.NoneOrAll.{LeavesAll, LeavesNoneOrAll, LeavesOne};
     ghost use Rattle.bank_store.specs.believed.NoneOrAll.{RefusesOpening, RefusesRecords};
     ghost use Rattle.bank_store.specs.believed.Seen.{bank_seen, database_of};
     ghost use Rattle.bank_store.specs.believed.BankSparing.{SparesOtherTables};
     ghost use Rattle.bank_store.specs.SparedTables.{some_or_none, spared_itself, spared_then};
     ghost use Rattle.sqlite.specs.Effect.{Database};
-    ghost use Rattle.bank_transactions.specs.believed.Batches.{HasRoomFor};
 
     ghost seen = { λ bank. bank_seen S.Store bank };
 
@@ -288,9 +287,7 @@ impl<S: Alter + Drop> Counter for Bank<S> {
             → request_of bytes.now ≡ Ok r
             → AnswersOne (database_of S.Store self.old) (database_of S.Store self.new) moment bytes.now r out) }
         // Be the tables of a log, damaged or neither.
-        ensures leaves { IfOk result (λ out. (bank_seen S.Store self.new).honest → (r : RequestFields)
-            → request_of bytes.now ≡ Ok r → (t : Tables) → (bank_seen S.Store self.old).tables t → HasRoomFor 1 t
-            → LeavesRecords S.Store self.new t moment (bytes.now ∷ []) (out ∷ [])) }
+        ensures leaves { IfOk result (λ out. LeavesOne S.Store self.old self.new moment bytes.now out) }
         // Bytes that are no request are told so, whatever rows the file holds, and the bank is as it was.
         ensures malformed { ((bank_seen S.Store self.old).is_down → ⊥) → (bad : Bad)
             → request_of bytes.now ≡ Err bad
@@ -337,9 +334,8 @@ impl<S: Alter + Drop> Counter for Bank<S> {
             (posts moment records.now) }
         // Be the tables of a log, damaged or neither. A batch in which no record is decided changes nothing, nor what
         // a crash leaves.
-        ensures leaves { IfOk result (λ replies. (bank_seen S.Store self.new).honest → (t : Tables)
-            → (bank_seen S.Store self.old).tables t → HasRoomFor (length records.now) t
-            → LeavesBatch S.Store self.old self.new t moment records.now replies.items) }
+        ensures leaves { IfOk result (λ replies. LeavesAll S.Store self.old self.new moment records.now
+            replies.items) }
         // Whatever rows the file holds, and whatever tables it has: records that are all kept change nothing, and each
         // that is told to be posted was written.
         ensures stored { IfOk result (λ replies. (bank_seen S.Store self.new).honest

@@ -1,5 +1,7 @@
 -- Commands that are kept together or not at all, and what records leave of tables, of a log or not.
-use Rattle.std.specs.Prelude.{◌≡◌, ◌⊎◌, ℕ, List, length}
+use Rattle.std.specs.Prelude.{◌≡◌, ◌⊎◌, ℕ, List, [], ◌∷◌, Ok, length}
+use Rattle.message_records.specs.believed.{Reading.request_of, Records.RequestFields}
+use Rattle.posting_rules.specs.believed.AnyTables.{AnswersByTables}
 use Rattle.posting_rules.specs.believed.Changes.{replies_past_all, tables_opened, tables_past_all}
 use Rattle.posting_rules.specs.believed.Commands.{Command, Terms}
 use Rattle.posting_rules.specs.believed.Counter.{Seen, LeavesOnly, StandsAt}
@@ -49,9 +51,23 @@ pub record LeavesRecords {S : Type 0} (g : Ghosts S) (new : Bank S g) (t : Table
   pub survives : LeavesOnly (bank_seen g new) (λ left. left ≡ tables_past_all t moment records)
   pub answers : replies ≡ replies_past_all t moment records
 
+-- So it is with one record that was answered, a request; and be it one or not, on tables with room it was answered as every
+-- counter does.
+pub record LeavesOne {S : Type 0} (g : Ghosts S) (old new : Bank S g) (moment : ℕ) (bytes reply : List ℕ) : Type 0 where
+  pub by_tables : AnswersByTables (bank_seen g old) (bank_seen g new) moment (bytes ∷ []) (reply ∷ [])
+  pub one : (bank_seen g new).honest → (r : RequestFields) → request_of bytes ≡ Ok r → (t : Tables)
+      → (bank_seen g old).tables t → HasRoomFor 1 t → LeavesRecords g new t moment (bytes ∷ []) (reply ∷ [])
+
 -- where none of them is decided, those are the tables that there were, and all that the file holds is as it was
 pub record LeavesBatch {S : Type 0} (g : Ghosts S) (old new : Bank S g) (t : Tables) (moment : ℕ)
     (records replies : List (List ℕ)) : Type 0 where
   pub leaves : LeavesRecords g new t moment records replies
   pub idle : DecidesNone t moment records
       → (tables_past_all t moment records ≡ t) × (database_of g new ≡ database_of g old)
+
+-- so it is with a batch that was answered
+pub record LeavesAll {S : Type 0} (g : Ghosts S) (old new : Bank S g) (moment : ℕ) (records replies : List (List ℕ))
+    : Type 0 where
+  pub by_tables : AnswersByTables (bank_seen g old) (bank_seen g new) moment records replies
+  pub all : (bank_seen g new).honest → (t : Tables) → (bank_seen g old).tables t → HasRoomFor (length records) t
+      → LeavesBatch g old new t moment records replies

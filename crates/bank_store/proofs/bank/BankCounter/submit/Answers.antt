@@ -16,6 +16,7 @@ use Rattle.posting_rules.proofs.{Calls.IsChange, Records.all_replies, Records.po
 use Rattle.posting_rules.proofs.TablesWithRecord.{malformed_shown}
 use Rattle.bank_store.proofs.{Countered.of_logs, Countered.takes_untried}
 use Rattle.bank_store.proofs.OtherTables.{spares_done, spares_down, spares_untouched}
+use Rattle.bank_store.proofs.ByTables.{leaves_malformed, leaves_request}
 use Rattle.bank_store.proofs.{Broke.breaks_shown, Either.either_after, Either.untried_records}
 use Rattle.bank_store.proofs.Refusing.{answered_call, committed_call, breaks, is_up, refused_call, transaction_refused, untried_call, Refusal}
 use Rattle.bank_store.specs.Seen.{fault_of}
@@ -77,7 +78,7 @@ returns-in_default g c =
           (changes_nothing bytes bad read m) are) (λ clean. clean);
       frugal = λ same. (let it = same in cc);
       stored = λ clean r is. absurd (no_request (sym is ∙ read));
-      leaves = λ clean r is. absurd (no_request (sym is ∙ read));
+      leaves = leaves_malformed g.S.Store c.args.self.now m bytes _ bad read out;
       malformed = λ up bad is. (ap Ok out, refl);
       own = tt;
       spares = spares_untouched g.S.Store c.args.self.now;
@@ -105,14 +106,14 @@ returns-in-Ok-post_looked_up g c =
         answers = one_stored is (subst (RepliesLookedUp _ _ m rs) c.only_reply.ensures (it.stored clean rs made));
         alone = subst (AnswersAll _ _ m rs) c.only_reply.ensures (it.wrote clean rs made);
       };
-      leaves =
-          λ clean r is t shows so.
+      leaves = leaves_request g.S.Store c.args.self.now _ m c.args.bytes.now _ c.in-Ok.request read
+          (λ clean r is t shows so.
           let answers = says.answers clean t shows so in
           record {
             tables = answers.1;
             survives = λ trees may. (tables_past_all t m rs, answers.2 trees may, refl);
             answers = sym c.only_reply.ensures ∙ answers.0;
-          };
+          });
       malformed = λ up bad is. absurd (no_request (sym read ∙ is));
       own = tt;
       spares = spares_done g.S.Store c.args.self.now _ _ (is_up c.args.self.now.fault c.is_down.ensures c.if-is_down.false) says.spares;

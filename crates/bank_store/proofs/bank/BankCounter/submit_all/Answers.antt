@@ -11,6 +11,7 @@ use Rattle.bank_store.specs.believed.Seen.{bank_seen, database_of}
 use Rattle.bank_store.proofs.{bank.BankCounter.submit_all.Given.Over}
 use Rattle.bank_store.proofs.Countered.{none_or_all, none_or_all_down, none_or_all_untried, of_logs}
 use Rattle.bank_store.proofs.OtherTables.{spares_done, spares_down, spares_untouched}
+use Rattle.bank_store.proofs.ByTables.{leaves_all}
 use Rattle.bank_store.proofs.{Broke.breaks_shown, Either.either_after, Either.untried_records}
 use Rattle.bank_store.proofs.Refusing.{committed_call, breaks, is_up, refused_call, spared_call, transaction_refused}
 use Rattle.bank_store.proofs.Refusing.{untried_call}
@@ -69,8 +70,8 @@ returns-in-Ok g c =
           committed_call g.S.Store c.args.self.now _ (of_logs (length rs)) (posts m rs) (posts_all m rs) are _ (is_up c.args.self.now.fault c.is_down.ensures c.if-is_down.false) (is_up c.args.self.now.fault c.is_down.ensures c.if-is_down.false)
           says;
       none_or_all = none_or_all (of_logs (length rs)) (posts m rs) (posts_all m rs) says _ Failed Failed says.survives;
-      leaves =
-          λ clean t shows so.
+      leaves = leaves_all g.S.Store c.args.self.now _ m rs _
+          (λ clean t shows so.
           let answers = says.answers clean t shows so in
           record {
             leaves = record {
@@ -79,7 +80,7 @@ returns-in-Ok g c =
               answers = same ∙ answers.0;
             };
             idle = λ none. let it = c.in-Ok.ensures.idle clean rs made t shows so none in (it.leads, it.same);
-          };
+          });
       stored = λ clean. subst (AnswersAll _ _ m rs) (sym same) (c.in-Ok.ensures.stored clean rs made);
       own = tt;
       spares = spares_done g.S.Store c.args.self.now _ _ (is_up c.args.self.now.fault c.is_down.ensures c.if-is_down.false) says.spares;
