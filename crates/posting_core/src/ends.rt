@@ -1,11 +1,13 @@
 //! The two ends of a stream: what gives bytes, and what takes them. Streams loop over `read` and `write`
 //! themselves, since `read_exact` and `write_all` say nothing of the bytes if they fail.
-ghost use Rattle.std.specs.Prelude.{ℕ, List, [], ◌∷◌, Option, None};
+ghost use Rattle.std.specs.Prelude.{◌≡◌, ⊤, ℕ, List, [], ◌∷◌, Option, None, Some, length};
 ghost use Rattle.std.specs.Io.{ReadsAtMost, WritesAtMost};
 ghost use Rattle.std.specs.Io.KnownBytes.{Keeps, ReadConsumes, WriteAppends};
+ghost use Rattle.posting_rules.specs.believed.Counter.{Seen};
 ghost use Rattle.posting_core.specs.believed.EndCalls.{GrowsBy, ReadCall};
 ghost use Rattle.posting_core.specs.EndCalls.{Beside, WriteCall, read_call, write_call, flush_call};
 
+use posting_rules::Counter;
 use std::io;
 use std::io::{Read, Write};
 
@@ -21,6 +23,10 @@ pub trait Source {
     /// What a sink held at each read that was made beside it so far, where it is known.
     ghost beside: { Self → Option (List Beside) } = { λ _. None };
 
+    /// Whether the read after so many others was made beside a counter that is seen so. Where that isn't known, it is
+    /// said of each.
+    ghost was_beside: { Self → ℕ → Seen → Type 0 } = { λ _ _ _. ⊤ };
+
     /// One read into the buffer. It answers how many bytes it gave, and 0 at the end of the input.
     fn give(&mut self, buffer: &mut [u8]) -> io::Result<usize>
         ensures bound { ReadsAtMost result buffer.new }
@@ -35,6 +41,20 @@ pub trait Source {
         ensures tells { GrowsBy (calls self.old) (calls self.new) (read_call result ∷ []) }
         ensures beside { GrowsBy (beside self.old) (beside self.new)
             (record { contents = W.contents sink.now; calls = W.calls sink.now } ∷ []) };
+
+    /// One read into the buffer, as [`Source::give`], made beside a counter. So who feeds a counter says what it took
+    /// before more was asked for.
+    fn give_beside_counter<C: Counter>(
+        &mut self,
+        buffer: &mut [u8],
+        counter: &C,
+    ) -> io::Result<usize>
+        ensures bound { ReadsAtMost result buffer.new }
+        ensures bytes { ReadConsumes (remaining self.old) (remaining self.new) result buffer.new }
+        ensures tells { GrowsBy (calls self.old) (calls self.new) (read_call result ∷ []) }
+        ensures beside { (before : List ReadCall) → calls self.old ≡ Some before
+            → was_beside self.new (length before) (C.seen counter.now) }
+        ensures stays { (n : ℕ) (c : C) → was_beside self.old n (C.seen c) → was_beside self.new n (C.seen c) };
 }
 
 /// What takes bytes. Every writer does. A type of its own may also know what its writes and flushes returned.
@@ -65,6 +85,14 @@ impl<R: Read> Source for R {
     }
 
     fn give_beside<W: Sink>(&mut self, buffer: &mut [u8], _sink: &W) -> io::Result<usize> {
+        self.read(buffer)
+    }
+
+    fn give_beside_counter<C: Counter>(
+        &mut self,
+        buffer: &mut [u8],
+        _counter: &C,
+    ) -> io::Result<usize> {
         self.read(buffer)
     }
 }

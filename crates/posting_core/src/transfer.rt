@@ -1,13 +1,14 @@
 //! Bytes from a reader and to a writer, with what is known of both.
 ghost use Rattle.std.specs.Prelude.{◌≡◌, ◌≤◌, ◌<◌, ◌+◌, ◌-◌, ◌++◌, ◌∷◌, [], ℕ, List, IfOk, OnOk, OnErr, length};
-ghost use Rattle.std.specs.Prelude.{take, drop};
+ghost use Rattle.std.specs.Prelude.{Some, take, drop};
 ghost use Rattle.std.specs.Io.KnownBytes.{Keeps, Appends, Consumes, IsAtEnd};
-ghost use Rattle.posting_core.specs.believed.EndCalls.{GrowsBy, EndsWith};
+ghost use Rattle.posting_core.specs.believed.EndCalls.{GrowsBy, EndsWith, ReadCall};
 ghost use Rattle.posting_core.specs.EndCalls.{HasMore, HasReadFailed, HasWriteFailed};
 ghost use Rattle.posting_core.specs.believed.EndCalls.{IsEndOfInput};
 ghost use Rattle.posting_core.specs.EndCalls.{IsFlush, read_call};
 
 use crate::ends::{Sink, Source};
+use posting_rules::Counter;
 use std::io::ErrorKind;
 use std::{fmt, io};
 
@@ -78,6 +79,29 @@ pub fn fill_buffer_beside<R: Source, W: Sink>(
         (record { contents = W.contents sink.now; calls = W.calls sink.now } ∷ []) }
 {
     reader.give_beside(&mut buffer[filled..], sink)
+}
+
+/// One read into what is left of a buffer, made beside a counter.
+pub fn fill_buffer_beside_counter<R: Source, C: Counter>(
+    reader: &mut R,
+    buffer: &mut [u8],
+    filled: usize,
+    counter: &C,
+) -> io::Result<usize>
+    requires { filled < length buffer.old }
+    ensures fits { IfOk result (λ n. filled + n ≤ length buffer.new) }
+    ensures ok { IfOk result (λ n. (bytes : List ℕ)
+        × (take (filled + n) buffer.new ≡ take filled buffer.old ++ bytes)
+        × Consumes (R.remaining reader.old) (R.remaining reader.new) bytes) }
+    ensures end { IfOk result (λ n. n ≡ 0 → IsAtEnd (R.remaining reader.new)) }
+    ensures err { OnErr result (Keeps (R.remaining reader.old) (R.remaining reader.new)
+        × (take filled buffer.new ≡ take filled buffer.old)) }
+    ensures tells { GrowsBy (R.calls reader.old) (R.calls reader.new) (read_call result ∷ []) }
+    ensures beside { (before : List ReadCall) → R.calls reader.old ≡ Some before
+        → R.was_beside reader.new (length before) (C.seen counter.now) }
+    ensures stays { (n : ℕ) (c : C) → R.was_beside reader.old n (C.seen c) → R.was_beside reader.new n (C.seen c) }
+{
+    reader.give_beside_counter(&mut buffer[filled..], counter)
 }
 
 /// Moves what lies between the two places to the front of the buffer.
