@@ -89,7 +89,7 @@ pub(crate) fn command_in<S: Start, R: Read, W: Write, K: Clock>(
             let end = translate_replies(rt.alloc(), money, &files, sheet, input, output);
             return notes.of_sheet(end);
         }
-        Command::Why { file } => return why_in(rt, file, output),
+        Command::Why { file } => return notes.of_end(why_in(rt, file, output)),
         Command::Init { file } => (file, false),
         Command::Load { file, .. }
         | Command::Post { file }
@@ -128,7 +128,7 @@ pub(crate) fn command_in<S: Start, R: Read, W: Write, K: Clock>(
         clock,
     );
     close(conn, &notes.is_full);
-    end
+    notes.of_end(end)
 }
 
 // The connection to a file; none where it can't be opened, with a note if the disk is full.

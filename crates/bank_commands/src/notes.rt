@@ -7,11 +7,13 @@ use posting_sheets::{BadRow, Column, FieldStart, SheetFault};
 use std::cell::Cell;
 use std::{fmt, str};
 
-/// What a run has met that its line doesn't tell: that a write found no room, and what stands in a row that was refused.
+/// What a run has met that its line doesn't tell: that a write found no room, what stands in a row that was refused, and
+/// the fault of its command.
 #[derive(Drop)]
 pub struct Notes {
     pub(crate) is_full: Cell<bool>,
     pub(crate) refused: Cell<Option<BadRow>>,
+    pub(crate) fault: Cell<Option<CommandFault>>,
 }
 
 impl Notes {
@@ -21,7 +23,18 @@ impl Notes {
         Notes {
             is_full: Cell::new(false),
             refused: Cell::new(None),
+            fault: Cell::new(None),
         }
+    }
+
+    // How a command ended, with a note of its fault.
+    pub(crate) fn of_end(&self, end: Result<Status, CommandFault>) -> Result<Status, CommandFault>
+        ensures { result ≡ end }
+    {
+        if let Err(fault) = &end {
+            self.fault.set(Some(*fault));
+        }
+        end
     }
 
     // How a command ended that read a sheet, with a note of a row that was refused.

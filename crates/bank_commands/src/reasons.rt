@@ -6,7 +6,7 @@ ghost use Rattle.sqlite_disk.specs.Memory.{memory_is_usable};
 
 use crate::notes::{Notes, found_in};
 use bank_files::open_over;
-use command_line::{Command, Status, read_words};
+use command_line::{Command, CommandFault, Status, read_words};
 use posting_sheets::BadRow;
 use sqlite::{Error, Files, Unknown};
 use sqlite_disk::{Disk, Memory};
@@ -30,6 +30,7 @@ pub(crate) enum Reason {
     Folder,
     Names(u64),
     ReadOnly,
+    ClosedFolder,
     NoDatabase,
     Encoding,
     AutoVacuum,
@@ -63,6 +64,9 @@ impl fmt::Display for Reason {
             Reason::ReadOnly => f.write_str(
                 "it may only be read: copy it and its -wal, and read the copies",
             ),
+            Reason::ClosedFolder => f.write_str(
+                "its folder may not be written, and a log is kept beside it",
+            ),
             Reason::NoDatabase => f.write_str("it is no SQLite database"),
             Reason::Encoding => f.write_str("it is a database in UTF-16"),
             Reason::AutoVacuum => f.write_str("it is a database with auto_vacuum"),
@@ -73,14 +77,48 @@ impl fmt::Display for Reason {
 }
 
 /// After a run that its line doesn't explain, says more in a second line on standard error, if anybody asks, at a terminal
-/// or by `BANK_WHY` in the environment: where a row of a sheet was refused, what stands there, and where it ended as at a
-/// store fault, what is wrong with the command's file. `why` says the latter in any case.
+/// or by `BANK_WHY` in the environment. If a row of a sheet was refused, it says what stands there; after a store fault,
+/// what is wrong with the command's file; after damage or a fault of the network, what to look at. `why` says it of its
+/// file in any case.
 pub fn tell_reason(rt: &HostRuntime, status: Status, words: &[String], notes: &Notes) {
     if let Some(bad) = notes.refused.get() {
         tell_row(rt, &bad);
     }
     if status == Status::System {
-        tell_file(rt, words, notes.is_full.get());
+        tell_fault(rt, words, notes);
+    }
+}
+
+fn tell_fault(rt: &HostRuntime, words: &[String], notes: &Notes) {
+    let Ok(command) = read_words(rt.alloc(), words) else {
+        return;
+    };
+    if !matches!(command, Command::Why { .. }) && !is_asked(rt) {
+        return;
+    }
+    match notes.fault.get() {
+        Some(CommandFault::Network) => tell_address(rt, &command),
+        Some(CommandFault::Damaged(_)) => tell_damage(rt, &command),
+        Some(CommandFault::Memory | CommandFault::Read | CommandFault::Write) => {}
+        _ => tell_file(rt, &command, notes.is_full.get()),
+    }
+}
+
+fn tell_address(rt: &HostRuntime, command: &Command<'_>) {
+    if let Command::Serve { address, .. } = *command {
+        let _ = writeln!(
+            rt.stderr(),
+            "bank: {address}: it is in use, isn't this machine's, or its port needs rights"
+        );
+    }
+}
+
+fn tell_damage(rt: &HostRuntime, command: &Command<'_>) {
+    if let Some(file) = file_of(command) {
+        let _ = writeln!(
+            rt.stderr(),
+            "bank: {file}: its rows were changed by another hand: replay a copy, or restore a backup"
+        );
     }
 }
 
@@ -93,33 +131,15 @@ fn tell_row(rt: &HostRuntime, bad: &BadRow) {
     }
 }
 
-fn tell_file(rt: &HostRuntime, words: &[String], is_full: bool) {
-    let Ok(command) = read_words(rt.alloc(), words) else {
+fn tell_file(rt: &HostRuntime, command: &Command<'_>, is_full: bool) {
+    let Some(file) = file_of(command) else {
         return;
     };
-    let Some(file) = file_of(&command) else {
-        return;
-    };
-    if !matches!(command, Command::Why { .. }) && !is_asked(rt) {
-        return;
-    }
     let mut faults = rt.stderr();
     let _ = match reason_of(rt, file, is_full) {
-        None if has_log(rt, file) => writeln!(faults, "bank: {file}: it can be opened now"),
-        None => writeln!(
-            faults,
-            "bank: {file}: it can be opened now, if its folder may be written"
-        ),
+        None => writeln!(faults, "bank: {file}: it can be opened now"),
         Some(reason) => writeln!(faults, "bank: {file}: {reason}"),
     };
-}
-
-// Whether its log is there already, which else an open makes beside it.
-fn has_log(rt: &HostRuntime, file: &str) -> bool {
-    match format!(in rt.alloc(); "{file}-wal") {
-        Ok(log) => fs::metadata(rt, log.as_str()).is_ok(),
-        Err(_) => false,
-    }
 }
 
 /// Whether more than a fault's line is wanted on standard error.
@@ -229,6 +249,7 @@ fn look_for_others(rt: &HostRuntime, path: &str, log: &str) -> Result<(), Reason
         Err(error) => return Err(unwritable(error)),
     };
     if fs::metadata(rt, log).is_err() {
+        look_at_folder(rt, path)?;
         return match os::try_lock_range(file.as_raw_fd(), os::RangeLock::Exclusive, 1 << 30, 512) {
             0 => Ok(()),
             _ => Err(Reason::Opening(OpenError::Busy)),
@@ -241,10 +262,32 @@ fn look_for_others(rt: &HostRuntime, path: &str, log: &str) -> Result<(), Reason
     }
 }
 
+// Whether a file can be made in its folder, as an open does: an empty one is made and removed.
+fn look_at_folder(rt: &HostRuntime, path: &str) -> Result<(), Reason> {
+    let probe = format!(in rt.alloc(); "{path}.why")?;
+    match OpenOptions::new()
+        .write(true)
+        .create_new(true)
+        .open(rt, probe.as_str())
+    {
+        Ok(_) => Ok(fs::remove_file(rt, probe.as_str())?),
+        Err(error) if is_refused(&error) => Err(Reason::ClosedFolder),
+        Err(_) => Ok(()),
+    }
+}
+
+fn is_refused(error: &io::Error) -> bool {
+    matches!(
+        error.kind(),
+        ErrorKind::PermissionDenied | ErrorKind::ReadOnlyFilesystem
+    )
+}
+
 fn unwritable(error: io::Error) -> Reason {
-    match error.kind() {
-        ErrorKind::PermissionDenied | ErrorKind::ReadOnlyFilesystem => Reason::ReadOnly,
-        _ => Reason::System(error),
+    if is_refused(&error) {
+        Reason::ReadOnly
+    } else {
+        Reason::System(error)
     }
 }
 

@@ -18,7 +18,7 @@ returns-in-Decode g c =
 
 pub returns-in-Why : goal.returns-in-Why
 returns-in-Why g c =
-    rw c.in-Why.is record { tells = c.why_in.ensures; input = refl; clock = refl }
+    rw (c.in-Why.is, c.of_end.ensures) record { tells = c.why_in.ensures; input = refl; clock = refl }
 
 pub returns-in_err-look_for : goal.returns-in_err-look_for
 returns-in_err-look_for g c =
@@ -54,4 +54,4 @@ returns-in_default g c =
 pub returns : goal.returns
 returns g c =
     let it = c.command_over-end.ensures in
-    record { tells = it.tells; input = it.input; clock = it.clock }
+    rw c.of_end-2.ensures record { tells = it.tells; input = it.input; clock = it.clock }
