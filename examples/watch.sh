@@ -1,12 +1,13 @@
 #!/usr/bin/env bash
 # What no command of the bank tells: the size of its files, room on their disk, how far this machine follows behind another,
-# and when certificates end. Ends with status 1 if one of them is an alarm, and a line on standard error says which.
+# when certificates end, and who reaches the counter's port. Ends with status 1 if one of them is an alarm, and a line on standard error says which.
 #
 #     examples/watch.sh FILE [FIGURES]
 #
 # FILE is the bank; the file FIGURES, if its folder is there, gets the figures as Prometheus reads them. An alarm is less
-# than a tenth of the disk, or ten times the -wal; a follower that is LATE, 900 seconds, behind; and a certificate, or the
-# list of those that were revoked, that ends within two weeks. One that goes on is told again each hour, if there is a
+# than a tenth of the disk, or ten times the -wal; a follower that is LATE, 900 seconds, behind; a certificate, or the list of
+# those that were revoked, that ends within two weeks; and a port that others than nginx reach, as after
+# `nft flush ruleset`. One that goes on is told again each hour, if there is a
 # STATE_DIRECTORY, as systemd gives one.
 set -eu -o pipefail
 export LC_ALL=C
@@ -48,6 +49,10 @@ for it in /etc/teller/{bank,tellers}.crt /etc/teller/revoked /etc/standby/{leade
     figure "bank_certificate_seconds_left{file=\"$it\"}" "$left"
     if ((left < 14 * 86400)); then alarm "$it ends at ${ends#*=}"; fi
 done
+
+if curl -sfo /dev/null -m 5 http://127.0.0.1:8080/health; then
+    alarm "any user of this machine reaches the counter: \`systemctl reload bank\`"
+fi
 
 if [ "$figures" ] && [ -d "$(dirname "$figures")" ]; then
     printf %s "$told" >"$figures.new"

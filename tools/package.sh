@@ -105,7 +105,7 @@ if [ "$1" = configure ]; then
 fi
 if [ -d /run/systemd/system ]; then
     systemctl daemon-reload
-    for unit in bank standby teller; do
+    for unit in bank standby; do
         if systemctl --quiet is-active $unit; then
             echo "bank: $unit still runs the program of before: see Upgrade in /usr/share/doc/bank/docs/RUNBOOK.md" >&2
         fi

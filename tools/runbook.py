@@ -204,6 +204,7 @@ class Drill:
         self.posts(one)
         ensure(len(self.answered) == 10, "a teller who joined can't post")
         one.does("systemd-analyze security --no-pager --threshold=20 bank teller standby evening watch bank-alarm@bank")
+        one.does("nft flush ruleset; ! bank-watch /var/lib/bank/bank.db; systemctl reload bank; bank-watch /var/lib/bank/bank.db")
         one.does("logrotate --force /etc/logrotate.d/bank-teller")
         self.posts(one, 1)
         ensure(one.does("cat /var/lib/teller/access.log").count(f'"00000001 {self.number:010}"') == 1, "a posting has no line in the log")
