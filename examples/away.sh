@@ -2,11 +2,11 @@
 # A place off this machine for the copies of evening.sh: a folder of another host, by rsync over ssh. In
 # /etc/bank/evening.conf:
 #
-#     AWAY=/usr/local/bin/bank-away
-#     PLACE=bank@copies.example:evenings
+#     AWAY=/usr/share/doc/bank/examples/away.sh
+#     PLACE=evenings@copies.example:
 #
-# with a key of its own, /etc/bank/away.key, and the other host's in /etc/bank/away.hosts. That host decides for itself what
-# it lets go: `restrict,command="rrsync -no-del evenings"` before the key in its authorized_keys, so that whoever has this
+# with a key of its own, /etc/bank/away.key, and the other host's in /etc/bank/away.hosts. There, a user `evenings` has a folder
+# of that name, and `restrict,command="rrsync -no-del evenings"` before the key in its authorized_keys: whoever has this
 # machine can't delete what is there.
 set -eu
 away() {

@@ -6,8 +6,8 @@ a whole machine. At each end every posting that was answered stands in the bank.
 
     tools/runbook.py
 
-It needs root, the built program, and Debian's nginx, nftables, apache2-utils, openssl, sqlite3, curl, logrotate and
-psmisc. It is bounded in time, uses no network, and stands outside the gate. Each unit is 2 or better by `systemd-analyze security`."""
+It needs root, the built program, and Debian's nginx, nftables, apache2-utils, openssl, sqlite3, curl, logrotate,
+psmisc, rsync and openssh-server. It is bounded in time, uses no network, and stands outside the gate. Each unit is 2 or better by `systemd-analyze security`."""
 import contextlib
 import os
 import re
@@ -246,6 +246,7 @@ class Drill:
         two.does("mkdir /etc/teller; base64 -d | tar -xC /etc/teller", one.does("tar -cC /etc/teller . | base64").encode())
         two.does("chown bank: /etc/standby/*; rm /var/lib/bank/bank.db*; systemctl enable --now standby watch.timer")
         two.until("one that follows", "bank-standby --behind /var/lib/bank/bank.db 5")
+        self.away(one, two)
         self.posts(one)
         time.sleep(3)
         two.does("bank-evening /var/lib/bank/bank.db; systemctl is-active standby; bank-watch /var/lib/bank/bank.db /var/tmp/figures")
@@ -258,6 +259,19 @@ class Drill:
         self.posts(two)
         two.does("systemctl is-active bank teller; ! systemctl is-active standby; bank-evening /var/lib/bank/bank.db; "
                  "systemctl is-active bank")
+
+    def away(self, one, two):
+        """The evenings of one machine go to the other, by a key that adds there alone, and come back."""
+        two.does("useradd --create-home --password '*' evenings; install -d -o evenings ~evenings/evenings ~evenings/.ssh; ssh-keygen -A; "
+                 "mkdir -p /run/sshd; /usr/sbin/sshd -o UsePAM=no")
+        one.does("ssh-keygen -q -N '' -t ed25519 -f /etc/bank/away.key")
+        two.has("/home/evenings/.ssh/authorized_keys", 'restrict,command="rrsync -no-del evenings" ' +
+                one.does("cat /etc/bank/away.key.pub"))
+        one.has("/etc/bank/away.hosts", f"{two.address} {two.does('cat /etc/ssh/ssh_host_ed25519_key.pub')}")
+        one.has("/etc/bank/evening.conf", f"AWAY=/usr/share/doc/bank/examples/away.sh\nPLACE=evenings@{two.address}:\n")
+        one.does("systemctl start evening")
+        two.does("ls ~evenings/evenings/*Z/bank.db.replay")
+        print(f"runbook: {one.name}: an evening that went to {two.name} and came back", flush=True)
 
     def back(self, one, two):
         """The lost machine follows, and the one that serves gets a newer package."""
