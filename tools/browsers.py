@@ -176,7 +176,7 @@ class Firefox(Browser):
     def begin(self, _):
         self.line = socket.create_connection(("127.0.0.1", self.port), timeout=LONGEST).makefile("rwb")
         self.message()
-        self.tell("NewSession", acceptInsecureCerts=True)
+        self.tell("NewSession", acceptInsecureCerts=True, unhandledPromptBehavior="dismiss")
         self.tell("SetTimeouts", script=LONGEST * 1000, pageLoad=LONGEST * 1000)
 
     def message(self):

@@ -356,10 +356,12 @@ def signed_out(place, page):
         with contextlib.suppress(BrowserFault):
             go()
         time.sleep(1)
-        same("a page after the sign-out", page.browser.run("[document.querySelectorAll('.posting').length, "
-             "!document.getElementById('form') || document.getElementById('form').hidden]"), [0, True])
-        page.act("(form => { if (form) { form.account.value = '1'; form.amount.value = '-66'; form.requestSubmit() } })"
-                 "(document.getElementById('form'))")
+        shown = []
+        page.patiently(lambda: shown.append(page.browser.run(
+            "[document.querySelectorAll('.posting').length, !(window.form && !form.hidden)]")) or True)
+        same("a page after the sign-out", shown[-1], [0, True])
+        with contextlib.suppress(BrowserFault):
+            page.act("window.form && (form.account.value = '1', form.amount.value = '-66', form.requestSubmit())")
         time.sleep(0.5)
         page.browser.open(place.address(path="/sign-out"))
         same("what is kept after the sign-out", page.kept(), kept)
@@ -505,7 +507,7 @@ def days(page):
     page.search("saved")
     page.answered(2, "0.04", "BEFORE MIDNIGHT")
     same("a search", page.browser.run(element("search") + ".value"), "")
-    page.act("Date.now = (now => () => now() + 86400000)(Date.now)")
+    page.act("window.Date.now = (now => () => now() + 86400000)(window.Date.now)")
     page.answered(2, "0.05", "AFTER IT")
     shown = page.browser.run("[...document.querySelectorAll('.posting td:first-child')].slice(0, 2).map(it => it.textContent.length)")
     same("the dates of two rows", shown, [5, 16])
