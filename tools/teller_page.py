@@ -516,8 +516,8 @@ def days(page):
 
 
 def told(place, page):
-    """What the server sets for all: the bank's name, the limit, the language and the lock, after which the browser is signed
-    out. A file that can't be read asks each time."""
+    """What the server sets for all: the bank's name, the limit, the language and the lock, after which what waits goes out, and
+    then the browser is signed out. A file that can't be read asks each time."""
     def sets(text):
         with open(place.folder + "/settings.json", "w", encoding="utf-8") as file:
             file.write(text)
@@ -533,6 +533,12 @@ def told(place, page):
         same(text, page.browser.run(element("question") + ".open"), is_asked)
         page.browser.keys(ESCAPE)
         page.settled()
+    sets('{"lock after minutes": 0.05}')
+    place.counter.stop()
+    page.enter(2, "0.07", "LOCKED")
+    page.until("a lock", "form.hidden && !document.querySelector('.posting') && document.getElementById('save').hidden")
+    starts(place)
+    page.patiently(lambda: page.browser.run("document.title === 'Signed out'"))
     sets('{"bank": "Bank of Trials", "currency": "EUR", "language": "de", "lock after minutes": 0.1}')
     # Firefox asks its user first.
     if page.kind is Chromium:
