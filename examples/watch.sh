@@ -1,6 +1,7 @@
 #!/usr/bin/env bash
 # What no command of the bank tells: the size of its files, room on their disk, how far this machine follows behind another,
-# when certificates end, and who reaches the counter's port. Ends with status 1 if one of them is an alarm, and a line on standard error says which.
+# when certificates end, and who reaches the counter's port. Ends with status 1 if one of them is an alarm, and a line on
+# standard error says which.
 #
 #     examples/watch.sh FILE [FIGURES]
 #

@@ -6,8 +6,9 @@ a whole machine. At each end every posting that was answered stands in the bank.
 
     tools/runbook.py
 
-It needs root, the built program, and Debian's nginx, nftables, apache2-utils, openssl, sqlite3, curl, logrotate,
-psmisc, rsync and openssh-server. It is bounded in time, uses no network, and stands outside the gate. Each unit is 2 or better by `systemd-analyze security`."""
+It needs root, the built program, and Debian's nginx, nftables, apache2-utils, openssl, sqlite3, curl, logrotate, psmisc,
+rsync and openssh-server. It is bounded in time, uses no network, and stands outside the gate. Each unit is 2 or better by
+`systemd-analyze security`."""
 import contextlib
 import os
 import re
@@ -78,12 +79,13 @@ class Machine:
         self.process = subprocess.Popen(words, stdin=subprocess.DEVNULL, stdout=subprocess.DEVNULL, stderr=subprocess.DEVNULL)
         with_children = f"/proc/{self.process.pid}/task/{self.process.pid}/children"
         self.first = within(LONGEST, "a process", lambda: open(with_children).read().split())[0]
-        within(LONGEST, f"{self.name} that runs", lambda: self.tries("systemctl is-system-running").stdout.strip() in (b"running", b"degraded"))
+        within(LONGEST, f"{self.name} that runs",
+               lambda: self.tries("systemctl is-system-running").stdout.strip() in (b"running", b"degraded"))
 
     def tries(self, script, data=b""):
-        return subprocess.run(["nsenter", "--target", self.first, "--mount", "--pid", "--net", "--uts", "--ipc", "--cgroup", "--root",
-                               "--wd", "env", "-i", "PATH=/usr/local/sbin:/usr/sbin:/usr/bin:/sbin:/bin", "HOME=/root", "bash", "-c",
-                               script], input=data, stdout=subprocess.PIPE, stderr=subprocess.STDOUT, timeout=LONGEST, check=False)
+        words = ["nsenter", "--target", self.first, "--mount", "--pid", "--net", "--uts", "--ipc", "--cgroup", "--root", "--wd",
+                 "env", "-i", "PATH=/usr/sbin:/usr/bin:/sbin:/bin", "HOME=/root", "bash", "-c", script]
+        return subprocess.run(words, input=data, stdout=subprocess.PIPE, stderr=subprocess.STDOUT, timeout=LONGEST, check=False)
 
     def does(self, script, data=b""):
         told = self.tries("set -e -o pipefail\ncd /root\n" + script, data)
@@ -136,8 +138,8 @@ class Drill:
     def package(self):
         for stamp, name in ((1_800_000_000, "bank"), (1_800_000_060, "newer")):
             os.mkdir(f"{self.folder}/{name}")
-            subprocess.run([HERE + "/tools/package.sh", f"{self.folder}/{name}", "--trial"], check=True, stdout=subprocess.DEVNULL,
-                           env=os.environ | {"SOURCE_DATE_EPOCH": str(stamp)})
+            subprocess.run([HERE + "/tools/package.sh", f"{self.folder}/{name}", "--trial"], check=True,
+                           stdout=subprocess.DEVNULL, env=os.environ | {"SOURCE_DATE_EPOCH": str(stamp)})
 
     def deb(self, name):
         found = next(it for it in os.listdir(f"{self.folder}/{name}") if it.endswith(".deb"))
@@ -165,8 +167,8 @@ class Drill:
         for _ in range(count):
             self.number += 1
             body = record(1, 1, 1, self.number, 100)
-            told = machine.tries("curl -sf -m 20 --cacert /etc/teller/bank.crt --resolve bank.example:8443:127.0.0.1 -u bert:word "
-                                 "-H 'Content-Type: application/octet-stream' -H 'Origin: https://bank.example:8443' "
+            told = machine.tries("curl -sf -m 20 --cacert /etc/teller/bank.crt --resolve bank.example:8443:127.0.0.1 "
+                                 "-u bert:word -H 'Content-Type: application/octet-stream' -H 'Origin: https://bank.example:8443' "
                                  "--data-binary @- https://bank.example:8443/post", body)
             if told.returncode == 0:
                 self.answered[self.number] = body, told.stdout
@@ -179,7 +181,8 @@ class Drill:
         records = {kept[at:at + 100].encode() for at in range(0, len(kept), 100)}
         lacks = sum(body not in records for body, _ in self.answered.values())
         ensure(lacks == lost, f"{why}: {lacks} of {len(self.answered)} answered postings are missing")
-        again = machine.does("runuser -u bank -- bank post /var/lib/bank/bank.db", b"".join(it[0] for it in self.answered.values()))
+        again = machine.does("runuser -u bank -- bank post /var/lib/bank/bank.db",
+                             b"".join(it[0] for it in self.answered.values()))
         ensure(again.encode() == b"".join(it[1] for it in self.answered.values()), f"{why}: another answer than before")
         machine.does("runuser -u bank -- bank audit /var/lib/bank/bank.db; systemctl reset-failed bank; systemctl start bank")
 
@@ -207,7 +210,8 @@ class Drill:
         one.does("nft flush ruleset; ! bank-watch /var/lib/bank/bank.db; systemctl reload bank; bank-watch /var/lib/bank/bank.db")
         one.does("logrotate --force /etc/logrotate.d/bank-teller")
         self.posts(one, 1)
-        ensure(one.does("cat /var/lib/teller/access.log").count(f'"00000001 {self.number:010}"') == 1, "a posting has no line in the log")
+        told = one.does("cat /var/lib/teller/access.log")
+        ensure(told.count(f'"00000001 {self.number:010}"') == 1, "a posting has no line in the log")
         one.plays("Stop and start")
         one.plays("The evening raised an alarm")
         self.posts(one)
@@ -224,7 +228,7 @@ class Drill:
         self.posts(one)
         self.stands(one, "after a full disk")
 
-        one.does("systemctl stop bank; sqlite3 /var/lib/bank/bank.db 'DELETE FROM teller WHERE tid = 3'; systemctl start bank || true")
+        one.does("systemctl stop bank; sqlite3 /var/lib/bank/bank.db 'DELETE FROM teller WHERE tid = 3'")
         one.plays("The file is damaged")
         self.posts(one)
         self.stands(one, "after a damage")
@@ -249,7 +253,7 @@ class Drill:
         self.away(one, two)
         self.posts(one)
         time.sleep(3)
-        two.does("bank-evening /var/lib/bank/bank.db; systemctl is-active standby; bank-watch /var/lib/bank/bank.db /var/tmp/figures")
+        two.does("bank-evening /var/lib/bank/bank.db; systemctl is-active standby; bank-watch /var/lib/bank/bank.db")
         two.does("systemctl kill --signal STOP standby")
         self.posts(one, 5)
         one.off()
@@ -262,8 +266,8 @@ class Drill:
 
     def away(self, one, two):
         """The evenings of one machine go to the other, by a key that adds there alone, and come back."""
-        two.does("useradd --create-home --password '*' evenings; install -d -o evenings ~evenings/evenings ~evenings/.ssh; ssh-keygen -A; "
-                 "mkdir -p /run/sshd; /usr/sbin/sshd -o UsePAM=no")
+        two.does("useradd --create-home --password '*' evenings; install -d -o evenings ~evenings/evenings ~evenings/.ssh; "
+                 "ssh-keygen -A; mkdir -p /run/sshd; /usr/sbin/sshd -o UsePAM=no")
         one.does("ssh-keygen -q -N '' -t ed25519 -f /etc/bank/away.key")
         two.has("/home/evenings/.ssh/authorized_keys", 'restrict,command="rrsync -no-del evenings" ' +
                 one.does("cat /etc/bank/away.key.pub"))
