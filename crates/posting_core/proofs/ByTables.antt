@@ -5,7 +5,7 @@ use Rattle.posting_rules.specs.believed.Changes.{replies_past_all, tables_past_a
 use Rattle.posting_rules.specs.believed.{Counter.LeavesOnly, Counter.Seen, Tables.Tables}
 use Rattle.posting_rules.proofs.AnyTables.{room_past_all}
 use Rattle.posting_core.specs.believed.{Batches.Batch, Batches.replies_past_batches, Batches.tables_past_batches}
-use Rattle.posting_core.specs.believed.ByTables.{BatchesByTables}
+use Rattle.posting_core.specs.ByTables.{BatchesByTables}
 
 -- none was answered
 pub no_batches : (c : Seen) → BatchesByTables c c [] []

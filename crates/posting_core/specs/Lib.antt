@@ -6,6 +6,7 @@ pub mod EndCalls
 pub mod Once
 pub mod Clock
 pub mod Batches
+pub mod ByTables
 pub mod Stream
 pub mod Readings
 pub mod Again

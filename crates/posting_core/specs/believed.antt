@@ -1,7 +1,6 @@
 pub mod EndCalls
 pub mod Clock
 pub mod Batches
-pub mod ByTables
 pub mod Stream
 pub mod LogEntries
 pub mod Tills
