@@ -1,0 +1,5 @@
+pub mod Entries
+pub mod Carried
+pub mod Appends
+pub mod Along
+pub mod Same

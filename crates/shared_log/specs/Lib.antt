@@ -1,0 +1,6 @@
+pub mod Known
+pub mod Replicated
+pub mod Settled
+pub mod Holding
+pub mod Published
+pub mod Joined
