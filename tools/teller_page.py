@@ -533,13 +533,13 @@ def told(place, page):
         same(text, page.browser.run(element("question") + ".open"), is_asked)
         page.browser.keys(ESCAPE)
         page.settled()
-    sets('{"lock after minutes": 0.05}')
     place.counter.stop()
+    sets('{"lock after minutes": 0.2}')
     page.enter(2, "0.07", "LOCKED")
     page.until("a lock", "form.hidden && !document.querySelector('.posting') && document.getElementById('save').hidden")
     starts(place)
     page.patiently(lambda: page.browser.run("document.title === 'Signed out'"))
-    sets('{"bank": "Bank of Trials", "currency": "EUR", "language": "de", "lock after minutes": 0.1}')
+    sets('{"bank": "Bank of Trials", "currency": "EUR", "language": "de", "lock after minutes": 0.2}')
     # Firefox asks its user first.
     if page.kind is Chromium:
         same("what may be deleted", page.browser.run(f"navigator.storage.persisted().then(it => it === !{element('keeps')}.textContent)"), True)
