@@ -48,6 +48,8 @@ CLAIMS = CALLS + [
 # What a law says in names of the kit and of Rust, so that its law is followed and not its definition.
 BY_LAW = {("store_rows", "specs/believed/BankTables.antt", "bank_tables"): ("store_rows", "tables_law", [])}
 
+# Who may name a definition, and when the prover unfolds it: nothing that a reader has to believe.
+KEYWORDS = re.compile(r"^( *)(?:(?:abbrev|unfoldable|pub) )+")
 WORD = re.compile(r"[^\W\d][\w'?!]*(?:\.[\w'?!]+)*|[◌∥⟦]\S*", re.UNICODE)
 HEAD = re.compile(r"^(\s*)(?:(?:abbrev|unfoldable|record|data|pub|instance|opaque)\s+)+([^\s:({]+)")
 USE = re.compile(r"(?:ghost )?(?:pub )?use\s+([\w.]+?)(?:\.\{([^}]*)\}|\s+as\s+(\w+))?\s*(?:;|$)", re.MULTILINE)
@@ -273,9 +275,10 @@ def page():
         "",
         "A proof shows that the code keeps its contracts. Whether a contract says what it should is for you to judge. To judge",
         "README's promise, read this page from top to bottom: it has every definition that the promise needs, down to names of",
-        "the kit. `.ci/believed.py CRATE FUNCTION` prints such a page for any other contract, and `.ci/run` fails when this page",
-        "isn't what `.ci/believed.py` prints. The tables of a bank are those that the eight texts in `MAKE_TABLES` define, by",
-        "`tables_law` of `store_rows`: read the texts, and not what `sqlite` makes of them.",
+        "the kit, as in the code but for `pub`, `abbrev` and `unfoldable`. `.ci/believed.py CRATE FUNCTION` prints such a page",
+        "for any other contract, and `.ci/run` fails when this page isn't what `.ci/believed.py` prints. The tables of a bank are",
+        "those that the eight texts in `MAKE_TABLES` define, by `tables_law` of `store_rows`: read the texts, and not what",
+        "`sqlite` makes of them.",
         "",
         "| For | Definitions |",
         "|---|---|",
@@ -290,12 +293,10 @@ def page():
         *borrowed(rust, kit),
         "## Where the rest lies",
         "",
-        "What the calls of a counter need, too, is in these files, with nothing else in `specs/believed`:",
+        "What the calls of a counter need, too, is in `specs/believed` of these crates, and nothing else is in these folders:",
+        by_crate([it for it in calls if id(it) in more]) + ". What the other claims need lies elsewhere in `specs`:",
+        by_crate([it for it in claims if id(it) not in own | more]) + ".",
         "",
-        *table([it for it in calls if id(it) in more]),
-        "And what the other claims need:",
-        "",
-        *table([it for it in claims if id(it) not in own | more]),
     ])
 
 
@@ -337,18 +338,18 @@ def texts(found):
         for it in its:
             rows += [it.outer] if it.outer != outer else []
             outer = it.outer
-            rows += [*it.text, ""]
+            rows += [*(KEYWORDS.sub(r"\1", line) for line in it.text), ""]
         rows[-1] = "```"
         rows.append("")
     return rows
 
 
-def table(found):
-    by_crate = {}
-    for crate, name, _, lines, _ in listed(found):
-        by_crate.setdefault(crate, []).append(f"{name.removeprefix('believed/')} {lines}")
-    rows = ["| Crate | Files of `specs/`, each with the lines of its definitions |", "|---|---|"]
-    return rows + [f"| `{crate}` | {', '.join(files)} |" for crate, files in by_crate.items()] + [""]
+def by_crate(found):
+    """How many lines of each crate."""
+    lines = {}
+    for crate, _, _, whole, _ in listed(found):
+        lines[crate] = lines.get(crate, 0) + whole
+    return ", ".join(f"`{crate}` {whole} lines" if not i else f"`{crate}` {whole}" for i, (crate, whole) in enumerate(lines.items()))
 
 
 def main():
