@@ -1,5 +1,5 @@
 #!/usr/bin/env python3
-"""Checks that the program on each library's page, and that of docs/USING.md, is one that the gate runs, line for line.
+"""Checks that the program on each library's page is one that the gate runs, line for line.
 
     .ci/pages.py
 
@@ -15,7 +15,6 @@ import sys
 from pathlib import Path
 
 CRATES = Path(__file__).resolve().parent.parent / "crates"
-USING = CRATES.parent / "docs/USING.md"
 
 # What these have is tests, what tests and trials are made with, and lemmas: no program begins with them.
 NO_PROGRAM = {"bank_scenarios", "counter_tests", "failing_ends", "http_tests", "sql_meanings", "store_tests"}
@@ -82,7 +81,7 @@ def fault_of(page):
 
 
 def main():
-    pages = {"docs/USING.md": USING.read_text().splitlines()}
+    pages = {}
     for file in sorted(CRATES.glob("*/src/*.rt")):
         crate, page = file.parent.parent.name, page_of(file)
         if crate not in NO_PROGRAM and (file.name == "lib.rt" or "```rust" in page):
