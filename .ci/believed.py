@@ -267,8 +267,6 @@ def page():
     promise, rust, kit, said = counts(PROMISE)
     calls, _, _, said_calls = counts(CALLS)
     claims, _, _, said_claims = counts(CLAIMS)
-    own = {id(it) for it in promise}
-    more = {id(it) for it in calls} - own
     listed_names = len({(library_of(path), name) for path, name in kit})
     return "\n".join([
         "# What must be believed",
@@ -278,7 +276,7 @@ def page():
         "the kit, as in the code but for `pub`, `abbrev` and `unfoldable`. `.ci/believed.py CRATE FUNCTION` prints such a page",
         "for any other contract, and `.ci/run` fails when this page isn't what `.ci/believed.py` prints. The tables of a bank are",
         "those that the eight texts in `MAKE_TABLES` define, by `tables_law` of `store_rows`: read the texts, and not what",
-        "`sqlite` makes of them.",
+        "`sqlite` makes of them. `specs/believed` of a crate has what the promise and the calls need, and nothing else.",
         "",
         "| For | Definitions |",
         "|---|---|",
@@ -291,12 +289,6 @@ def page():
         *clauses(PROMISE),
         *texts(promise),
         *borrowed(rust, kit),
-        "## Where the rest lies",
-        "",
-        "What the calls of a counter need, too, is in `specs/believed` of these crates, and nothing else is in these folders:",
-        by_crate([it for it in calls if id(it) in more]) + ". What the other claims need lies elsewhere in `specs`:",
-        by_crate([it for it in claims if id(it) not in own | more]) + ".",
-        "",
     ])
 
 
@@ -342,14 +334,6 @@ def texts(found):
         rows[-1] = "```"
         rows.append("")
     return rows
-
-
-def by_crate(found):
-    """How many lines of each crate."""
-    lines = {}
-    for crate, _, _, whole, _ in listed(found):
-        lines[crate] = lines.get(crate, 0) + whole
-    return ", ".join(f"`{crate}` {whole} lines" if not i else f"`{crate}` {whole}" for i, (crate, whole) in enumerate(lines.items()))
 
 
 def main():

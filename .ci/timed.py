@@ -69,8 +69,8 @@ def table(spent):
     rows = [[f"`{crate}`", *(round(crates[crate][it]) for it in PARTS),
              len(list(TOP.glob(f"crates/{crate}/must-fail/*.edit")))] for crate in order if crate in crates]
     rows.append(["all", *(sum(row[at] for row in rows) for at in (1, 2, 3, 4))])
-    lines = ["| Crate | Proof | Tests | Edits | How many edits | Sum |", "|---|---|---|---|---|---|"]
-    return lines + [f"| {' | '.join(str(it or '') for it in row)} | {sum(row[1:4])} |" for row in rows]
+    lines = ["| Crate | Proof | Tests | Edits | How many edits |", "|---|---|---|---|---|"]
+    return lines + [f"| {' | '.join(str(it or '') for it in row)} |" for row in rows] + [f"{sum(rows[-1][1:4])} in all"]
 
 
 def watch(gate, spent, peaks):
