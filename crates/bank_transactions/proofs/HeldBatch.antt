@@ -43,7 +43,7 @@ use Rattle.bank_transactions.specs.Batches.{RepliesLookedUp}
 use Rattle.bank_transactions.specs.{Running.Leads, Writing.AreBranchNumbers, Writing.MayWrite}
 use Rattle.bank_transactions.specs.believed.{Additions.AddsForRecords, Answered.AnswersAll, Ran.LeadTo, Ran.Runs}
 use Rattle.bank_transactions.proofs.{HeldRows.both_held, HeldSlots.at_key, Unkept.were_unkept}
-use Rattle.bank_transactions.proofs.{Leading.lead_none, Running.runs_for, Running.runs_same}
+use Rattle.bank_transactions.proofs.Running.{runs_for, runs_same}
 use Rattle.sqlite_rules.specs.Lists.{Has}
 use Rattle.sqlite_rules.proofs.ListLemmas.{all_has}
 use Rattle.posting_batch.specs.Overlay.{tables_over}
@@ -155,6 +155,11 @@ module _ (rows : StoredRows) where
               covers.account
               (at_key account_slot_key (λ k s. HoldsAccount rows k s.stored) o.accounts held.accounts r.account)
               (stand.fits.accounts r.account);
+          branch =
+              answers (λ s. s.stored) (λ row. HoldsBranch rows a row) (row_at branch_key t.branches a) _
+              covers.its_branch
+              (at_key branch_slot_key (λ k s. HoldsBranch rows k s.stored) o.branches held.branches a)
+              (stand.fits.branches a);
           floor =
               answers (λ s. s.floor) (λ z. HoldsFloor rows a z) (floor_in t a) _ covers.its_floor
               (at_key floor_slot_key (λ k s. HoldsFloor rows k s.floor) o.floors held.floors a)
@@ -307,7 +312,7 @@ answers_all old new b b' records m o items made reads same own held shown judged
         | inl none ↦
             let back : tables_past_all t m records ≡ t = sym is.tables
             ∙ ap (λ (p : Overlay). tables_over p t) (none.0 ∙ filled_from) ∙ (stands t its).same in
-            runs_same _ _ old new none.1 (subst (λ (u : Tables). LeadTo t u []) (sym back) (lead_none t))
+            runs_same _ _ old new none.1 back
         | inr ran ↦
             let within = numbers_of t.branches (told_key _ branch_key IsBranch slots.branches
             (all_weaker HasOwnRow _ (λ s. is_within s.branch s.stored) slots.branches own)) o.branches is.changes.branches in

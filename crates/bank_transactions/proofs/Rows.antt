@@ -1,7 +1,6 @@
 -- What one slot writes.
 use Rattle.std.proofs.Common.{◌≡◌, ◌++◌, ℕ, List, [], ◌∷◌, Option, Result, Some, None, false, refl, sym, ap, subst, ◌∙◌}
 use Rattle.std.proofs.Common.{inl, inr}
-use Rattle.std.proofs.lemmas.List.{append-nil}
 use Rattle.std.specs.{List.AllByRecursion, Prelude.ℤ, Prelude.is_some}
 use Rattle.sqlite.specs.{Table.Table, declared.transaction.Transaction.Transaction}
 use Rattle.sqlite_rules.specs.Lists.{Has}
@@ -24,10 +23,11 @@ use Rattle.store_rows.specs.believed.Inserts.{eight_postings_insert, eight_reque
 use Rattle.store_rows.specs.believed.Inserts.{reference_insert, request_insert}
 use Rattle.store_rows.specs.declared.holders.Holder.TheVariants.{Account, Teller, Branch}
 use Rattle.bank_transactions.specs.believed.Additions.{AddsEach, AddsPostings, AddsReferences, AddsRequests}
-use Rattle.bank_transactions.specs.{Additions.ChangesEach, InTurn.ArePlaced, Running.Writes, believed.Ran.LeadTo}
+use Rattle.bank_transactions.specs.{Additions.ChangesEach, InTurn.ArePlaced, Running.Writes}
+use Rattle.bank_transactions.specs.believed.Ran.{Posting, Puts, Reference, Request, Turns}
 use Rattle.bank_transactions.specs.believed.Additions.{WritesUnder}
 use Rattle.sqlite.specs.Order.{Row}
-use Rattle.bank_transactions.proofs.Leading.{lead_postings, lead_references, lead_requests}
+use Rattle.bank_transactions.proofs.Leading.{alone, lead_one, puts_each}
 use Rattle.bank_transactions.proofs.Running.{writes_add, writes_for}
 use Rattle.posting_rules.specs.ChangesByKey as steps
 use Rattle.posting_rules.specs.believed.Tables.{Tables, row_at, branch_key, teller_key, account_key, history_key}
@@ -43,22 +43,19 @@ use Rattle.bank_transactions.specs.Writing.{MayAddPostings, MayAddReferences, Ma
 all_in : {R : Type 0} (rows : List R) → AllByRecursion (Has rows) rows
 all_in rows = all_from (Has rows) rows (λ r has. has)
 
--- the values of one row are those of it alone
-alone : (values : Row) → values ≡ values ++ []
-alone values = sym (append-nil values)
-
 -- a row is put in under a key that is free
 row_added : {S R : Type 0} {g : Ghosts S} {old new : Transaction S} {r : Result (Unit {0}) TableFault}
     {texts : List (List ℕ)} (text : List ℕ) (table : Table) (entry : R → Entry) (key : R → ℕ) (rows : Tables → List R)
     (put : R → Tables → Tables) (made : List R → Tables → Tables) (row : R)
     → ((t : Tables) → put row t ≡ made (row ∷ []) t) → Has texts text
-    → ((t : Tables) → LeadTo t (made (row ∷ []) t) ((text, given (entry row)) ∷ []))
+    → ((values : Row) (t u : Tables) → Puts texts entry put text values t u → Turns text values t u)
     → AddsRow g old new text (given (entry row)) table (λ t. is_some (row_at key (rows t) (key row))) (put row) r
     → Writes g (AddsEach texts entry (Has (row ∷ []))) old new (λ t. PutsFree key (row ∷ []) (rows t)) (made (row ∷ [])) r
-row_added {S} {R} {g} {old} {new} {r} {texts} text table entry key rows put made row is among lead says =
+row_added {S} {R} {g} {old} {new} {r} {texts} text table entry key rows put made row is among turns says =
     writes_for (writes_add {So = λ t. PutsFree key (row ∷ []) (rows t)} (AddsEach texts entry (Has (row ∷ []))) g old new text (given (entry row)) (put row)
     (record { among = among; rows = row ∷ []; are = alone (given (entry row)); each = all_in (row ∷ []) })
-    (λ t free. subst (λ (u : Tables). LeadTo t u ((text, given (entry row)) ∷ [])) (sym (is t)) (lead t)) table
+    (λ t free. lead_one (turns _ t (put row t) (puts_each texts text (row ∷ []) among (alone (given (entry row))) t)))
+    table
     (λ t. is_some (row_at key (rows t) (key row))) r says (λ t free. ap is_some free.0))
     (λ t free. (free, is t))
 
@@ -70,7 +67,7 @@ pub posting_added : {S : Type 0} {g : Ghosts S} {old new : Transaction S} {r : R
 unfolding with_history
 posting_added row says =
     row_added posting_insert bank.history history_entry history_key (λ t. t.history) with_history history_put row
-    (λ t. refl) (inl refl) (lead_postings posting_insert _ (inl refl) (row ∷ []) (alone (given (history_entry row)))) says
+    (λ t. refl) (inl refl) (λ values t u it. Posting it) says
 
 pub request_added : {S : Type 0} {g : Ghosts S} {old new : Transaction S} {r : Result (Unit {0}) TableFault}
     (row : RequestRow)
@@ -80,7 +77,7 @@ pub request_added : {S : Type 0} {g : Ghosts S} {old new : Transaction S} {r : R
 unfolding with_request
 request_added row says =
     row_added request_insert bank.request request_entry request_key (λ t. t.requests) with_request requests_put row
-    (λ t. refl) (inl refl) (lead_requests request_insert _ (inl refl) (row ∷ []) (alone (given (request_entry row)))) says
+    (λ t. refl) (inl refl) (λ values t u it. Request it) says
 
 pub reference_added : {S : Type 0} {g : Ghosts S} {old new : Transaction S} {r : Result (Unit {0}) TableFault}
     (row : ReferenceRow)
@@ -91,7 +88,7 @@ unfolding with_reference
 reference_added row says =
     row_added reference_insert bank.reference reference_entry reference_key (λ t. t.references)
     (λ x. with_reference x.ordinal (Some x.reference)) references_put row (λ t. refl) (inl refl)
-    (lead_references reference_insert _ (inl refl) (row ∷ []) (alone (given (reference_entry row)))) says
+    (λ values t u it. Reference it) says
 
 -- ---- several new rows
 
@@ -119,14 +116,13 @@ module _ {R : Type 0} (key : R → ℕ) (rows : Tables → List R) (with_rows : 
   pub rows_added : {S : Type 0} {g : Ghosts S} {old new : Transaction S} {r : Result (Unit {0}) TableFault}
       {Adds : Additions} (text : List ℕ) (entry : R → Entry) (table : Table) (news : List R)
       → Adds text (given_each entry news)
-      → ((t : Tables) → LeadTo t (with_rows t (each_put key news (rows t))) ((text, given_each entry news) ∷ []))
+      → ((t : Tables) → Turns text (given_each entry news) t (with_each with_row news t))
       → AddsRows g old new text entry table (λ r t. is_some (row_at key (rows t) (key r))) with_row news r
       → Writes g Adds old new (λ t. PutsFree key news (rows t)) (λ t. with_rows t (each_put key news (rows t))) r
-  rows_added {S} {g} {old} {new} {r} {Adds} text entry table news own lead says =
+  rows_added {S} {g} {old} {new} {r} {Adds} text entry table news own turns says =
       writes_for (writes_add {So = λ t. PutsFree key news (rows t)} Adds g old new text (given_each entry news)
       (with_each with_row news) own
-      (λ t free. subst (λ (u : Tables). LeadTo t u ((text, given_each entry news) ∷ [])) (sym (each_is news t)) (lead t))
-      table (meets_key with_row (λ r t. is_some (row_at key (rows t) (key r))) news) r says (none_met news))
+      (λ t free. lead_one (turns t)) table (meets_key with_row (λ r t. is_some (row_at key (rows t) (key r))) news) r says (none_met news))
       (λ t free. (free, each_is news t))
 
 pub postings_added : {S : Type 0} {g : Ghosts S} {old new : Transaction S} {r : Result (Unit {0}) TableFault}
@@ -139,7 +135,7 @@ postings_added news says =
     rows_added history_key (λ t. t.history) (λ t rows. record t { history = rows })
     (record { own = λ t. refl; held = λ t rs. refl; again = λ t rs others. refl }) eight_postings_insert history_entry
     bank.history news (record { among = inr (inl refl); rows = news; are = refl; each = all_in news })
-    (lead_postings eight_postings_insert _ (inr (inl refl)) news refl) says
+    (λ t. Posting (puts_each (posting_insert ∷ eight_postings_insert ∷ []) eight_postings_insert news (inr (inl refl)) refl t)) says
 
 pub requests_added : {S : Type 0} {g : Ghosts S} {old new : Transaction S} {r : Result (Unit {0}) TableFault}
     (news : List RequestRow)
@@ -151,7 +147,7 @@ requests_added news says =
     rows_added request_key (λ t. t.requests) (λ t rows. record t { requests = rows })
     (record { own = λ t. refl; held = λ t rs. refl; again = λ t rs others. refl }) eight_requests_insert request_entry
     bank.request news (record { among = inr (inl refl); rows = news; are = refl; each = all_in news })
-    (lead_requests eight_requests_insert _ (inr (inl refl)) news refl) says
+    (λ t. Request (puts_each (request_insert ∷ eight_requests_insert ∷ []) eight_requests_insert news (inr (inl refl)) refl t)) says
 
 -- ---- slots
 

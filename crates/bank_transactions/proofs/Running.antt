@@ -11,7 +11,7 @@ use Rattle.store_rows.specs.believed.{Failures.Additions, Failures.IsUpdateOf, M
 use Rattle.bank_transactions.specs.{Doing.expected, Running.Leads, Running.RunsIfOk, Running.Writes}
 use Rattle.bank_transactions.specs.believed.Ran.{LeadTo, Runs, Statements}
 use Rattle.bank_transactions.proofs.Chained.{does_adds, does_err, does_for, does_none, does_then, still_in}
-use Rattle.bank_transactions.proofs.{Leading.lead_none, Leading.lead_then, Statements.does_add, Statements.does_write}
+use Rattle.bank_transactions.proofs.{Leading.lead_then, Statements.does_add, Statements.does_write}
 use Rattle.bank_transactions.proofs.Wrote.{writes_also, writes_one, writes_same, writes_then as wrote_then}
 
 -- ---- what was run
@@ -60,7 +60,7 @@ pub writes_none : {S : Type 0} {g : Ghosts S} {Adds : Additions} {tx : Transacti
     → Writes g Adds tx tx So (λ t. t) (Ok (tt {0}))
 writes_none stays = record {
   does = does_none stays;
-  ran = λ clean live. runs_same _ _ _ _ refl (λ t so. lead_none t);
+  ran = λ clean live. runs_same _ _ _ _ refl (λ t so. refl);
 }
 
 -- one part, and then another

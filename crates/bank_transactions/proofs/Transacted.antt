@@ -9,7 +9,7 @@ use Rattle.posting_rules.specs.{believed.Tables.Tables, Sound.AreSound, declared
 use Rattle.store_rows.specs.believed.{Rules.IsBroken, Sparing.SparesOthers, View.Shows, View.ShowsTrees}
 use Rattle.store_rows.specs.believed.{Failures.Additions, Failures.Committing, Made.WritesOnly}
 use Rattle.store_rows.specs.declared.fault.TableFault.{TableFault, TheVariants.Sqlite, TheVariants.Damaged}
-use Rattle.bank_transactions.specs.believed.Doing.{LeavesOthers}
+use Rattle.bank_transactions.specs.believed.Doing.{LeavesOthers, LeavesSo}
 use Rattle.bank_transactions.specs.believed.Causes.{Damage, IsBefore, IsBrokenOrMet}
 use Rattle.bank_transactions.specs.Causes.{Blames, IsFirstBroken}
 use Rattle.bank_transactions.specs.Doing.{Acts, ChangesNothing, LeavesAndAnswers, Completes, DoesBy, Ends, EndsBy}
@@ -19,7 +19,7 @@ use Rattle.bank_transactions.specs.{Doing.TransactsBy, Doing.WritesIfOk, Undone.
 use Rattle.bank_transactions.proofs.Blamed.{Widens, comes, commit_fails, fault_within, met_within, same_moment}
 use Rattle.bank_transactions.proofs.Blamed.{between_also, broken_or_met, then_moment}
 use Rattle.bank_transactions.proofs.Wrote.{writes_also}
-use Rattle.std.proofs.lemmas.Result.{on_ok_weaker}
+use Rattle.std.proofs.lemmas.Result.{IfOk-weaker, on_ok_weaker}
 use Rattle.sqlite.specs.Order.{Row}
 use Rattle.bank_transactions.proofs.LookUps.{does_read}
 
@@ -297,6 +297,33 @@ commits_read {S} {X} {w} {answer} {result} g old begun last end new is reads end
     from_start : HasCleanDisk (state g last.conn.now) → ChangesNothing start (state g last.conn.now) answer
     from_start clean =
         subst (λ (h : Held S). ChangesNothing (state g h) (state g last.conn.now) answer) is (reads.says.leaves clean).0
+
+-- what the commit of an answer may leave is a database of which that is so which was said of the parts
+committed : {X : Type 0} (Q : Database → Type 0) (last : State) (answer : Result X TableFault) (left : Trees)
+    → IfOk answer (λ x. Q last.now) → MayCommit last answer left → LeavesSo Q left
+committed Q last (Ok x) left said made = (last.now, made.0, said)
+committed Q last (Err e) left said made = absurd made
+
+pub whole_after : {S X : Type 0} (g : Ghosts S) (Q : Database → Database → Type 0) (old begun last end new : Held S)
+    (answer : Result X TableFault) → begun ≡ record old { in_transaction = true }
+    → Survives (state g begun) (state g last) (λ _. ⊥)
+    → Survives (state g last) (state g end) (MayCommit (state g last) answer) → end ≡ new
+    → IfOk answer (λ x. HasCleanDisk (state g last) → IsTrue (state g begun).in_transaction
+    → Q (state g begun).now (state g last).now)
+    → Survives (state g old) (state g new) (LeavesSo (Q (state g old).now))
+whole_after {S} g Q old begun last end new answer is before after same said =
+    subst (λ (h : Held S). Survives (state g old) (state g h) Left) same
+    (survives_begin g old (state g end) Left
+    (subst (λ (h : Held S). Survives (state g h) (state g end) Left) is
+    (survives_then (state g begun) (state g last) (state g end) (λ _. ⊥) (MayCommit (state g last) answer) Left
+    (λ clean left none. absurd none)
+    (λ clean left made. committed (Q (state g old).now) (state g last) answer left
+    (IfOk-weaker answer _ _ (λ x it. subst (λ (db : Database). Q db (state g last).now)
+    (ap (λ (h : Held S). (state g h).now) is) (it (omega (arith, after.clean, clean)) (rw is refl))) said) made)
+    before after)))
+  where
+    Left : Trees → Type 0
+    Left = LeavesSo (Q (state g old).now)
 
 -- after a fault all is undone, whatever the parts do
 pub undoes : {S X : Type 0} {Met : Damage S} {Adds : Additions} {So : Tables → Type 0} {after : Tables → Tables} {w : Tables → X}

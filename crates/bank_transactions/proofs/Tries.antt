@@ -21,7 +21,7 @@ use Rattle.bank_transactions.specs.believed.{Additions.AddsForRecords, Additions
 use Rattle.bank_transactions.specs.Additions.{AddsTried, adds_so}
 use Rattle.bank_transactions.specs.{Batches.KeepsOnly, believed.Doing.LeavesOthers}
 use Rattle.store_rows.specs.Definitions.{IsOtherTable}
-use Rattle.bank_transactions.specs.{believed.Answered.AnswersAll, declared.first_try.Tried.Tried}
+use Rattle.bank_transactions.specs.{believed.Answered.AnswersAll, believed.Answered.KeepsWhole, declared.first_try.Tried.Tried}
 use Rattle.bank_transactions.specs.believed.Stored.{HasOther, ShowsKept}
 use Rattle.bank_transactions.proofs.OwnRows.{none_other}
 use Rattle.bank_transactions.specs.believed.Causes.{IsBefore}
@@ -30,7 +30,7 @@ use Rattle.bank_transactions.specs.Tries.{IsAsBefore, answer_of, batch_of, repli
 use Rattle.bank_transactions.specs.Undone.{UndoesFaults}
 use Rattle.bank_transactions.specs.declared.first_try.Tried.TheVariants.{Answered, Again}
 use Rattle.bank_transactions.proofs.Blamed.{blames_since, comes, same_moment, then_moment}
-use Rattle.bank_transactions.proofs.Transacted.{rolled, transacts_also, transacts_records, undoes}
+use Rattle.bank_transactions.proofs.Transacted.{rolled, transacts_also, transacts_records, undoes, whole_after}
 
 undoes_again : {X : Type 0} (old mid new : State) (r : Result X TableFault) → IsTrue old.is_open
     → mid.now ≡ old.now → Undoes mid new r → Undoes old new r
@@ -123,6 +123,14 @@ module _ {S : Type 0} (g : Ghosts S) (old mid new : Held S) (before : IsAsBefore
         subst (λ (db : Database). Q db records x) (same_there records made clean).2
         (stored clean records (from records made)))
 
+  pub whole_again : {m : ℕ} (records : List (List ℕ))
+      → Survives (state g mid) (state g new) (KeepsWhole (state g mid).now m records)
+      → Survives (state g old) (state g new) (KeepsWhole (state g old).now m records)
+  whole_again {m} records whole = survives_then (state g old) (state g mid) (state g new) (λ _. ⊥)
+      (KeepsWhole (state g mid).now m records) (KeepsWhole (state g old).now m records) (λ clean left none. absurd none)
+      (λ clean left it. subst (λ (db : Database). KeepsWhole db m records left)
+      (before.same (omega (arith, whole.clean, clean))).2 it) before.survives whole
+
 -- ---- a try that is given up
 
 -- the connection, the transaction as it begins and after its parts, the connection after it and after a probe
@@ -136,7 +144,8 @@ module _ {S : Type 0} (g : Ghosts S) (old : Held S) (begun last : Transaction S)
   abbrev start : Held S
   start = record old { in_transaction = true }
 
-  quiet_so : (P : Trees → Type 0) → Survives (state g old) (state g new) P
+  -- nothing was committed
+  pub quiet_so : (P : Trees → Type 0) → Survives (state g old) (state g new) P
   quiet_so P = survives_begin g old (state g new) P (subst (λ (h : Held S). Survives (state g h) (state g new) P) is
       (survives_then (state g begun.conn.now) (state g last.conn.now) (state g new) (λ _. ⊥) (λ _. ⊥) P
       (λ clean db none. absurd none) (λ clean db none. absurd none) says.survives
@@ -196,6 +205,13 @@ tried_own db records as_made text values (inr (inl it)) = inr (inl (adds_so _ _
     (λ r. FollowsCount db (length records) r.ordinal × (HasOther db → ShowsKept db r.teller r.number None))
     (λ r so. (so.0, λ other. absurd (none_other db as_made other))) text values it))
 tried_own db records as_made text values (inr (inr it)) = inr (inr it)
+
+-- what is so of its replies is so where it answered
+if_answered : {Said : List (List ℕ) → Type 0} (P : Type 0) (tried : Result Tried TableFault) → batch_of tried ≡ None
+    → ((replies : List (List ℕ)) → Said replies → P) → IfSome (replies_of tried) Said → IfOk tried (λ x. P)
+if_answered P (Ok (Answered replies)) none so it = so replies.items it
+if_answered P (Ok (Again batch)) none so it = absurd cc
+if_answered P (Err fault) none so it = tt
 
 -- its replies are those of the parts
 pub of_tried : {P Q : List (List ℕ) → Type 0} (tried result : Result Tried TableFault)
@@ -291,6 +307,21 @@ module _ {S : Type 0} (g : Ghosts S) (Made : List (List ℕ) → Type 0) (moment
       → (t : Tables) → Shows (state g old).now t → HasRoomFor (length records) t → DecidesNone t moment records → ⊥)
   tried_busy = of_tried tried result ends.given (λ replies busy clean records made t shows so none.
       busy (was_clean_at records made clean) (rw is refl) records made t (rw is shows) so none)
+
+  pub tried_whole : (records : List (List ℕ)) → Made records → IsOtherTable (state g old).now.schema None
+      → batch_of tried ≡ None → Survives (state g begun.conn.now) (state g last.conn.now) (λ _. ⊥)
+      → IfSome (replies_of tried) (λ replies. HasCleanDisk (state g last.conn.now)
+      → IsTrue (state g begun.conn.now).in_transaction → IsOtherTable (state g begun.conn.now).now.schema None
+      → (records : List (List ℕ)) → Made records
+      → AnswersAll (state g begun.conn.now).now (state g last.conn.now).now moment records replies)
+      → Survives (state g old) (state g new) (KeepsWhole (state g old).now moment records)
+  tried_whole records made as_made none quiet it = whole_after g
+      (λ old after. (replies : List (List ℕ)) × AnswersAll old after moment records replies) old begun.conn.now
+      last.conn.now end new tried is quiet ends.survives (same records made)
+      (if_answered _ tried none (λ replies stored clean live. (
+        replies,
+        stored clean live (subst (λ (h : Held S). IsOtherTable (state g h).now.schema None) (sym is) as_made) records made,
+      )) it)
 
   pub tried_stored : IsOtherTable (state g old).now.schema None
       → IfSome (replies_of tried) (λ replies. HasCleanDisk (state g last.conn.now)

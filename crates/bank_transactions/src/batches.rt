@@ -34,7 +34,7 @@
 //! in which nothing is decided; `Transacts` of `bank_transactions/specs/Doing`, by which [`post_all`] is
 //! said.
 ghost use Rattle.std.specs.Prelude.{◌≡◌, ℕ, List, length, false, None, IfOk, IsTrue, OnOk};
-ghost use Rattle.sqlite.specs.State.{HasCleanDisk};
+ghost use Rattle.sqlite.specs.State.{HasCleanDisk, Survives};
 ghost use Rattle.sqlite.specs.Held.{state};
 ghost use Rattle.posting_rules.specs.believed.Changes.{tables_past_all, replies_past_all};
 ghost use Rattle.posting_rules.specs.believed.Tables.{Tables};
@@ -46,7 +46,7 @@ ghost use Rattle.bank_transactions.specs.Doing.{Acts, Transacts};
 ghost use Rattle.bank_transactions.specs.believed.Batches.{DecidesNone, HasRoomFor};
 ghost use Rattle.bank_transactions.specs.Batches.{items_of, WritesNothing, KeepsOnly, RepliesLookedUp};
 ghost use Rattle.bank_transactions.specs.Memory.{Keeps, Remembers};
-ghost use Rattle.bank_transactions.specs.believed.Answered.{AnswersAll};
+ghost use Rattle.bank_transactions.specs.believed.Answered.{AnswersAll, KeepsWhole};
 ghost use Rattle.bank_transactions.specs.Undone.{UndoesFaults};
 
 use crate::batch_changes::write;
@@ -130,6 +130,10 @@ pub fn post_looked_up<S: Alter>(
     ensures wrote { IfOk result (λ replies. HasCleanDisk (state S.Store conn.new)
         → (records : List (List ℕ)) → IsMadeOf batch records
         → AnswersAll (state S.Store conn.old).now (state S.Store conn.new).now moment records replies.items) }
+    // A crash leaves what it could leave before, or all of the batch.
+    ensures whole { (records : List (List ℕ)) → IsMadeOf batch records
+        → Survives (state S.Store conn.old) (state S.Store conn.new)
+        (KeepsWhole (state S.Store conn.old).now moment records) }
     ensures undone { (records : List (List ℕ)) → IsMadeOf batch records
         → UndoesFaults S.Store conn.old conn.new (items_of result) }
     // After an error all has to be forgotten.
@@ -178,6 +182,10 @@ pub fn post_all<S: Alter>(
     ensures stored { IfOk result (λ replies. HasCleanDisk (state S.Store conn.new)
         → (records : List (List ℕ)) → IsMadeOf batch records
         → AnswersAll (state S.Store conn.old).now (state S.Store conn.new).now moment records replies.items) }
+    // A crash leaves what it could leave before, or all of the batch.
+    ensures whole { (records : List (List ℕ)) → IsMadeOf batch records
+        → Survives (state S.Store conn.old) (state S.Store conn.new)
+        (KeepsWhole (state S.Store conn.old).now moment records) }
     ensures undone { (records : List (List ℕ)) → IsMadeOf batch records
         → UndoesFaults S.Store conn.old conn.new (items_of result) }
     // After an error all has to be forgotten.

@@ -1,7 +1,7 @@
 //! A batch is tried as if none of its requests were kept, which spares them their look-ups. Where the first one is
 //! kept, or the INSERT of one says otherwise, all is undone, and what was read is remembered.
 ghost use Rattle.std.specs.Prelude.{◌≡◌, ◌&&◌, ◌==◌, not, ℕ, List, length, false, true, is_some, IfSome, IsTrue, None, OnOk, ⊤};
-ghost use Rattle.sqlite.specs.State.{HasCleanDisk, KeepsCommit};
+ghost use Rattle.sqlite.specs.State.{HasCleanDisk, KeepsCommit, Survives};
 ghost use Rattle.sqlite.specs.Held.{state};
 ghost use Rattle.posting_rules.specs.believed.Changes.{tables_past_all, replies_past_all};
 ghost use Rattle.posting_rules.specs.believed.LookUps.{kept_in};
@@ -16,7 +16,7 @@ ghost use Rattle.bank_transactions.specs.believed.Additions.{AddsForRecords};
 ghost use Rattle.bank_transactions.specs.believed.Batches.{DecidesNone, HasRoomFor};
 ghost use Rattle.bank_transactions.specs.Doing.{Acts, Reads, Transacts};
 ghost use Rattle.bank_transactions.specs.Memory.{FitsBefore, Keeps, Remembers};
-ghost use Rattle.bank_transactions.specs.believed.Answered.{AnswersAll};
+ghost use Rattle.bank_transactions.specs.believed.Answered.{AnswersAll, KeepsWhole};
 ghost use Rattle.bank_transactions.specs.Tries.{IsAsBefore, IsMadeAgain, answer_of, batch_of, replies_of};
 ghost use Rattle.bank_transactions.specs.Tries.{first_kept, may_be_kept};
 ghost use Rattle.bank_transactions.specs.Undone.{UndoesFaults};
@@ -191,6 +191,10 @@ pub(crate) fn try_new<S: Alter>(
         → AnswersAll (state S.Store conn.old).now (state S.Store conn.new).now moment records replies) }
     ensures undone { IfSome (answer_of result) (λ answer. (records : List (List ℕ)) → IsMadeOf batch records
         → UndoesFaults S.Store conn.old conn.new answer) }
+    // A crash leaves what it could leave before, or all of the batch.
+    ensures whole { (records : List (List ℕ)) → IsMadeOf batch records
+        → Survives (state S.Store conn.old) (state S.Store conn.new)
+        (KeepsWhole (state S.Store conn.old).now moment records) }
     ensures again { IfSome (batch_of result) (λ again. IsMadeAgain batch again
         × IsAsBefore S.Store conn.old conn.new) }
     ensures remembers { OnOk result (∥ Remembers S.Store conn.new memory.new ∥₁) }

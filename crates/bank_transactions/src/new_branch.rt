@@ -9,10 +9,12 @@ ghost use Rattle.posting_rules.specs.believed.Counter.{opening_for};
 ghost use Rattle.posting_rules.specs.believed.LookUps.{terms_in};
 ghost use Rattle.posting_rules.specs.believed.Tables.{row_at, branch_key, floor_key};
 ghost use Rattle.bank_transactions.specs.believed.Additions.{AddsBranch, AddsFloor, AddsOne, AddsRange};
-ghost use Rattle.bank_transactions.specs.Doing.{Acts, Does, Leaves, Reads};
+ghost use Rattle.bank_transactions.specs.Doing.{Acts, Leaves, Reads};
+ghost use Rattle.bank_transactions.specs.Running.{Writes};
+ghost use Rattle.bank_transactions.specs.believed.Answered.{OpensAll};
 ghost use Rattle.bank_transactions.specs.believed.Openings.{HasRoomToOpen, IsReadyToOpen};
 ghost use Rattle.bank_transactions.specs.NewRows.{tables_staffed, with_new, with_new_rows, is_taken, last_of};
-ghost use Rattle.bank_transactions.specs.believed.Stored.{AnswersStored, OpensByStored};
+ghost use Rattle.bank_transactions.specs.believed.Stored.{AnswersStored};
 
 use crate::floors::floor_at;
 use crate::look_ups::branch_at;
@@ -39,8 +41,8 @@ fn add_new<S: Alter>(
 ) -> Result<(), TableFault>
     requires above { 1 ≤ number }
     requires below { number ≤ last_of kind }
-    ensures does { Does S.Store (AddsOne kind number) tx.old tx.new (λ tables. is_taken kind number tables ≡ false)
-        (with_new kind number) (λ _. tt) result }
+    ensures writes { Writes S.Store (AddsOne kind number) tx.old tx.new (λ tables. is_taken kind number tables ≡ false)
+        (with_new kind number) result }
     ensures leaves { Leaves S.Store tx.old tx.new (with_new kind number) result }
 {
     let balance = Cents::zero();
@@ -65,10 +67,10 @@ fn add_rows<S: Alter>(
 ) -> Result<(), TableFault>
     requires above { 1 ≤ first }
     requires below { first + count ≤ last_of kind + 1 }
-    ensures does { Does S.Store (AddsRange kind first count) tx.old tx.new
+    ensures writes { Writes S.Store (AddsRange kind first count) tx.old tx.new
         (λ tables. (n : ℕ) → n < count → is_taken kind (first + n) (with_new_rows kind first n tables)
         ≡ false)
-        (with_new_rows kind first count) (λ _. tt) result }
+        (with_new_rows kind first count) result }
     ensures leaves { Leaves S.Store tx.old tx.new (with_new_rows kind first count) result }
 {
     for place in 0..count {
@@ -83,9 +85,9 @@ fn add_its_floor<S: Alter>(
     branch: Branch,
     floor: Option<Cents>,
 ) -> Result<(), TableFault>
-    ensures does { Does S.Store (AddsFloor branch floor) tx.old tx.new
+    ensures writes { Writes S.Store (AddsFloor branch floor) tx.old tx.new
         (λ tables. IfSome floor (λ _. row_at floor_key tables.floors branch ≡ None)) (with_floor branch floor)
-        (λ _. tt) result }
+        result }
     ensures leaves { Leaves S.Store tx.old tx.new (with_floor branch floor) result }
 {
     let Some(lowest) = floor else {
@@ -102,10 +104,10 @@ fn add_branch_with_rows<S: Alter>(
 ) -> Result<(), TableFault>
     requires branch { branch ≤ LAST_BRANCH }
     requires few { count ≤ MAX_ACCOUNTS }
-    ensures does { Does S.Store (AddsBranch branch (opened_with count None)) tx.old tx.new
+    ensures writes { Writes S.Store (AddsBranch branch (opened_with count None)) tx.old tx.new
         (λ tables. HasRoomToOpen branch (opened_with count None) tables
         × (row_at branch_key tables.branches branch ≡ None))
-        (λ tables. tables_staffed tables branch count) (λ _. tt) result }
+        (λ tables. tables_staffed tables branch count) result }
     ensures leaves { Leaves S.Store tx.old tx.new (λ tables. tables_staffed tables branch count) result }
 {
     let row = BranchRow {
@@ -129,10 +131,10 @@ fn add_whole_branch<S: Alter>(
 ) -> Result<(), TableFault>
     requires branch { branch ≤ LAST_BRANCH }
     requires few { count ≤ MAX_ACCOUNTS }
-    ensures does { Does S.Store (AddsBranch branch (opened_with count floor)) tx.old tx.new
+    ensures writes { Writes S.Store (AddsBranch branch (opened_with count floor)) tx.old tx.new
         (λ tables. HasRoomToOpen branch (opened_with count floor) tables
         × (row_at branch_key tables.branches branch ≡ None))
-        (λ tables. tables_opened tables branch (opened_with count floor)) (λ _. tt) result }
+        (λ tables. tables_opened tables branch (opened_with count floor)) result }
     ensures leaves { Leaves S.Store tx.old tx.new (λ tables. tables_opened tables branch (opened_with count floor)) result }
 {
     add_branch_with_rows(tx, branch, count)?;
@@ -185,7 +187,7 @@ pub(crate) fn open_inside<S: Alter>(
         (λ tables. opening_for (terms_in tables branch) (opened_with count floor)) result }
     ensures stored { IfOk result (λ opening. HasCleanDisk (state S.Store tx.new.conn.now)
         → IsTrue (state S.Store tx.old.conn.now).in_transaction
-        → OpensByStored (state S.Store tx.old.conn.now).now (state S.Store tx.new.conn.now).now branch
+        → OpensAll (state S.Store tx.old.conn.now).now (state S.Store tx.new.conn.now).now branch
         (opened_with count floor) opening) }
 {
     match opening_of(tx, branch, count, &floor)? {

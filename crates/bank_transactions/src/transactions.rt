@@ -11,7 +11,8 @@ ghost use Rattle.posting_rules.specs.Sound.{AreSound};
 ghost use Rattle.bank_transactions.specs.believed.Openings.{IsReadyToOpen};
 ghost use Rattle.bank_transactions.specs.believed.Additions.{AddsBranch};
 ghost use Rattle.bank_transactions.specs.Doing.{Consults, Ends, Transacts};
-ghost use Rattle.bank_transactions.specs.believed.Stored.{IsStoredBalance, IsStoredTeller, OpensByStored};
+ghost use Rattle.bank_transactions.specs.believed.Answered.{KeepsOpening, OpensAll};
+ghost use Rattle.bank_transactions.specs.believed.Stored.{IsStoredBalance, IsStoredTeller};
 ghost use Rattle.bank_transactions.specs.Undone.{UndoesFaults};
 
 use crate::look_ups::{open_balance, teller_balances};
@@ -91,8 +92,11 @@ pub fn open_branch<S: Alter>(
         (λ tables. opening_for (terms_in tables branch) (opened_with count floor)) result }
     // Whatever rows the file holds.
     ensures stored { IfOk result (λ opening. HasCleanDisk (state S.Store conn.new)
-        → OpensByStored (state S.Store conn.old).now (state S.Store conn.new).now branch
+        → OpensAll (state S.Store conn.old).now (state S.Store conn.new).now branch
         (opened_with count floor) opening) }
+    // A crash leaves what it could leave before, or the branch with all that belongs to it.
+    ensures whole { Survives (state S.Store conn.old) (state S.Store conn.new)
+        (KeepsOpening (state S.Store conn.old).now branch (opened_with count floor)) }
     ensures undone { UndoesFaults S.Store conn.old conn.new result }
 {
     let mut tx = begin(conn);
@@ -118,6 +122,9 @@ pub fn read_teller<S: Alter>(
         → IsStoredTeller (state S.Store conn.old).now teller balances) }
     ensures still { OnOk result (HasCleanDisk (state S.Store conn.new)
         → (state S.Store conn.new).now ≡ (state S.Store conn.old).now) }
+    // A crash leaves what it could leave before, or what the file held.
+    ensures left { Survives (state S.Store conn.old) (state S.Store conn.new)
+        (λ left. left ≡ (state S.Store conn.old).now.trees) }
     ensures undone { UndoesFaults S.Store conn.old conn.new result }
 {
     let mut tx = begin(conn);

@@ -1,11 +1,18 @@
--- What a call answers of records whatever rows a file holds, and what it ran whatever tables the file has.
-use Rattle.std.specs.Prelude.{ℕ, List, [], ◌∷◌}
+-- What a call answers whatever rows a file holds, and what it ran whatever tables the file has.
+use Rattle.std.specs.Prelude.{◌≡◌, ℕ, List, [], ◌∷◌, None}
 use Rattle.sqlite.specs.Effect.{Database}
+use Rattle.sqlite.specs.Tree.{Trees}
 use Rattle.message_records.specs.believed.Records.{RequestFields}
-use Rattle.posting_rules.specs.believed.Changes.{tables_past_all}
-use Rattle.bank_transactions.specs.believed.Additions.{AddsForRecords}
+use Rattle.posting_rules.specs.believed.Changes.{tables_opened, tables_past_all}
+use Rattle.posting_rules.specs.believed.Commands.{Terms}
+use Rattle.posting_rules.specs.believed.Tables.{Tables, branch_key, row_at}
+use Rattle.posting_rules.specs.declared.counter.Opening.{Opening}
+use Rattle.posting_rules.specs.declared.counter.Opening.TheVariants.{Opened}
+use Rattle.bank_transactions.specs.believed.Additions.{AddsBranch, AddsForRecords}
+use Rattle.bank_transactions.specs.believed.Doing.{LeavesSo}
+use Rattle.bank_transactions.specs.believed.Openings.{HasRoomToOpen}
 use Rattle.bank_transactions.specs.believed.Ran.{LeadTo, Runs}
-use Rattle.bank_transactions.specs.believed.Stored.{RepliesToAllStored, RepliesToStored}
+use Rattle.bank_transactions.specs.believed.Stored.{OpensByStored, RepliesToAllStored, RepliesToStored}
 
 -- The replies to records are those in tables that had what the rows hold. What was run is what the records may put in
 -- or change, and all that they leave of those tables: a record that is told to be posted was written.
@@ -14,8 +21,23 @@ pub record AnswersAll (old new : Database) (moment : ℕ) (records replies : Lis
   pub wrote : Runs (AddsForRecords old records)
       (LeadTo answers.tables (tables_past_all answers.tables moment records)) old new
 
+-- What a crash may leave of them is all of that: they are committed together.
+abbrev pub KeepsWhole : Database → ℕ → List (List ℕ) → Trees → Type 0
+KeepsWhole old moment records = LeavesSo (λ after. (replies : List (List ℕ)) × AnswersAll old after moment records replies)
+
 -- the same of one, whose reply is that of the case which applies
 pub record AnswersOne (old new : Database) (moment : ℕ) (bytes : List ℕ) (r : RequestFields) (reply : List ℕ)
     : Type 0 where
   pub answers : RepliesToStored old new r reply
   pub alone : AnswersAll old new moment (bytes ∷ []) (reply ∷ [])
+
+-- Once a branch is `Opened`, what was run leads from whatever tables have room for it to those with it.
+pub record OpensAll (old new : Database) (branch : ℕ) (terms : Terms) (opening : Opening) : Type 0 where
+  pub answers : OpensByStored old new branch terms opening
+  pub wrote : opening ≡ Opened → Runs (AddsBranch branch terms) (λ statements. (t : Tables)
+      → HasRoomToOpen branch terms t × (row_at branch_key t.branches branch ≡ None)
+      → LeadTo t (tables_opened t branch terms) statements) old new
+
+-- what a crash may leave of an opening is all of that
+abbrev pub KeepsOpening : Database → ℕ → Terms → Trees → Type 0
+KeepsOpening old branch terms = LeavesSo (λ after. (opening : Opening) × OpensAll old after branch terms opening)

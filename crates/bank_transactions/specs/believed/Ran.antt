@@ -1,55 +1,70 @@
--- Statements that were run: which rows they put in, and which numbers they wrote.
-use Rattle.std.specs.Prelude.{◌≡◌, ◌⊎◌, ℕ, ℤ, pos, List, [], ◌∷◌, Option, Some, option_map}
+-- Statements that were run, and what they make of tables.
+use Rattle.std.specs.Prelude.{◌≡◌, ℕ, ℤ, pos, List, [], ◌∷◌, Some}
 use Rattle.sqlite.specs.Effect.{Database}
 use Rattle.sqlite.specs.Order.{Row}
 use Rattle.sqlite_rules.specs.Lists.{Has}
-use Rattle.posting_rules.specs.believed.LookUps.{account_balance_in, balance_of_branch, balance_of_teller}
-use Rattle.posting_rules.specs.believed.Tables.{Tables, row_at, branch_key, teller_key}
-use Rattle.posting_rules.specs.declared.rows.HistoryRow.{HistoryRow}
-use Rattle.posting_rules.specs.declared.rows.ReferenceRow.{ReferenceRow}
-use Rattle.posting_rules.specs.declared.rows.RequestRow.{RequestRow}
+use Rattle.posting_rules.specs.believed.Changes.{new_account, new_teller, with_account_balance, with_accounts}
+use Rattle.posting_rules.specs.believed.Changes.{with_branch, with_branch_balance, with_decided, with_floor}
+use Rattle.posting_rules.specs.believed.Changes.{with_history, with_reference, with_request, with_teller_balance}
+use Rattle.posting_rules.specs.believed.Changes.{with_tellers}
+use Rattle.posting_rules.specs.believed.Tables.{Tables}
 use Rattle.sql_meanings.specs.believed.Entries.{Entry}
 use Rattle.store_rows.specs.believed.Failures.{Additions}
-use Rattle.store_rows.specs.believed.Inserts.{account_update, branch_update, eight_postings_insert}
-use Rattle.store_rows.specs.believed.Inserts.{eight_requests_insert, meta_key, meta_update, posting_insert}
-use Rattle.store_rows.specs.believed.Inserts.{reference_insert, request_insert, teller_update}
+use Rattle.store_rows.specs.believed.Inserts.{account_insert, account_update, branch_insert, branch_update}
+use Rattle.store_rows.specs.believed.Inserts.{eight_postings_insert, eight_requests_insert, floor_insert, meta_key}
+use Rattle.store_rows.specs.believed.Inserts.{meta_update, posting_insert, reference_insert, request_insert}
+use Rattle.store_rows.specs.believed.Inserts.{teller_insert, teller_update}
 use Rattle.store_rows.specs.believed.Made.{WritesOnly}
 use Rattle.store_rows.specs.believed.SeveralRows.{given_each, under}
-use Rattle.store_rows.specs.believed.View.{history_entry, reference_entry, request_entry}
+use Rattle.store_rows.specs.believed.View.{account_entry, branch_entry, floor_entry, history_entry, reference_entry}
+use Rattle.store_rows.specs.believed.View.{request_entry, teller_entry}
 
 -- texts that were run, each with its values
 abbrev pub Statements : Type 0
 Statements = List (List ℕ × Row)
 
--- one of them puts rows in by one of these texts, and the row is among those
-pub record PutsIn {R : Type 0} (texts : List (List ℕ)) (entry : R → Entry) (statements : Statements) (row : R)
-    : Type 0 where
-  pub text : List ℕ
-  pub among : Has texts text
-  pub rows : List R
-  pub own : Has rows row
-  pub run : Has statements (text, given_each entry rows)
+-- with the rows put in, one after another, the first tables are the second
+abbrev pub ArePut : {R : Type 0} → (R → Tables → Tables) → List R → Tables → Tables → Type 0
+ArePut put [] t u = u ≡ t
+ArePut put (r ∷ rows) t u = ArePut put rows (put r t) u
 
--- the number is what it was, or one of them writes it under the key
-abbrev pub WritesNumber : List ℕ → ℕ → Option ℤ → Option ℤ → Statements → Type 0
-WritesNumber update key old new statements =
-    (new ≡ old) ⊎ ((number : ℤ) × (new ≡ Some number) × Has statements (update, under key number))
+-- by one of these texts such rows are put in
+abbrev pub Puts : {R : Type 0} → List (List ℕ) → (R → Entry) → (R → Tables → Tables) → List ℕ → Row → Tables → Tables
+    → Type 0
+Puts {R} texts entry put text values t u =
+    Has texts text × (rows : List R) × (values ≡ given_each entry rows) × ArePut put rows t u
 
--- All by which the second tables differ from the first was run: each posting, request and reference that only they
--- have was put in, and each balance that they have otherwise was written, and how many requests are decided.
-pub record LeadTo (t u : Tables) (statements : Statements) : Type 0 where
-  pub postings : (r : HistoryRow) → Has u.history r
-      → Has t.history r ⊎ PutsIn (posting_insert ∷ eight_postings_insert ∷ []) history_entry statements r
-  pub requests : (r : RequestRow) → Has u.requests r
-      → Has t.requests r ⊎ PutsIn (request_insert ∷ eight_requests_insert ∷ []) request_entry statements r
-  pub references : (r : ReferenceRow) → Has u.references r
-      → Has t.references r ⊎ PutsIn (reference_insert ∷ []) reference_entry statements r
-  pub accounts : (n : ℕ) → WritesNumber account_update n (account_balance_in t n) (account_balance_in u n) statements
-  pub tellers : (n : ℕ) → WritesNumber teller_update n (option_map balance_of_teller (row_at teller_key t.tellers n))
-      (option_map balance_of_teller (row_at teller_key u.tellers n)) statements
-  pub branches : (n : ℕ) → WritesNumber branch_update n (option_map balance_of_branch (row_at branch_key t.branches n))
-      (option_map balance_of_branch (row_at branch_key u.branches n)) statements
-  pub decided : WritesNumber meta_update meta_key (Some (pos t.decided)) (Some (pos u.decided)) statements
+-- by this text the row under a key gets a number
+abbrev pub Sets : List ℕ → (ℕ → ℤ → Tables → Tables) → List ℕ → Row → Tables → Tables → Type 0
+Sets update set text values t u =
+    (text ≡ update) × (key : ℕ) × (number : ℤ) × (values ≡ under key number) × (u ≡ set key number t)
+
+-- what a statement makes of tables
+pub data Turns (text : List ℕ) (values : Row) (t u : Tables) : Type 0 where
+  Posting : Puts (posting_insert ∷ eight_postings_insert ∷ []) history_entry with_history text values t u
+      → Turns text values t u
+  Request : Puts (request_insert ∷ eight_requests_insert ∷ []) request_entry with_request text values t u
+      → Turns text values t u
+  Reference : Puts (reference_insert ∷ []) reference_entry (λ r. with_reference r.ordinal (Some r.reference)) text values t u
+      → Turns text values t u
+  NewBranch : Puts (branch_insert ∷ []) branch_entry with_branch text values t u → Turns text values t u
+  NewTeller : Puts (teller_insert ∷ []) (λ n. teller_entry (new_teller n)) (λ n. with_tellers n 1) text values t u
+      → Turns text values t u
+  NewAccount : Puts (account_insert ∷ []) (λ n. account_entry (new_account n)) (λ n. with_accounts n 1) text values t u
+      → Turns text values t u
+  NewFloor : Puts (floor_insert ∷ []) floor_entry (λ r. with_floor r.branch (Some r.lowest)) text values t u
+      → Turns text values t u
+  OfAccount : Sets account_update with_account_balance text values t u → Turns text values t u
+  OfTeller : Sets teller_update with_teller_balance text values t u → Turns text values t u
+  OfBranch : Sets branch_update with_branch_balance text values t u → Turns text values t u
+  OfCount : (decided : ℕ) → text ≡ meta_update → values ≡ under meta_key (pos decided) → u ≡ with_decided decided t
+      → Turns text values t u
+
+-- Run one after another on the first tables, they make the second: all by which these differ is written, and nothing
+-- else is.
+abbrev pub LeadTo : Tables → Tables → Statements → Type 0
+LeadTo t u [] = u ≡ t
+LeadTo t u (s ∷ more) = (mid : Tables) × Turns s.0 s.1 t mid × LeadTo mid u more
 
 -- statements that were run one after another, each of which puts such rows in, or changes one, did; and of all of them
 -- this holds

@@ -15,7 +15,7 @@ use Rattle.posting_rules.specs.believed.Kept.{KeptFields}
 use Rattle.posting_rules.specs.believed.LookUps.{account_balance_in, balance_of_branch, floor_in, kept_in, lowest_of}
 use Rattle.posting_rules.specs.believed.LookUps.{teller_balances_in, text_of_reference}
 use Rattle.posting_rules.specs.believed.Numbering.{branch_of_account, branch_of_teller}
-use Rattle.posting_rules.specs.believed.Tables.{Tables}
+use Rattle.posting_rules.specs.believed.Tables.{Tables, branch_key, row_at}
 use Rattle.posting_rules.specs.declared.fault.Rule.{Rule}
 use Rattle.posting_rules.specs.declared.judgments.Found.{Found}
 use Rattle.posting_rules.specs.declared.counter.Opening.{Opening}
@@ -154,7 +154,9 @@ pub record HasStored (rows : StoredRows) (t : Tables) (r : RequestFields) : Type
   pub teller_fits : TellerFits rows r.teller
   -- the balance of its account
   pub account : HoldsAccount rows r.account (account_balance_in t r.account)
-  -- the floor of its account's branch
+  -- the row of its account's branch, and its floor
+  pub branch : FindsStored (branch_under rows (branch_of_account r.account)) read_branch
+      (Ok (row_at branch_key t.branches (branch_of_account r.account)))
   pub floor : HoldsFloor rows (branch_of_account r.account) (floor_in t (branch_of_account r.account))
   -- the request that is kept under its teller and number, with its reference
   pub kept : HoldsKept rows r.teller r.number (kept_in t.requests t.references r.teller r.number)

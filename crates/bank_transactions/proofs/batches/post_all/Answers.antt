@@ -4,7 +4,7 @@ use Rattle.std.specs.Prelude.{IfOk}
 use Rattle.sqlite.specs.Held.{state}
 use Rattle.posting_batch.specs.View.{IsMadeOf}
 use Rattle.bank_transactions.specs.believed.Answered.{AnswersAll}
-use Rattle.bank_transactions.proofs.Tries.{faults_undone, idle_again, stored_again, transacts_again}
+use Rattle.bank_transactions.proofs.Tries.{faults_undone, idle_again, stored_again, transacts_again, whole_again}
 use Rattle.bank_transactions.proofs.Remembered.{still_fits}
 use Rattle.bank_transactions.proofs.Exits.{clean_at, handed_on}
 use Rattle.bank_transactions.proofs.batches.post_all.Goals as goal
@@ -34,6 +34,7 @@ returns-then-not-is_tried g c =
       count = it.count;
       idle = it.idle;
       stored = it.wrote;
+      whole = it.whole;
       undone = it.undone;
       remembers = it.remembers;
     }
@@ -46,6 +47,7 @@ returns-in_err-replies g c =
       count = tt;
       idle = tt;
       stored = tt;
+      whole = failed.whole;
       undone = failed.undone;
       remembers = tt;
     })
@@ -58,6 +60,7 @@ returns-in-Answered g c =
       idle = λ clean records made t shows so none.
           absurd ((rw c.in-Answered.is at tried.busy) clean records made t shows so none);
       stored = rw c.in-Answered.is at tried.stored;
+      whole = tried.whole;
       undone = rw c.in-Answered.is at tried.undone;
       remembers = tried.remembers;
     }
@@ -95,6 +98,12 @@ returns-in-Again-clause-stored g c =
     (λ records made. clean_at (c.post_looked_up-in-Again.ensures.says records made).survives)
     (λ db records replies. AnswersAll db (state g.S.Store c.post_looked_up-in-Again.new.conn).now c.args.moment records
     replies.items) c.post_looked_up-in-Again.result c.post_looked_up-in-Again.ensures.wrote
+
+pub returns-in-Again-clause-whole : goal.returns-in-Again-clause-whole
+returns-in-Again-clause-whole g c records made =
+    let again = rw c.in-Again.is at c.in_ok-replies.ensures.again in
+    whole_again g.S.Store c.args.conn.now c.try_new.new.conn c.post_looked_up-in-Again.new.conn again.1 records
+    (c.post_looked_up-in-Again.ensures.whole records (again.0.made records made))
 
 pub returns-in-Again-clause-undone : goal.returns-in-Again-clause-undone
 returns-in-Again-clause-undone g c records made =

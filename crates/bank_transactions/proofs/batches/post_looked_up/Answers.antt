@@ -1,11 +1,13 @@
 -- The parts of the transaction are one: the batch is answered.
-use Rattle.std.proofs.Common.{refl, rules}
+use Rattle.std.proofs.Common.{ℕ, List, refl, rules}
+use Rattle.std.proofs.lemmas.Result.{IfOk-weaker}
 use Rattle.posting_batch.specs.View.{IsMadeOf}
 use Rattle.sqlite.specs.Effect.{Database}
 use Rattle.bank_transactions.specs.believed.Additions.{AddsForRecords}
 use Rattle.bank_transactions.specs.{Batches.RepliesLookedUp, believed.Answered.AnswersAll}
 use Rattle.bank_transactions.proofs.{HeldBatch.answered_after, HeldBatch.stored_after, Transacted.undoes, Idle.ends_items, Idle.idle_after}
 use Rattle.bank_transactions.proofs.{Remembered.begins, Remembered.ends_live, Transacted.of_given, Transacted.transacts_records}
+use Rattle.bank_transactions.proofs.Transacted.{whole_after}
 use Rattle.bank_transactions.proofs.batches.post_looked_up.Goals as goal
 
 pub returns-clause-says : goal.returns-clause-says
@@ -46,6 +48,16 @@ returns-clause-wrote g c =
     c.answer_batch-replies.result c.finish.result c.begin-tx.ensures.begun c.finish.ensures
     (λ records made. let does = c.answer_batch-replies.ensures.says records made in search rules)
     c.answer_batch-replies.ensures.wrote
+
+pub returns-clause-whole : goal.returns-clause-whole
+returns-clause-whole g c records made =
+    whole_after g.S.Store (λ old after. (replies : List (List ℕ)) × AnswersAll old after c.args.moment records replies)
+    c.args.conn.now c.begin-tx.result.conn.now c.answer_batch-replies.new.tx.conn.now c.finish.new.tx.0
+    c.conn-1.given.0 c.answer_batch-replies.result c.begin-tx.ensures.begun
+    (c.answer_batch-replies.ensures.says records made).says.survives c.finish.ensures.survives
+    (let does = c.answer_batch-replies.ensures.says records made in search rules)
+    (IfOk-weaker c.answer_batch-replies.result _ _ (λ replies it clean live.
+    (replies.items, it clean live records made)) c.answer_batch-replies.ensures.wrote)
 
 pub returns-clause-undone : goal.returns-clause-undone
 returns-clause-undone g c records made =

@@ -8,7 +8,8 @@ use Rattle.posting_batch.specs.View.{IsMadeOf}
 use Rattle.store_rows.specs.declared.fault.TableFault.TheVariants.{Sqlite}
 use Rattle.bank_transactions.specs.Tries.{batch_of}
 use Rattle.bank_transactions.proofs.Remembered.{begins, recalls_undone, tried_ends}
-use Rattle.bank_transactions.proofs.Tries.{as_before, not_asked, tried_busy, tried_says, tried_stored, tried_undone}
+use Rattle.bank_transactions.proofs.Tries.{as_before, not_asked, quiet_so, tried_busy, tried_says, tried_stored}
+use Rattle.bank_transactions.proofs.Tries.{tried_undone, tried_whole}
 use Rattle.bank_transactions.proofs.first_try.try_new.Goals.{in-Ok+in-Answered-1, in-Err-1}
 use Rattle.bank_transactions.proofs.first_try.try_new.Goals as goal
 
@@ -21,6 +22,14 @@ returns-in_err-probe_table-clause-says g c =
     c.in-Ok-Again.ensures.quiet (rw back at c.rollback.ensures.undone) (rw back at c.rollback.ensures.survives)
     (c.probe_table.ensures.mode (rw back at c.rollback.ensures.ended)) c.probe_table.ensures.survives
     c.in_err-probe_table.field-0.0 (λ clean. rw c.in_err-probe_table.was at c.probe_table.ensures.answers clean))
+
+pub returns-in_err-probe_table-clause-whole : goal.returns-in_err-probe_table-clause-whole
+returns-in_err-probe_table-clause-whole g c records made =
+    let back : c.rollback.new.self.0 ≡ c.conn-1.given.0 = search rules in
+    quiet_so g.S.Store c.args.conn.now c.begin-tx.result c.answer_new-tried.new.tx
+    c.conn-1.given.0 c.probe_table.new.conn c.begin-tx.ensures.begun c.begin-tx.ensures.settled
+    c.in-Ok-Again.ensures.quiet (rw back at c.rollback.ensures.undone) (rw back at c.rollback.ensures.survives)
+    (c.probe_table.ensures.mode (rw back at c.rollback.ensures.ended)) c.probe_table.ensures.survives _
 
 pub returns-clause-says : goal.returns-clause-says
 returns-clause-says g c =
@@ -74,6 +83,22 @@ returns-clause-stored g c =
     c.begin-tx.ensures.begun c.begin-tx.ensures.settled (rw same at c.finish.ensures)
     (λ records made. search rules) c.requires.made c.answer_new-tried.ensures.stored
 
+pub returns-clause-whole : goal.returns-clause-whole
+returns-clause-whole g c records made =
+    let same : c.match-tried.tried ≡ c.answer_new-tried.result = elim c.match-tried.branch [
+      | in-Ok+in-Answered-1 w ↦ search rules
+      | in-Err-1 w ↦ w.tried-is
+    ] in
+    let none : batch_of c.answer_new-tried.result ≡ None = elim c.match-tried.branch [
+      | in-Ok+in-Answered-1 w ↦ search rules
+      | in-Err-1 w ↦ search rules
+    ] in
+    tried_whole g.S.Store (IsMadeOf c.args.batch) c.args.moment c.args.conn.now c.begin-tx.result
+    c.answer_new-tried.new.tx c.finish.new.tx.0 c.conn-2-1.given.0 c.answer_new-tried.result c.finish.result
+    c.begin-tx.ensures.begun c.begin-tx.ensures.settled (rw same at c.finish.ensures)
+    (λ records made. search rules) records made c.requires.made none c.answer_new-tried.ensures.quiet.survives
+    c.answer_new-tried.ensures.stored
+
 -- ---- what is remembered
 
 pub answer_new-tried-requires : goal.answer_new-tried-requires
@@ -116,6 +141,10 @@ returns-in-Ok-Again g c =
       count = tt;
       busy = tt;
       stored = tt;
+      whole = λ records made. quiet_so g.S.Store c.args.conn.now c.begin-tx.result c.answer_new-tried.new.tx
+          c.conn-1.given.0 c.probe_table.new.conn c.begin-tx.ensures.begun c.begin-tx.ensures.settled
+          c.in-Ok-Again.ensures.quiet (rw back at c.rollback.ensures.undone) left
+          (c.probe_table.ensures.mode (rw back at c.rollback.ensures.ended)) more _;
       undone = tt;
       again = (rw c.in-Ok-Again.field-0-is at c.in-Ok-Again.ensures.again, before);
       remembers = recalls_undone g.S.Store c.args.conn.now c.begin-tx.result c.answer_new-tried.new.tx

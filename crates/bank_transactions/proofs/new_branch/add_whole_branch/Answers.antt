@@ -5,7 +5,7 @@ use Rattle.bank_transactions.specs.believed.Additions.{AddsBranch}
 use Rattle.posting_rules.specs.believed.{Commands.opened_with, Tables.Tables}
 use Rattle.bank_transactions.specs.believed.Openings.{HasRoomToOpen}
 use Rattle.bank_transactions.proofs.OpeningRows.{floor_apart}
-use Rattle.bank_transactions.proofs.Chained.{does_adds, does_err, does_for, does_then}
+use Rattle.bank_transactions.proofs.Running.{writes_adds, writes_err, writes_for, writes_then}
 use Rattle.bank_transactions.proofs.Left.{leaves_err, leaves_then}
 use Rattle.bank_transactions.proofs.Exits.{handed_on}
 use Rattle.bank_transactions.proofs.new_branch.add_whole_branch.Goals as goal
@@ -23,22 +23,22 @@ with_its_floor b count floor text values (inr (inl it)) = inr (inl it)
 with_its_floor b count floor text values (inr (inr (inl it))) = inr (inr (inl it))
 with_its_floor b count floor text values (inr (inr (inr none))) = absurd (let is = none.1 in cc)
 
-pub returns-in_err-add_branch_with_rows-clause-does : goal.returns-in_err-add_branch_with_rows-clause-does
-returns-in_err-add_branch_with_rows-clause-does g c =
+pub returns-in_err-add_branch_with_rows-clause-writes : goal.returns-in_err-add_branch_with_rows-clause-writes
+returns-in_err-add_branch_with_rows-clause-writes g c =
     let same = handed_on c.from_residual.result c.from_residual.ensures.1 in
-    rw same (does_err (does_adds (λ clean. with_its_floor c.args.branch c.args.count c.args.floor)
-    c.in_err-add_branch_with_rows.ensures.does) (λ t new. (without_floor _ _ _ t new.0, new.1)))
+    rw same (writes_err (writes_adds (λ clean. with_its_floor c.args.branch c.args.count c.args.floor)
+    c.in_err-add_branch_with_rows.ensures.writes) (λ t new. (without_floor _ _ _ t new.0, new.1)))
 
-pub returns-clause-does : goal.returns-clause-does
-returns-clause-does g c =
+pub returns-clause-writes : goal.returns-clause-writes
+returns-clause-writes g c =
     let b = c.args.branch in
     let count = c.args.count in
     let floor = c.args.floor in
-    does_for (does_then (does_for (does_adds (λ clean. with_its_floor b count floor)
-    c.in_ok-add_branch_with_rows.ensures.does) (λ t new. ((without_floor b count floor t new.0, new.1), refl, refl)))
-    (does_adds (λ clean text values own. inr (inr (inr own))) c.add_its_floor.ensures.does)
+    writes_for (writes_then (writes_for (writes_adds (λ clean. with_its_floor b count floor)
+    c.in_ok-add_branch_with_rows.ensures.writes) (λ t new. ((without_floor b count floor t new.0, new.1), refl)))
+    (writes_adds (λ clean text values own. inr (inr (inr own))) c.add_its_floor.ensures.writes)
     (λ t new. floor_apart t b count floor new.0.floor))
-    (λ t new. (new, refl, refl))
+    (λ t new. (new, refl))
 
 pub returns-in_err-add_branch_with_rows-clause-leaves : goal.returns-in_err-add_branch_with_rows-clause-leaves
 returns-in_err-add_branch_with_rows-clause-leaves g c =
@@ -47,5 +47,5 @@ returns-in_err-add_branch_with_rows-clause-leaves g c =
 
 pub returns-clause-leaves : goal.returns-clause-leaves
 returns-clause-leaves g c =
-    leaves_then c.in_ok-add_branch_with_rows.ensures.does c.add_its_floor.ensures.does
+    leaves_then c.in_ok-add_branch_with_rows.ensures.writes.does c.add_its_floor.ensures.writes.does
     c.in_ok-add_branch_with_rows.ensures.leaves c.add_its_floor.ensures.leaves

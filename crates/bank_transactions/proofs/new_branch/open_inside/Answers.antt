@@ -18,6 +18,7 @@ use Rattle.sqlite_trees.specs.declared.store.Store.{Ghosts}
 use Rattle.sqlite.specs.{Effect.Database, Held.state, State.HasCleanDisk}
 use Rattle.store_rows.specs.believed.View.{Shows}
 use Rattle.bank_transactions.proofs.Exits.{clean_at, handed_on}
+use Rattle.bank_transactions.proofs.Running.{ran_since}
 use Rattle.bank_transactions.proofs.new_branch.open_inside.Goals as goal
 
 -- a branch that is open stays as it is
@@ -80,7 +81,7 @@ returns-in_err-add_whole_branch-in-Opened g c =
       acts = acts_wrote (does_but (does_look (looked b terms _ c.in_ok-opening.ensures.above (omega arith)
           c.in_ok-opening.ensures.says
           c.in_ok-opening.ensures.stored))
-          c.in_err-add_whole_branch-in-Opened.ensures.does
+          c.in_err-add_whole_branch-in-Opened.ensures.writes.does
           (λ t ready found.
           let at = not_there t b terms (row_at branch_key t.branches b) (sym c.in-Opened.is ∙ found) in
           (ready at, at)));
@@ -93,7 +94,7 @@ returns-in_ok-add_whole_branch-in-Opened-clause-acts g c =
     let terms = opened_with c.args.count c.args.floor in
     acts_wrote (does_both (does_look (looked b terms _ c.in_ok-opening.ensures.above (omega arith) c.in_ok-opening.ensures.says
     c.in_ok-opening.ensures.stored))
-    c.in_ok-add_whole_branch-in-Opened.ensures.does
+    c.in_ok-add_whole_branch-in-Opened.ensures.writes.does
     (λ t ready found.
     let at = not_there t b terms (row_at branch_key t.branches b) (sym c.in-Opened.is ∙ found) in
     ((ready at, at), opened_now t b terms at, sym c.in-Opened.is ∙ found)))
@@ -102,22 +103,27 @@ returns-in_ok-add_whole_branch-in-Opened-clause-acts g c =
 
 pub returns-in_default-clause-stored : goal.returns-in_default-clause-stored
 returns-in_default-clause-stored g c clean live = record {
-  answers = c.in_ok-opening.ensures.stored clean;
-  stays = λ other. (c.in_ok-opening.ensures.says.says.leaves clean).0.now;
-  opens = λ is t shows. absurd (c.in_default.not-Opened is);
+  answers = record {
+    answers = c.in_ok-opening.ensures.stored clean;
+    stays = λ other. (c.in_ok-opening.ensures.says.says.leaves clean).0.now;
+    opens = λ is t shows. absurd (c.in_default.not-Opened is);
+  };
+  wrote = λ is. absurd (c.in_default.not-Opened is);
 }
 
 pub returns-in_ok-add_whole_branch-in-Opened-clause-stored : goal.returns-in_ok-add_whole_branch-in-Opened-clause-stored
 returns-in_ok-add_whole_branch-in-Opened-clause-stored g c clean live =
     let added = c.in_ok-add_whole_branch-in-Opened.ensures in
-    let mid = clean_at added.does.says.survives clean in
+    let mid = clean_at added.writes.does.says.survives clean in
     let looked = (c.in_ok-opening.ensures.says.says.leaves mid).0 in
+    let goes_on = still_in (state g.S.Store c.args.tx.now.conn.now) (state g.S.Store c.opening_of.new.tx.conn.now)
+    looked.goes_on live in
     record {
-      answers = rw c.in-Opened.is at (c.in_ok-opening.ensures.stored mid);
-      stays = λ other. absurd (other refl);
-      opens = λ is t shows.
-          added.leaves.shown clean
-          (still_in (state g.S.Store c.args.tx.now.conn.now) (state g.S.Store c.opening_of.new.tx.conn.now)
-          looked.goes_on live) t
-          (subst (λ (db : Database). Shows db t) (sym looked.now) shows);
+      answers = record {
+        answers = rw c.in-Opened.is at (c.in_ok-opening.ensures.stored mid);
+        stays = λ other. absurd (other refl);
+        opens = λ is t shows.
+            added.leaves.shown clean goes_on t (subst (λ (db : Database). Shows db t) (sym looked.now) shows);
+      };
+      wrote = λ is. ran_since looked.now (λ text values own. own) (added.writes.ran clean goes_on);
     }
