@@ -32,6 +32,16 @@ module _ {S : Type 0} (g : Ghosts S) where
       left = survives_weaker (file_of old) (file_of new) (λ _. ⊥) _ (λ clean db none. absurd none) leaves.left;
     }
 
+  -- nothing was done, or the bank went down: no more is left
+  pub idle_keeps : (bank : Bank S g) (P : Trees → Type 0) → Survives (file_of bank) (file_of bank) P
+  idle_keeps bank P = survives_weaker (file_of bank) (file_of bank) (λ _. ⊥) P (λ clean db none. absurd none)
+      (nothing_called (file_of bank))
+
+  pub down_keeps : (old new : Bank S g) (mid : Held S) (P : Trees → Type 0) → Survives (file_of old) (state g mid) P
+      → Survives (state g mid) (file_of new) (λ _. ⊥) → Survives (file_of old) (file_of new) P
+  down_keeps old new mid P left quiet = survives_then (file_of old) (state g mid) (file_of new) P (λ _. ⊥) P
+      (λ clean db h. h) (λ clean db none. absurd none) left quiet
+
   pub idle_commits : (bank : Bank S g) → CommitsAsFound g bank bank
   idle_commits bank = as_found_commits bank bank (idle_as_found bank)
 
@@ -51,12 +61,8 @@ module _ {S : Type 0} (g : Ghosts S) where
       now = λ clean is_open.
           let same = undone clean is_open in
           same.now_is ∙ now (omega (arith, quiet.clean, clean)) same.was_open;
-      left = survives_then (file_of old) (state g mid) (file_of new) IsFound (λ _. ⊥) IsFound (λ clean db h. h)
-          (λ clean db none. absurd none) left quiet;
+      left = down_keeps old new mid _ left quiet;
     }
-      where
-        IsFound : Trees → Type 0
-        IsFound trees = trees ≡ (database_of g old).trees
 
     -- a call that only reads was answered
     pub reads_done : {X : Type 0} (x : X) → (HasCleanDisk (file_of new) → database_of g new ≡ database_of g old)

@@ -241,14 +241,14 @@ impl<S: Alter + Drop> Counter for Bank<S> {
     ghost use Rattle.message_records.specs.believed.Records.{RequestFields};
     ghost use Rattle.message_records.specs.declared.fault.Bad.{Bad};
     ghost use Rattle.posting_rules.specs.believed.Entries.{malformed_reply};
-    ghost use Rattle.bank_transactions.specs.believed.Stored.{IsStoredBalance, OpensByStored};
+    ghost use Rattle.bank_transactions.specs.believed.Stored.{IsStoredBalance};
     ghost use Rattle.bank_transactions.specs.Stored.{IsStoredNext};
-    ghost use Rattle.bank_transactions.specs.believed.Answered.{AnswersAll, AnswersOne};
+    ghost use Rattle.bank_transactions.specs.believed.Answered.{AnswersAll, AnswersOne, KeepsOpening, KeepsWhole, OpensAll};
     ghost use Rattle.bank_store.specs.believed.Down.{AnswersBy, IsBankCall, OfDamage};
     ghost use Rattle.bank_store.specs.Down.{WasBroken};
     ghost use Rattle.bank_store.specs.believed.Down.{bank_reason};
     ghost use Rattle.bank_store.specs.Leaving.{OnlyReads};
-    ghost use Rattle.bank_store.specs.believed.NoneOrAll.{LeavesAll, LeavesNoneOrAll, LeavesOne};
+    ghost use Rattle.bank_store.specs.believed.NoneOrAll.{LeavesAll, LeavesNoneOrAll, LeavesOne, OnAnyRows};
     ghost use Rattle.bank_store.specs.believed.NoneOrAll.{RefusesOpening, RefusesRecords};
     ghost use Rattle.bank_store.specs.believed.Seen.{bank_seen, database_of};
     ghost use Rattle.bank_store.specs.believed.BankSparing.{SparesOtherTables};
@@ -281,11 +281,11 @@ impl<S: Alter + Drop> Counter for Bank<S> {
             (λ log out. out ≡ reply_spelling (reply log bytes.now)) }
         ensures call { IsBankCall S.Store self.old self.new (Post moment bytes.now ∷ []) result }
         ensures frugal { result ≢ Err fault.Memory }
-        // Whatever rows the file holds, and whatever tables it has: a request that is kept changes nothing, and one that
-        // is told to be posted was written.
-        ensures stored { IfOk result (λ out. (bank_seen S.Store self.new).honest → (r : RequestFields)
-            → request_of bytes.now ≡ Ok r
-            → AnswersOne (database_of S.Store self.old) (database_of S.Store self.new) moment bytes.now r out) }
+        // Whatever rows the file holds, and whatever tables it has: a request that is kept changes nothing, and of one
+        // that is new all that is due is written, and nothing else; a crash leaves all of that or nothing.
+        ensures stored { OnAnyRows S.Store self.old self.new (λ out. (r : RequestFields) → request_of bytes.now ≡ Ok r
+            → AnswersOne (database_of S.Store self.old) (database_of S.Store self.new) moment bytes.now r out)
+            (KeepsWhole (database_of S.Store self.old) moment (bytes.now ∷ [])) result }
         // Be the tables of a log, damaged or neither.
         ensures leaves { IfOk result (λ out. LeavesOne S.Store self.old self.new moment bytes.now out) }
         // Bytes that are no request are told so, whatever rows the file holds, and the bank is as it was.
@@ -336,11 +336,11 @@ impl<S: Alter + Drop> Counter for Bank<S> {
         // a crash leaves.
         ensures leaves { IfOk result (λ replies. LeavesAll S.Store self.old self.new moment records.now
             replies.items) }
-        // Whatever rows the file holds, and whatever tables it has: records that are all kept change nothing, and each
-        // that is told to be posted was written.
-        ensures stored { IfOk result (λ replies. (bank_seen S.Store self.new).honest
-            → AnswersAll (database_of S.Store self.old) (database_of S.Store self.new) moment records.now
-            replies.items) }
+        // Whatever rows the file holds, and whatever tables it has: records that are all kept change nothing, and of the
+        // others all that is due is written, and nothing else; a crash leaves all of that or nothing.
+        ensures stored { OnAnyRows S.Store self.old self.new (λ replies. AnswersAll (database_of S.Store self.old)
+            (database_of S.Store self.new) moment records.now replies.items)
+            (KeepsWhole (database_of S.Store self.old) moment records.now) result }
         // A key that is taken is one of the next ordinals', at most one a record, unless the file has no bank's
         // tables. Where those are free, the rows that the file held break the rule, and a crash leaves all of the
         // batch or nothing.
@@ -378,10 +378,11 @@ impl<S: Alter + Drop> Counter for Bank<S> {
             (λ log opening. opening ≡ opening_after log branch (opened_with count floor)) }
         ensures call { IsBankCall S.Store self.old self.new (Open branch (opened_with count floor) ∷ []) result }
         ensures frugal { result ≢ Err fault.Memory }
-        // Whatever rows the file holds.
-        ensures stored { IfOk result (λ opening. (bank_seen S.Store self.new).honest
-            → OpensByStored (database_of S.Store self.old) (database_of S.Store self.new) branch
-            (opened_with count floor) opening) }
+        // Whatever rows the file holds: of a branch that is opened all rows are written, and nothing else; a crash leaves
+        // all of them or nothing.
+        ensures stored { OnAnyRows S.Store self.old self.new (OpensAll (database_of S.Store self.old)
+            (database_of S.Store self.new) branch (opened_with count floor))
+            (KeepsOpening (database_of S.Store self.old) branch (opened_with count floor)) result }
         // A key that is taken is the branch's own, one of its tellers', of its accounts' or its floor's, unless the
         // file has no bank's tables. It changes no row that is there, so that none can be missing. Where those keys
         // are free, the rows that the file held break the rule, and a crash leaves all of the branch or nothing.

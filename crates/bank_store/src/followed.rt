@@ -74,8 +74,7 @@ impl<S: Alter + Drop> Followed for Bank<S> {
         // Whatever rows the file holds.
         ensures stored { IfOk result (λ balance. (bank_seen S.Store self.new).honest
             → IsStoredTill (database_of S.Store self.old) teller balance) }
-        ensures still { OnOk result ((bank_seen S.Store self.new).honest
-            → database_of S.Store self.new ≡ database_of S.Store self.old) }
+        ensures reads { OnlyReads S.Store self.old self.new result }
         ensures broken { IfErr result (λ fault. OfDamage fault (WasBroken S.Store self.old self.new)) }
     {
         if self.is_down() {

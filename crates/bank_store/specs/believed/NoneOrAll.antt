@@ -1,5 +1,7 @@
 -- Commands that are kept together or not at all, and what records leave of tables, of a log or not.
-use Rattle.std.specs.Prelude.{◌≡◌, ◌⊎◌, ℕ, List, [], ◌∷◌, Ok, length}
+use Rattle.std.specs.Prelude.{◌≡◌, ◌⊎◌, ℕ, List, [], ◌∷◌, IfOk, Ok, Result, length}
+use Rattle.sqlite.specs.State.{Survives}
+use Rattle.sqlite.specs.Tree.{Trees}
 use Rattle.message_records.specs.believed.{Reading.request_of, Records.RequestFields}
 use Rattle.posting_rules.specs.believed.AnyTables.{AnswersByTables}
 use Rattle.posting_rules.specs.believed.Changes.{replies_past_all, tables_opened, tables_past_all}
@@ -12,8 +14,14 @@ use Rattle.bank_transactions.specs.believed.Batches.{DecidesNone, HasRoomFor}
 use Rattle.bank_transactions.specs.believed.Openings.{IsReadyToOpen}
 use Rattle.sqlite_trees.specs.declared.store.Store.{Ghosts}
 use Rattle.bank_store.specs.believed.Down.{BreaksOpening, BreaksRule, OfDamage}
-use Rattle.bank_store.specs.believed.Seen.{bank_seen, database_of}
+use Rattle.bank_store.specs.believed.Seen.{bank_seen, database_of, file_of}
 use Rattle.bank_store.specs.declared.bank.Bank.{Bank}
+
+-- Whatever rows the file holds: what an answer says, and what a crash may leave besides what it could leave before.
+pub record OnAnyRows {S X : Type 0} (g : Ghosts S) (old new : Bank S g) (Said : X → Type 0) (IsWhole : Trees → Type 0)
+    (result : Result X Fault) : Type 0 where
+  pub answers : IfOk result (λ x. (bank_seen g new).honest → Said x)
+  pub whole : Survives (file_of old) (file_of new) IsWhole
 
 -- wherever the counter stood at a log, everything that a crash may leave now shows the log, or the log with
 -- all the commands after it

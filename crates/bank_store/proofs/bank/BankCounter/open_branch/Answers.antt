@@ -3,7 +3,7 @@ use Rattle.std.proofs.Common.{◌≤◌, [], ◌∷◌, ◌∙◌, refl, sym}
 use Rattle.posting_rules.specs.declared.fault.Fault.TheVariants.{Down}
 use Rattle.posting_rules.specs.believed.Commands.{Open, AreCommands, opened_with}
 use Rattle.posting_rules.proofs.{Calls.opens, Calls.answers}
-use Rattle.bank_store.proofs.{Broke.breaks_shown, Countered.ready_to_open}
+use Rattle.bank_store.proofs.{AsFound.down_keeps, AsFound.idle_keeps, Broke.breaks_shown, Countered.ready_to_open}
 use Rattle.bank_store.proofs.bank.BankCounter.open_branch.Given.{Over}
 use Rattle.bank_store.specs.Seen.{fault_of}
 use Rattle.bank_store.proofs.OtherTables.{spares_done, spares_down, spares_untouched}
@@ -62,7 +62,7 @@ returns-in-Ok g c =
           committed_call g.S.Store c.args.self.now _ (ready_to_open b terms above c.requires.few) (Open b terms ∷ []) (opens b terms above c.requires.few) are _ (is_up c.args.self.now.fault c.is_down.ensures c.if-is_down.false) (is_up c.args.self.now.fault c.is_down.ensures c.if-is_down.false)
           says;
       frugal = λ same. (let it = same in cc);
-      stored = c.in-Ok.ensures.stored;
+      stored = record { answers = c.in-Ok.ensures.stored; whole = c.in-Ok.ensures.whole };
       own = tt;
       spares = spares_done g.S.Store c.args.self.now _ _ (is_up c.args.self.now.fault c.is_down.ensures c.if-is_down.false) says.spares;
     }
@@ -77,7 +77,11 @@ returns-in-Err g c =
       call = refused_call g.S.Store c.args.self.now c.go_down.new.self _ c.go_down.result no
           (is_up c.args.self.now.fault c.is_down.ensures c.if-is_down.false);
       frugal = λ same. no.frugal (let it = same in cc);
-      stored = tt;
+      stored = record {
+        answers = tt;
+        whole = down_keeps g.S.Store c.args.self.now c.go_down.new.self c.open_branch.new.conn _ c.in-Err.ensures.whole
+            c.go_down.ensures.survives;
+      };
       own = record {
         damage = breaks_opening g.S.Store b terms c.args.self.now c.go_down.new.self c.go_down.result no.broken
             (breaks_shown g.S.Store c.args.self.now.conn c.open_branch.new.conn c.go_down.new.self.conn
@@ -100,7 +104,7 @@ returns-then-is_down g c =
       answer = tt;
       call = untried_call g.S.Store c.args.self.now _ down;
       frugal = λ same. (let it = same in cc);
-      stored = tt;
+      stored = record { answers = tt; whole = idle_keeps g.S.Store c.args.self.now _ };
       own = untried_opening g.S.Store c.args.self.now c.args.branch (opened_with c.args.count c.args.floor) Down refl;
       spares = spares_untouched g.S.Store c.args.self.now;
     }

@@ -14,7 +14,7 @@ use Rattle.posting_rules.specs.believed.{Entries.reply, Entries.reply_given, Run
 use Rattle.bank_store.specs.believed.Seen.{bank_seen, database_of}
 use Rattle.posting_rules.proofs.{Calls.IsChange, Records.all_replies, Records.posts_all}
 use Rattle.posting_rules.proofs.TablesWithRecord.{malformed_shown}
-use Rattle.bank_store.proofs.{Countered.of_logs, Countered.takes_untried}
+use Rattle.bank_store.proofs.{AsFound.down_keeps, AsFound.idle_keeps, Countered.of_logs, Countered.takes_untried}
 use Rattle.bank_store.proofs.OtherTables.{spares_done, spares_down, spares_untouched}
 use Rattle.bank_store.proofs.ByTables.{leaves_malformed, leaves_request}
 use Rattle.bank_store.proofs.{Broke.breaks_shown, Either.either_after, Either.untried_records}
@@ -77,7 +77,10 @@ returns-in_default g c =
           (takes_untried (bank_seen g.S.Store c.args.self.now) (posts m (bytes ∷ []))
           (changes_nothing bytes bad read m) are) (λ clean. clean);
       frugal = λ same. (let it = same in cc);
-      stored = λ clean r is. absurd (no_request (sym is ∙ read));
+      stored = record {
+        answers = λ clean r is. absurd (no_request (sym is ∙ read));
+        whole = idle_keeps g.S.Store c.args.self.now _;
+      };
       leaves = leaves_malformed g.S.Store c.args.self.now m bytes _ bad read out;
       malformed = λ up bad is. (ap Ok out, refl);
       own = tt;
@@ -102,9 +105,12 @@ returns-in-Ok-post_looked_up g c =
           committed_call g.S.Store c.args.self.now _ (of_logs 1) (posts m rs) (posts_all m rs) are _ (is_up c.args.self.now.fault c.is_down.ensures c.if-is_down.false) (is_up c.args.self.now.fault c.is_down.ensures c.if-is_down.false)
           says;
       frugal = λ same. (let it = same in cc);
-      stored = λ clean r is. record {
-        answers = one_stored is (subst (RepliesLookedUp _ _ m rs) c.only_reply.ensures (it.stored clean rs made));
-        alone = subst (AnswersAll _ _ m rs) c.only_reply.ensures (it.wrote clean rs made);
+      stored = record {
+        answers = λ clean r is. record {
+          answers = one_stored is (subst (RepliesLookedUp _ _ m rs) c.only_reply.ensures (it.stored clean rs made));
+          alone = subst (AnswersAll _ _ m rs) c.only_reply.ensures (it.wrote clean rs made);
+        };
+        whole = it.whole rs made;
       };
       leaves = leaves_request g.S.Store c.args.self.now _ m c.args.bytes.now _ c.in-Ok.request read
           (λ clean r is t shows so.
@@ -137,7 +143,11 @@ returns-in-Err g c =
       call = refused_call g.S.Store c.args.self.now c.go_down.new.self _ c.go_down.result no
           (is_up c.args.self.now.fault c.is_down.ensures c.if-is_down.false);
       frugal = λ same. no.frugal (let it = same in cc);
-      stored = tt;
+      stored = record {
+        answers = tt;
+        whole = down_keeps g.S.Store c.args.self.now c.go_down.new.self c.post_looked_up.new.conn _
+            (c.in-Err.ensures.whole rs made) c.go_down.ensures.survives;
+      };
       leaves = tt;
       malformed = λ up bad is. absurd (no_request (sym read ∙ is));
       own = record {
@@ -161,7 +171,7 @@ returns-then-is_down g c =
       answer = tt;
       call = untried_call g.S.Store c.args.self.now _ down;
       frugal = λ same. (let it = same in cc);
-      stored = tt;
+      stored = record { answers = tt; whole = idle_keeps g.S.Store c.args.self.now _ };
       leaves = tt;
       malformed = λ up bad is. absurd (up down);
       own = untried_records g.S.Store c.args.self.now c.args.moment (c.args.bytes.now ∷ []) Down (inl refl);

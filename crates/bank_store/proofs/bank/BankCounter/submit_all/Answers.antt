@@ -11,7 +11,7 @@ use Rattle.bank_store.specs.believed.Seen.{bank_seen, database_of}
 use Rattle.bank_store.proofs.{bank.BankCounter.submit_all.Given.Over}
 use Rattle.bank_store.proofs.Countered.{none_or_all, none_or_all_down, none_or_all_untried, of_logs}
 use Rattle.bank_store.proofs.OtherTables.{spares_done, spares_down, spares_untouched}
-use Rattle.bank_store.proofs.ByTables.{leaves_all}
+use Rattle.bank_store.proofs.{AsFound.down_keeps, AsFound.idle_keeps, ByTables.leaves_all}
 use Rattle.bank_store.proofs.{Broke.breaks_shown, Either.either_after, Either.untried_records}
 use Rattle.bank_store.proofs.Refusing.{committed_call, breaks, is_up, refused_call, spared_call, transaction_refused}
 use Rattle.bank_store.proofs.Refusing.{untried_call}
@@ -81,7 +81,10 @@ returns-in-Ok g c =
             };
             idle = λ none. let it = c.in-Ok.ensures.idle clean rs made t shows so none in (it.leads, it.same);
           });
-      stored = λ clean. subst (AnswersAll _ _ m rs) (sym same) (c.in-Ok.ensures.stored clean rs made);
+      stored = record {
+        answers = λ clean. subst (AnswersAll _ _ m rs) (sym same) (c.in-Ok.ensures.stored clean rs made);
+        whole = c.in-Ok.ensures.whole rs made;
+      };
       own = tt;
       spares = spares_done g.S.Store c.args.self.now _ _ (is_up c.args.self.now.fault c.is_down.ensures c.if-is_down.false) says.spares;
     }
@@ -118,7 +121,11 @@ returns-in-Err g c =
           (IsSome c.go_down.new.self.fault) (c.in-Err.ensures.says rs c.in_ok-batch.ensures.made)
           c.go_down.ensures.survives;
       leaves = tt;
-      stored = tt;
+      stored = record {
+        answers = tt;
+        whole = down_keeps g.S.Store c.args.self.now c.go_down.new.self c.post_all.new.conn _
+            (c.in-Err.ensures.whole rs c.in_ok-batch.ensures.made) c.go_down.ensures.survives;
+      };
       own = record {
         damage = breaks g.S.Store rs c.args.self.now c.go_down.new.self c.go_down.result no.broken
             (breaks_shown g.S.Store c.args.self.now.conn c.post_all.new.conn c.go_down.new.self.conn
@@ -144,7 +151,7 @@ returns-then-is_down g c =
       call = untried_call g.S.Store c.args.self.now _ down;
       none_or_all = none_or_all_untried (bank_seen g.S.Store c.args.self.now) (posts c.args.moment c.args.records.now);
       leaves = tt;
-      stored = tt;
+      stored = record { answers = tt; whole = idle_keeps g.S.Store c.args.self.now _ };
       own = untried_records g.S.Store c.args.self.now c.args.moment c.args.records.now Down (inl refl);
       spares = spares_untouched g.S.Store c.args.self.now;
     }
@@ -158,7 +165,7 @@ returns-in_err-replies g c =
       call = spared_call g.S.Store c.args.self.now _ (Err p.0) p.0 refl p.2 (is_up c.args.self.now.fault c.is_down.ensures c.if-is_down.false);
       none_or_all = none_or_all_untried (bank_seen g.S.Store c.args.self.now) (posts c.args.moment c.args.records.now);
       leaves = tt;
-      stored = tt;
+      stored = record { answers = tt; whole = idle_keeps g.S.Store c.args.self.now _ };
       own = untried_records g.S.Store c.args.self.now c.args.moment c.args.records.now p.0 (inr p.2);
       spares = spares_untouched g.S.Store c.args.self.now;
     })
@@ -172,7 +179,7 @@ returns-in_err-batch g c =
       call = spared_call g.S.Store c.args.self.now _ (Err p.0) p.0 refl p.2 (is_up c.args.self.now.fault c.is_down.ensures c.if-is_down.false);
       none_or_all = none_or_all_untried (bank_seen g.S.Store c.args.self.now) (posts c.args.moment c.args.records.now);
       leaves = tt;
-      stored = tt;
+      stored = record { answers = tt; whole = idle_keeps g.S.Store c.args.self.now _ };
       own = untried_records g.S.Store c.args.self.now c.args.moment c.args.records.now p.0 (inr p.2);
       spares = spares_untouched g.S.Store c.args.self.now;
     })

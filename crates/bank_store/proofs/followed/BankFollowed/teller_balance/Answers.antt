@@ -1,11 +1,12 @@
 -- What a teller's balance comes to.
-use Rattle.std.proofs.Common.{[], ◌∙◌, ap, subst, sym}
+use Rattle.std.proofs.Common.{[], ◌∙◌, Err, ap, subst, sym}
 use Rattle.std.specs.{Option.option_map}
 use Rattle.sqlite.specs.Effect.{Database}
 use Rattle.store_rows.specs.believed.View.{Shows}
 use Rattle.posting_rules.proofs.{Calls.stays, ChangesByKey.sound_tables}
 use Rattle.bank_store.specs.Tills.{own_balance}
-use Rattle.bank_store.proofs.{Tills.till_shown}
+use Rattle.posting_rules.specs.declared.fault.Fault.TheVariants.{Down}
+use Rattle.bank_store.proofs.{AsFound.idle_reads, AsFound.reads_done, AsFound.reads_down, Tills.till_shown}
 use Rattle.bank_store.proofs.OtherTables.{spares_done, spares_down, spares_untouched}
 use Rattle.bank_store.proofs.Refusing.{committed_call, consult_refused, is_up, refused_call, untried_call}
 use Rattle.bank_transactions.proofs.Remembered.{blank}
@@ -37,7 +38,7 @@ returns-in-Ok g c =
       spares = spares_done g.S.Store c.args.self.now _ _ (is_up c.args.self.now.fault c.is_down.ensures c.if-is_down.false) it.says.spares;
       stored = λ clean.
           record { balances = c.in-Ok.balances; stored = it.stored clean; own = c.own_balance.ensures };
-      still = it.still;
+      reads = reads_done g.S.Store c.args.self.now _ c.in-Ok.balances it.still it.left;
       broken = tt;
     }
 
@@ -55,7 +56,8 @@ returns-in-Err g c =
       spares = spares_down g.S.Store c.args.self.now c.go_down.new.self c.read_teller.new.conn c.in-Err.fault
           c.go_down.result (is_up c.args.self.now.fault c.is_down.ensures c.if-is_down.false) it.says.spares it.undone down.down down.undone down.survives;
       stored = tt;
-      still = tt;
+      reads = reads_down g.S.Store c.args.self.now c.go_down.new.self c.read_teller.new.conn c.go_down.result it.undone
+          it.left down.undone down.survives;
       broken = no.broken;
     }
 
@@ -69,6 +71,6 @@ returns-then-is_down g c =
       frugal = λ same. (let it = same in cc);
       spares = spares_untouched g.S.Store c.args.self.now;
       stored = tt;
-      still = tt;
+      reads = idle_reads g.S.Store c.args.self.now (Err Down);
       broken = tt;
     }
