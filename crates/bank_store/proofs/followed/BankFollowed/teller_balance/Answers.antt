@@ -38,7 +38,7 @@ returns-in-Ok g c =
       spares = spares_done g.S.Store c.args.self.now _ _ (is_up c.args.self.now.fault c.is_down.ensures c.if-is_down.false) it.says.spares;
       stored = λ clean.
           record { balances = c.in-Ok.balances; stored = it.stored clean; own = c.own_balance.ensures };
-      reads = reads_done g.S.Store c.args.self.now _ c.in-Ok.balances it.still it.left;
+      reads = reads_done g.S.Store c.args.self.now _ c.own_balance.result it.still it.left;
       broken = tt;
     }
 
