@@ -28,9 +28,9 @@ line text = text ++ 10 ∷ []
 abbrev pub created_line : List ℕ
 created_line = line (codes "created")
 
--- a bank can be used
+-- a bank can be opened
 abbrev pub usable_line : List ℕ
-usable_line = line (codes "nothing is wrong")
+usable_line = line (codes "it can be opened: bank audit looks at its rows")
 
 -- so many branches of a plan got each answer
 abbrev pub loaded_line : Loaded → List ℕ

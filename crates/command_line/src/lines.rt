@@ -44,14 +44,14 @@ pub fn print_created<W: Sink>(output: &mut W) -> Result<(), CommandFault>
     print_line("created\n", output)
 }
 
-/// Prints `nothing is wrong`.
+/// Prints that a bank can be opened, and what looks at its rows.
 pub fn print_usable<W: Sink>(output: &mut W) -> Result<(), CommandFault>
     ensures prints { PrintsLine usable_line (W.contents output.old) (W.contents output.new)
         (W.calls output.old) (W.calls output.new) result }
     ensures fault { OnErr result (IsErrOf result CommandFault.Write) }
     ensures failed { OnErr result (HasWriteFailed (W.calls output.old) (W.calls output.new)) }
 {
-    print_line("nothing is wrong\n", output)
+    print_line("it can be opened: bank audit looks at its rows\n", output)
 }
 
 /// Prints how many branches of a plan got each answer, as `opened 2 already 0 differs 0`.

@@ -292,9 +292,10 @@ Statuses: 0 done, 2 no command, and with a line on standard error
 pub const WHY: CommandTexts = CommandTexts {
     about: "Say why FILE can't be used",
     at_length: "\
-Look whether the bank of FILE can be used, and change nothing. If it can, print
-`nothing is wrong`; else a line on standard error has the fault, and at status 3
-a second one says what is wrong with FILE, as far as the system can tell.",
+Look whether the bank of FILE can be opened, and change nothing. If so, print
+`it can be opened: bank audit looks at its rows`; else a line on standard error
+has the fault, and at status 3 a second one says what is wrong with FILE, as far
+as the system can tell.",
     details: "\
 It reads FILE into memory. A full disk shows only as a command writes: run that
 at a terminal, or with BANK_WHY in the environment, which adds the second line.
