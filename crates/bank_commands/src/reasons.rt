@@ -34,6 +34,7 @@ pub(crate) enum Reason {
     NoDatabase,
     Encoding,
     AutoVacuum,
+    OtherLog,
     Opening(OpenError),
     Database(Error),
 }
@@ -70,6 +71,9 @@ impl fmt::Display for Reason {
             Reason::NoDatabase => f.write_str("it is no SQLite database"),
             Reason::Encoding => f.write_str("it is a database in UTF-16"),
             Reason::AutoVacuum => f.write_str("it is a database with auto_vacuum"),
+            Reason::OtherLog => f.write_str(
+                "its -wal is another file's or damaged: without it the file opens, and may lack postings",
+            ),
             Reason::Opening(error) => write!(f, "{error}"),
             Reason::Database(error) => write!(f, "{error}"),
         }
@@ -173,10 +177,25 @@ fn reason_of(rt: &HostRuntime, file: &str, is_full: bool) -> Option<Reason> {
     if is_full {
         return Some(Reason::Full);
     }
-    match look_into(rt, file) {
-        Ok(files) => error_of(rt.alloc(), files).map(Reason::Database),
-        Err(reason) => Some(reason),
+    let files = match look_into(rt, file) {
+        Ok(files) => files,
+        Err(reason) => return Some(reason),
+    };
+    let error = error_of(rt.alloc(), files)?;
+    if opens_alone(rt, file) {
+        Some(Reason::OtherLog)
+    } else {
+        Some(Reason::Database(error))
     }
+}
+
+// Whether a file can be opened without its log.
+fn opens_alone(rt: &HostRuntime, file: &str) -> bool {
+    let Ok(db) = copy_of(rt, file) else {
+        return false;
+    };
+    let log = Memory::new(rt.alloc());
+    error_of(rt.alloc(), Files { log, db }).is_none()
 }
 
 // Why files aren't opened, if they aren't. That they lie on any disk keeps the proof short.
