@@ -42,12 +42,15 @@ install -m 644 examples/completion.bash "$root/usr/share/bash-completion/complet
 install -m 644 examples/bank.nft "$root/etc/bank/"
 install -D -m 644 examples/teller.logrotate "$root/etc/logrotate.d/bank-teller"
 for unit in examples/*.service examples/*.timer; do
-    sed -e '/^#     install/d' -e s,/usr/local/bin/,/usr/bin/, "$unit" >"$root/lib/systemd/system/$(basename "$unit")"
+    sed -e '/^# *\(install\|for it\|done\)/d' -e s,/usr/local/bin/,/usr/bin/, "$unit" >"$root/lib/systemd/system/$(basename "$unit")"
+done
+for unit in examples/*.service; do
+    install -D -m 644 examples/sandbox.conf "$root/lib/systemd/system/$(basename "$unit").d/sandbox.conf"
 done
 cp -r README.md CHANGELOG.md CONTRIBUTING.md SECURITY.md docs examples "$doc/"
 # Those that need a checkout, or are in another place.
 rm -r "$doc"/examples/{set_up,look,day,man_page,standby,evening,watch}.sh "$doc"/examples/*.{service,timer} \
-    "$doc"/examples/{bank.nft,completion.bash}
+    "$doc"/examples/{bank.nft,completion.bash,sandbox.conf}
 chmod -R u=rwX,go=rX "$doc"
 if [ -e crates/bank/out/MANIFEST ]; then install -m 644 crates/bank/out/MANIFEST "$doc/"; fi
 cat >"$doc/copyright" <<END
