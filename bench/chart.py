@@ -1,5 +1,5 @@
 #!/usr/bin/env python3
-"""Prints the table of what `run.sh` measured, as docs/SPEED.md has it, and README's row, and draws it.
+"""Prints the table of what `run.sh` measured, as docs/SPEED.md has it, and draws it.
 
 usage: chart.py measured.csv speed.svg
 Each line of the first file is what was measured, by which system, and how many postings a second. A ratio is taken round by
@@ -18,7 +18,7 @@ CASES = [
     ("bare-one", "without a disk, one a commit"),
     ("bare-batch", "without a disk, 64 a commit"),
 ]
-SYSTEMS = [("ours", "this bank", "#1f6f54"), ("sqlite", "the C library", "#8a9ba8"), ("postgres", "PostgreSQL", "#c9a227")]
+SYSTEMS = [("ours", "this bank", "#1f6f54"), ("sqlite", "the C library", "#8a9ba8")]
 LEFT, BAR, GAP, WIDTH = 290, 16, 18, 780
 
 
@@ -47,31 +47,18 @@ def row(cells):
 
 
 def table(rates):
-    """The lines, with two columns more where the build of another tree took part."""
+    """The lines; with a program of another tree, what this one is of it."""
     def median(what, system):
         return f"{statistics.median(rates[what, system]):,.0f}"
 
-    has_before = any(system == "before" for _, system in rates)
-    heads = ["", "this bank", "the C library", "ratio"]
-    heads += ["this bank over the one before", "that one over the C library"] * has_before
-    yield from (row(heads), "|---" * len(heads) + "|")
+    yield from (row(["", "this bank", "the C library", "ratio", "of the one before"]), "|---" * 5 + "|")
     for what, title in CASES:
         ours, peer, before = (rates.get((what, it)) for it in ("ours", "sqlite", "before"))
         if ours:
-            cells = [title, median(what, "ours"), median(what, "sqlite"), ratio(ours, peer)]
-            yield row(cells + ([ratio(ours, before), ratio(before, peer)] if has_before else []))
-    told = "not measured"
-    for system in (it for what, it in rates if what == "one" and it.startswith("postgres")):
-        clients = system.removeprefix("postgres").lstrip("-")
-        told = f"{told}; {clients} clients {median('one', system)}" if clients else median("one", system)
-        of = [f"{what} a commit over it {ratio(rates[case, 'ours'], rates['one', system])}"
-              for what, case in (("one", "one"), ("64", "batch"))]
-        yield from ("", f"PostgreSQL's TPC-B script, clients {clients or 1}: {median('one', system)}; {', '.join(of)}.")
+            yield row([title, median(what, "ours"), median(what, "sqlite"), ratio(ours, peer), ratio(ours, before) if before else ""])
     for what in (what for what, _ in rates if what.startswith("rows-")):
         after = ratio(rates["few-rows", "ours"], rates[what, "ours"])
         yield from ("", f"A posting after {int(what.removeprefix('rows-')):,} rows costs {after} times one after 1,000.")
-    ours, peer = (f"{median('one', it)}; 64 a commit {median('batch', it)}" for it in ("ours", "sqlite"))
-    yield from ("", row(["Postings a second", ours, told, peer, "not measured"]))
 
 
 def draw(rates):

@@ -1,15 +1,15 @@
 #!/usr/bin/env bash
-# Measures postings a second to a bank in a real file beside the C library's (`peer.c`) and PostgreSQL's own TPC-B script, in
-# rounds that go from one to the other, so that all of them meet the same disk. It takes three arguments: how many rounds,
-# how many postings a measurement has, and after how many rows a posting is measured at last, beside one after 1,000.
+# Measures postings a second to a bank in a real file beside the C library's (`peer.c`), in rounds that go from one to the
+# other, so that both meet the same disk. It takes three arguments: how many rounds, how many postings a measurement has,
+# and after how many rows a posting is measured at last, beside one after 1,000.
 # Each figure goes to `measured.csv` in the folder that it was called in, from which `chart.py` makes the table and the
 # picture.
 #
 # The built program is left there too, as `post`; a later run takes it where POST names it. Where BEFORE names one of
 # another tree, it takes its turn in each round.
 #
-# It needs `rt`, a C compiler and SQLite's headers; without PostgreSQL its part is left out. TMPDIR picks the disk,
-# and /dev/shm stands for none. It stands outside the gate, and proves what it runs: what is kept in the crates here is copied first.
+# It needs `rt`, a C compiler and SQLite's headers. TMPDIR picks the disk, and /dev/shm stands for none. It stands outside
+# the gate, and proves what it runs: what is kept in the crates here is copied first.
 set -eu
 here=$(cd "$(dirname "$0")/.." && pwd)
 rounds=${1:-7}
@@ -72,54 +72,11 @@ each() {
     test -z "${BEFORE:-}" || measure "$1" before "${@:2}"
 }
 
-# A server of PostgreSQL with its own TPC-B tables, two branches of 100,000 accounts.
-start_postgres() {
-    postgres=$(ls -d /usr/lib/postgresql/*/bin | tail -n 1)
-    mkdir "$work/pg"
-    chmod 755 "$work"
-    chown postgres "$work/pg"
-    as_postgres initdb -D "$work/pg/data" -A trust
-    as_postgres pg_ctl -D "$work/pg/data" -w -o "-k $work/pg -h '' -p 5499" -l "$work/pg/log" start
-    trap 'as_postgres pg_ctl -D "$work/pg/data" -m fast -w stop; rm -rf "$work" "$bare"' EXIT
-    as_postgres createdb -h "$work/pg" -p 5499 bank
-    as_postgres pgbench -h "$work/pg" -p 5499 -i -s 2 -q bank
-}
-
-as_postgres() {
-    (cd "$work/pg" && runuser -u postgres -- "$postgres/$1" "${@:2}") >"$work/asked" 2>&1
-}
-
-# Its TPC-B script by so many clients, with prepared statements: how many a second.
-tps_of() {
-    as_postgres pgbench -h "$work/pg" -p 5499 -c "$1" -j "$1" -T 5 -M prepared bank
-    sed -n 's/^tps = \([0-9]*\).*/\1/p' "$work/asked"
-}
-
-# How many clients it does best with.
-best_clients() {
-    for clients in 2 4 8 16 32; do
-        echo "$(tps_of $clients) $clients"
-    done | sort -n | tail -n 1 | cut -d ' ' -f 2
-}
-
-# By one client, and by as many as it does best with.
-ask_postgres() {
-    echo "one,postgres,$(tps_of 1)" >>"$out"
-    echo "one,postgres-$clients,$(tps_of "$clients")" >>"$out"
-}
-
 test -n "${POST:-}" || build
 build_peer
-has_postgres=
-if ls -d /usr/lib/postgresql/*/bin >"$work/asked" 2>&1; then
-    start_postgres
-    has_postgres=1
-    clients=$(best_clients)
-fi
 rm -f "$out"
 for _ in $(seq "$rounds"); do
     each one "$work" 2 1000 0 "$count" 1
-    test -z "$has_postgres" || ask_postgres
     each batch "$work" 2 1000 0 "$count" 64
     each many-rows-one "$work" 2 1000 200000 "$count" 1
     each many-rows-batch "$work" 2 1000 200000 "$count" 64
