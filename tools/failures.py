@@ -7,17 +7,16 @@ nothing had happened: each acknowledged posting stands once, with its first repl
 posts           `post` is killed at random moments (LIVES times), and sent again from the first record with no reply
 serves          the same of `serve`, by TELLERS clients at once, each with 8 messages on their way
 inits           `init` is stopped at each call that writes or syncs, and made again where there is no bank; needs strace
-limited, limited_at_the_making, full, taken_away, taken_away_beneath, unreadable
-                files may not grow beyond a limit, the disk is full, a file is taken away or can't be read. What is told is
-                a store fault or that there is no bank, and a prefix of the replies was written; once the cause is mended
-                the same records get the replies of a run that nothing disturbed, the audit is CONSISTENT, and the tables
-                are those of that run. Needs root for a disk of its own and for another user; without, it says what it left out
+full, taken_away, taken_away_beneath, unreadable
+                the disk is full, a file is taken away or can't be read. What is told is a store fault or that there is no
+                bank, and a prefix of the replies was written; once the cause is mended the same records get the replies
+                of a run that nothing disturbed, the audit is CONSISTENT, and the tables are those of that run. Needs root
+                for a disk of its own and for another user; without, it says what it left out
 
 LIVES, RECORDS and TELLERS in the environment say how often, of how many records, and by how many. It needs the built
 program, and stands outside the gate."""
 import os
 import random
-import resource
 import shutil
 import subprocess
 import sys
@@ -36,7 +35,6 @@ PLAN = [(1, 3), (2, 200)]
 ACCOUNTS = [1, 2, 3, 100001, 100050, 100200]
 STORE, NO_BANK = b"bank: store fault\n", b"bank: no bank\n"
 NOBODY = 65534
-KILLED = -25
 
 
 def records(count):
@@ -55,24 +53,20 @@ class Bench:
         self.whole = self.plain(["post", path + "/whole.db"], self.given)[1]
         self.rows = rows_of(path + "/whole.db")
 
-    def plain(self, words, given=b"", limit=None, user=None, is_told=False):
-        """A run, under a limit of bytes to a file or as another user. A write beyond the limit is refused if that is told,
-        and else ends the process."""
+    def plain(self, words, given=b"", user=None):
+        """A run, as another user if one is given."""
         def prepare():
-            if limit is not None:
-                resource.setrlimit(resource.RLIMIT_FSIZE, (limit, limit))
             if user is not None:
                 os.setgroups([])
                 os.setgid(user)
                 os.setuid(user)
         ended = subprocess.run([BANK] + words, input=given, stdout=subprocess.PIPE, stderr=subprocess.PIPE, timeout=120,
-                               preexec_fn=prepare, restore_signals=not is_told)
+                               preexec_fn=prepare)
         self.runs += 1
         return ended.returncode, ended.stdout, ended.stderr
 
     def note(self, status, fault):
-        said = "the process is ended" if status == KILLED else fault.decode().strip() or "all is answered"
-        said += "" if status == KILLED else f", status {status}"
+        said = f"{fault.decode().strip() or 'all is answered'}, status {status}"
         told = self.told.setdefault(self.cause, {})
         told[said] = told.get(said, 0) + 1
 
@@ -81,10 +75,10 @@ class Bench:
         make_bank(file, PLAN)
         return file
 
-    def is_told(self, ended, allowed):
+    def is_told(self, ended):
         """The run ended as it may where there is a cause, with a prefix of the replies."""
         status, output, fault = ended
-        ensure((status, fault) in allowed, f"status {status}, {fault!r}")
+        ensure((status, fault) in ((0, b""), (3, STORE)), f"status {status}, {fault!r}")
         ensure(self.whole.startswith(output) and len(output) % 200 == 0, "other replies")
         ensure(status != 0 or output == self.whole, "fewer replies, and no fault")
         self.note(status, fault)
@@ -96,38 +90,6 @@ class Bench:
         status, output, fault = self.plain(["audit", file])
         ensure((status, fault) == (0, b"") and output.endswith(b"\nCONSISTENT\n"), f"an audit {output!r}")
         ensure(rows_of(file) == self.rows, "other tables")
-
-
-DONE = (0, b"")
-FAILS = {DONE, (3, STORE), (KILLED, b"")}
-
-
-def limited(bench):
-    """A file may not grow beyond a limit, from nothing up to all that the records need."""
-    for is_told in (True, False):
-        bench.cause = "a limit of bytes to a file, of which a write is refused" if is_told else \
-            "a limit of bytes to a file, of which a write ends the process"
-        for limit in list(range(0, 40_000, 1_024)) + list(range(40_500, 1_500_000, 45_000)):
-            file = bench.new_bank("limited")
-            bench.is_told(bench.plain(["post", file], bench.given, limit=limit, is_told=is_told), FAILS)
-            bench.is_mended(file)
-
-
-def limited_at_the_making(bench):
-    """The same while a bank is made, and while its branches are opened: each is made or opened when the limit is gone."""
-    bench.cause = "the same while a bank is made and its branches are opened"
-    for limit in range(0, 60_000, 512):
-        for is_told in (True, False):
-            file = bench.path + "/making.db"
-            clear(file)
-            for words in (["init", file], ["load", file, bench.path + "/whole.db.csv"]):
-                status, output, fault = bench.plain(words, limit=limit, is_told=is_told)
-                ensure((status, fault) in FAILS, f"{words[0]}: status {status}, {fault!r}")
-                bench.note(status, fault)
-                if status != 0:
-                    again = bench.plain(words)
-                    ensure(again[0] == 0 or (words[0], again[2]) == ("init", b"bank: already a bank\n"), f"again {again}")
-            bench.is_mended(file)
 
 
 def full(bench):
@@ -144,7 +106,7 @@ def full(bench):
             file = disk + "/full.db"
             make_bank(file, PLAN)
             fill(disk, room * 1024)
-            bench.is_told(bench.plain(["post", file], bench.given), {DONE, (3, STORE)})
+            bench.is_told(bench.plain(["post", file], bench.given))
             os.remove(disk + "/ballast")
             bench.is_mended(file)
     finally:
@@ -206,7 +168,7 @@ def taken_away_beneath(bench):
             os.remove(file + end)
         output, fault = process.communicate(bench.given[part:])
         bench.runs += 1
-        bench.is_told((process.returncode, output, fault), {DONE, (3, STORE)})
+        bench.is_told((process.returncode, output, fault))
         clear(file)
         for end in kept:
             os.rename(file + ".kept" + end, file + end)
@@ -327,7 +289,7 @@ def inits(bench):
     bench.note(0, b"after %d of them the bank was there, after the others none, and it was made" % found)
 
 
-CAUSES = (posts, serves, inits, limited, limited_at_the_making, full, taken_away, taken_away_beneath, unreadable)
+CAUSES = (posts, serves, inits, full, taken_away, taken_away_beneath, unreadable)
 
 
 def main():

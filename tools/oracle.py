@@ -1,6 +1,6 @@
 #!/usr/bin/env python3
 """The rules of the bank once more, for all scripts that reckon by themselves: records and replies, judging, the tables, what
-a replay and a digest print, an audit by SQL, and the answers over HTTP.
+a replay and a digest print, an audit by SQL, and statements.
 
 It shares no code with the bank, and reads files by the C library of SQLite. The rules are those of docs/USING.md. Of a
 bank that runs, copy both files and ask the copy.
@@ -8,15 +8,7 @@ bank that runs, copy both files and ask the copy.
     tools/oracle.py FILE        prints what `bank replay FILE` prints, and ends with its status
     tools/oracle.py FILE N      prints what `bank digest FILE N` prints
     tools/oracle.py FILE N log  writes what `bank log FILE --after N` writes
-    tools/oracle.py FILE statement ACCOUNT FROM TO ZONE [REFERENCE [csv]]
-                                prints what `bank statement FILE ACCOUNT --from FROM --to TO --zone=ZONE` and so on
-                                prints; an empty word stands for an option that isn't given
-    tools/oracle.py FILE statements FROM TO ZONE [REFERENCE [csv]]
-                                prints what `bank statements FILE` with these options prints
-    tools/oracle.py REPLIES decode [SHEET [words]]
-                                prints what `bank decode --sheet SHEET --words < REPLIES` and so on prints
 """
-import collections
 import csv
 import datetime
 import hashlib
@@ -120,8 +112,6 @@ class Book:
     def __init__(self):
         self.rows = {table: {} for table in TABLES}
         self.decided, self.kept = 0, {}
-        # Over HTTP: how many replies were given, by their outcomes.
-        self.replied = collections.Counter()
 
     def open(self, bid, count, floor=None):
         self.rows["branch"][bid] = (count, 0)
@@ -508,135 +498,12 @@ def statements(file, first="", last="", zone="", reference="", layout=""):
     return [line for lines, listed in parts if listed for line in lines], 0
 
 
-# ---- sheets of replies
-
-REPLY_COLUMNS = ("outcome", "name", "account", "teller", "branch", "number")
-
-
-def shown(reply, words=False):
-    """The fields of a reply's line, by its bytes."""
-    text = reply.decode()
-    outcome, name = int(text[4:6]), text[66:82].rstrip()
-    if outcome == MALFORMED:
-        return [str(outcome), name] + [""] * 6
-    money = decimals if words else str
-    fields = [str(int(field)) for field in (text[6:18], text[18:26], text[26:32], text[32:42])]
-    return [str(outcome), name, *fields, money(int(text[42:53])), money(int(text[53:66])) if outcome == POSTED else ""]
-
-
-def decoded(replies, words=False, postings=None):
-    """The rows of a sheet of replies, beside those of a sheet of postings if there is one, whose names they have as keys."""
-    lines = [[*REPLY_COLUMNS, "amount" if words else "delta", "balance"], *(shown(reply, words) for reply in replies)]
-    if postings is None:
-        return lines
-    own = [(row, posting.get("reference", "").rstrip(" ")) for row, posting in enumerate(postings, 1)]
-    return [line + list(more) for line, more in zip(lines, [("row", "reference"), *own])]
-
-
-def decode(file, postings="", words=""):
-    """What the bank prints of the replies in a file, which answer the sheet of a path, and its status."""
-    text = open(file, "rb").read()
-    replies = [text[at:at + 200] for at in range(0, len(text), 200)]
-    rows = list(csv.DictReader(open(postings, newline="", encoding="utf-8-sig"))) if postings else None
-    return sheet(decoded(replies, bool(words), rows)), 0
-
-
-# ---- answers over HTTP
-
-PHRASES = {200: b"OK", 400: b"Bad Request", 404: b"Not Found", 405: b"Method Not Allowed", 503: b"Service Unavailable"}
-BYTES, TEXT = b"application/octet-stream", b"text/plain"
-ENTRIES_PER_ANSWER = 192
-
-
-def answer(code, media, body, allow=b"", closes=False, shows=True):
-    """The bytes of an answer; one to HEAD doesn't show its body."""
-    text = b"HTTP/1.1 %d %s\r\nContent-Type: %s\r\nContent-Length: %d\r\n" % (code, PHRASES[code], media, len(body))
-    text += b"Allow: " + allow + b"\r\n" if allow else b""
-    text += b"Connection: close\r\n" if closes else b""
-    return text + b"\r\n" + (body if shows else b"")
-
-
-def bare(code, allow=b""):
-    """What an answer says that has nothing to say but its code."""
-    return code, TEXT, b"%d %s\n" % (code, PHRASES[code]), allow
-
-
-def routed(book, method, target, body):
-    """What a message is answered by a bank with these tables, at the moment 0."""
-    path = target.split(b"?")[0]
-    if path == b"/post":
-        if method != b"POST":
-            return bare(405, b"POST")
-        if len(body) != 100:
-            return bare(400)
-        reply = book.answer(0, body)
-        book.replied[int(reply[4:6])] += 1
-        return 200, BYTES, reply, b""
-    account = re.fullmatch(rb"/account/([^/]+)", path, re.DOTALL)
-    teller = re.fullmatch(rb"/teller/([^/]+)", path, re.DOTALL)
-    log = re.fullmatch(rb"/log/([^/]+)", path, re.DOTALL)
-    if path not in (b"/branches", b"/health", b"/metrics", b"/plan") and not (account or teller or log) or not is_utf8(path):
-        return bare(404)
-    if method not in (b"GET", b"HEAD"):
-        return bare(405, b"GET, HEAD")
-    if path == b"/health":
-        return 200, TEXT, b"ok\n", b""
-    if path == b"/branches":
-        rows = sorted(book.rows["branch"].items())
-        return 200, TEXT, b"".join(b"%6d %7d %14d\n" % (bid, *row) for bid, row in rows), b""
-    if path == b"/plan":
-        return 200, b"text/csv", plan_text(book.rows).encode(), b""
-    if path == b"/metrics":
-        return 200, b"text/plain; version=0.0.4", metrics_of(book), b""
-    if log:
-        number = log.group(1)
-        first = int(number) if re.fullmatch(rb"0|[1-9][0-9]{0,12}", number) else book.decided + 1
-        entries = [entry_of(*kept) for kept in requests_of(book.rows)][first:first + ENTRIES_PER_ANSWER]
-        return (200, BYTES, b"".join(entries), b"") if first <= book.decided else bare(404)
-    holder, digits = ("account", rb"[1-9][0-9]{0,11}") if account else ("teller", rb"[1-9][0-9]{0,7}")
-    number = (account or teller).group(1)
-    balance = book.rows[holder].get(int(number)) if re.fullmatch(digits, number) else None
-    return (200, TEXT, b"%s %s balance %d\n" % (holder.encode(), number, *balance), b"") if balance else bare(404)
-
-
-def metrics_of(book):
-    """The figures of a counter that serves one client at a time, each of whose records has a commit, since 0 seconds."""
-    again, records = "; one that is sent again counts again.", sum(book.replied.values())
-    lines = []
-
-    def metric(name, kind, text, samples):
-        lines.extend([f"# HELP {name} {text}", f"# TYPE {name} {kind}", *(f"{name}{at} {value}" for at, value in samples)])
-
-    metric("bank_postings_total", "counter", "Records replied to with outcome 00" + again, [("", book.replied[0])])
-    metric("bank_refusals_total", "counter", "Records replied to with another outcome" + again,
-           [('{outcome="%02d"}' % code, book.replied[code]) for code in (11, 12, 13, 14, 15, 16, 17, 90)])
-    metric("bank_records_total", "counter", "Records replied to.", [("", records)])
-    metric("bank_commits_total", "counter", "Transactions by which those records were taken.", [("", records)])
-    metric("bank_connections", "gauge", "Clients that are connected.", [("", 1)])
-    metric("bank_uptime_seconds", "gauge", "Seconds since the counter began to serve.", [("", 0)])
-    return "".join(line + "\n" for line in lines).encode()
-
-
-def is_utf8(text):
-    try:
-        text.decode("utf-8")
-    except UnicodeDecodeError:
-        return False
-    return True
-
-
 def main():
     if sys.argv[3:] == ["log"]:
         requests = list(requests_of(tables_of(sys.argv[1])))[int(sys.argv[2]):]
         sys.stdout.buffer.write(b"".join(entry_of(*kept) for kept in requests))
         return
-    if sys.argv[2:3] == ["statement"]:
-        lines, status = statement(sys.argv[1], int(sys.argv[3]), *sys.argv[4:])
-    elif sys.argv[2:3] == ["statements"]:
-        lines, status = statements(sys.argv[1], *sys.argv[3:])
-    elif sys.argv[2:3] == ["decode"]:
-        lines, status = decode(sys.argv[1], *sys.argv[3:])
-    elif len(sys.argv) > 2:
+    if len(sys.argv) > 2:
         requests, first = list(requests_of(tables_of(sys.argv[1]))), int(sys.argv[2])
         few = first > len(requests)
         lines, status = ([f"bank: no request {first}"], 4) if few else (digest_lines(requests[:first]), 0)

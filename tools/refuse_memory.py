@@ -31,8 +31,10 @@ ROWS = [(1, 3), (2, 2)]
 FIRST = record(1, 1, 1, 1, 500)
 REMOTE = record(100001, 1, 1, 2, -700)
 RECORDS = [FIRST, FIRST, record(1, 1, 1, 1, 501), REMOTE]
-ANSWER = oracle.answer(200, oracle.BYTES, oracle.reply_of(0, oracle.fields_of(1, 1, 1, 1, 500), 500))
-UNAVAILABLE = oracle.answer(*oracle.bare(503), closes=True)
+ANSWER = b"HTTP/1.1 200 OK\r\nContent-Type: application/octet-stream\r\nContent-Length: 200\r\n\r\n" + \
+    oracle.reply_of(0, oracle.fields_of(1, 1, 1, 1, 500), 500)
+UNAVAILABLE = b"HTTP/1.1 503 Service Unavailable\r\nContent-Type: text/plain\r\nContent-Length: 24\r\n" \
+    b"Connection: close\r\n\r\n503 Service Unavailable\n"
 ROW_COUNT = 150
 SHEET = [b"\xef\xbb\xbfaccount,teller,number,delta,branch,reference\r\n"] + [
     f'{i % 3 + 1},{i % 10 + 1},{i + 1},{i * 37 % 2000 - 1000:+d},{"" if i % 2 else 1},"rent, {i}"\r\n'.encode()
