@@ -2,8 +2,7 @@
 # Measures postings a second to a bank in a real file beside the C library's (`peer.c`), in rounds that go from one to the
 # other, so that both meet the same disk. It takes three arguments: how many rounds, how many postings a measurement has,
 # and after how many rows a posting is measured at last, beside one after 1,000.
-# Each figure goes to `measured.csv` in the folder that it was called in, from which `chart.py` makes the table and the
-# picture.
+# Each figure goes to `measured.csv` in the folder that it was called in, of which `table.py` makes the table.
 #
 # The built program is left there too, as `post`; a later run takes it where POST names it. Where BEFORE names one of
 # another tree, it takes its turn in each round.
@@ -89,4 +88,4 @@ for _ in 1 2 3; do
     measure few-rows ours "$bare" 2 1000 1000 "$count" 64
     measure "rows-$rows" ours "$bare" 2 1000 "$rows" "$count" 64
 done
-python3 "$here/bench/chart.py" "$out" "$PWD/speed.svg"
+python3 "$here/bench/table.py" "$out"

@@ -110,8 +110,8 @@ class Browser:
 class Chromium(Browser):
     name, program = "Chromium", "chromedriver"
     locks = "SingletonLock", "SingletonCookie", "SingletonSocket"
-    COMMANDS = {"Navigate": ("POST", "url"), "Back": ("POST", "back"), "Refresh": ("POST", "refresh"), "ExecuteAsyncScript": ("POST", "execute/async"), "SetTimeouts": ("POST", "timeouts"),
-                "PerformActions": ("POST", "actions"), "TakeScreenshot": ("GET", "screenshot"), "GetWindowHandle": ("GET", "window"),
+    COMMANDS = {"Navigate": ("POST", "url"), "Back": ("POST", "back"), "Refresh": ("POST", "refresh"),
+                "ExecuteAsyncScript": ("POST", "execute/async"), "PerformActions": ("POST", "actions"), "TakeScreenshot": ("GET", "screenshot"), "GetWindowHandle": ("GET", "window"),
                 "SwitchToWindow": ("POST", "window"), "NewWindow": ("POST", "window/new"), "CloseWindow": ("DELETE", "window"),
                 "DevTools": ("POST", "goog/cdp/execute")}
 

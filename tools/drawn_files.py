@@ -6,9 +6,8 @@ refused, some with references and some that come again, and driven ones; beside 
 third are then set back to version 1 or 2 by SQL, and migrated, with the rows that they had. Half are changed by SQL, in
 ways that are drawn too. To SQLite's library the file is sound, and the other table as it was. What `replay`, `digest`
 and `audit` say has to be to the byte what the oracle says, as has the status. Where a file agrees, a second bank is made
-from its plan and its records as the program gives them, which agrees too and keeps as many requests; then its postings
-get drawn moments, and what `statement` and `statements` say of drawn days has to be what the oracle says. It needs the
-built program, and stands outside the gate.
+from its plan and its records, which agrees too; then its postings get drawn moments, and what `statement` and
+`statements` say of drawn days has to be what the oracle says.
 
     tools/drawn_files.py [FILES [SEED]]
 """
@@ -181,7 +180,7 @@ def state(file, draw):
         words = [f"--{name}={word}" for name, word in options if word] + ["--csv"] * (layout == "csv")
         lines, status = oracle.statement(file, aid, first, last, zone, reference, layout)
         compare(file, ("statement", file, str(aid), *words), lines, status)
-        lines, status = oracle.statements(file, first, last, zone, reference, layout)
+        lines, status = oracle.statement(file, None, first, last, zone, reference, layout)
         compare(file, ("statements", file, *words), lines, status)
 
 

@@ -10,13 +10,11 @@ It shares no code with the crate `load_driver`, whose tests have its output as e
 
 usage: driver_vectors.py SEED COUNT BRANCH:ACCOUNTS..
 """
-
 import sys
 
 import oracle
 
-MASK32 = 2**32 - 1
-MASK64 = 2**64 - 1
+MASK32, MASK64 = 2**32 - 1, 2**64 - 1
 MULTIPLIER_64 = 6364136223846793005
 MULTIPLIER_128 = 0x2360ED051FC65DA44385DF649FCCF645
 
@@ -46,21 +44,17 @@ class Pcg:
         seed = seed_bytes(number, self.BITS // 4)
         state = int.from_bytes(seed[: self.BITS // 8], "little")
         self.increment = int.from_bytes(seed[self.BITS // 8 :], "little") | 1
-        self.state = state + self.increment & self.mask()
+        self.state = state + self.increment
         self.step()
 
-    def mask(self):
-        return 2**self.BITS - 1
-
     def step(self):
-        self.state = (self.state * self.MULTIPLIER + self.increment) & self.mask()
+        self.state = (self.state * self.MULTIPLIER + self.increment) % 2**self.BITS
 
 
 class Pcg32(Pcg):
     """The word is taken of the state before it goes on."""
 
-    BITS = 64
-    MULTIPLIER = MULTIPLIER_64
+    BITS, MULTIPLIER = 64, MULTIPLIER_64
 
     def next_u32(self):
         word = xsh_rr(self.state)
@@ -75,8 +69,7 @@ class Pcg32(Pcg):
 class Pcg64(Pcg):
     """The word is taken of the state after it goes on."""
 
-    BITS = 128
-    MULTIPLIER = MULTIPLIER_128
+    BITS, MULTIPLIER = 128, MULTIPLIER_128
 
     def next_u64(self):
         self.step()

@@ -6,8 +6,7 @@ random moment, and is then checked: each answered posting stands once, with its 
     tools/failover.py follower [ROUNDS]    with another machine that follows, as by examples/standby.sh:
                                            failover_follower.py
 
-100 rounds, if none are said. KEEP in the environment keeps the folder. It is bounded in count and time, and stands outside
-the gate."""
+100 rounds, if none are said. KEEP in the environment keeps the folder."""
 import importlib
 import os
 import shutil

@@ -15,8 +15,7 @@ After each round the replicas are equal, the bank audits and replays, each answe
 none stands that wasn't sent, and a host that was cut off has answered nothing more since another one served.
 
 It needs root, the built program, and Debian's glusterfs-server and glusterfs-client. KINDS names the failures that are
-drawn from, SET options of the volume (`client.strict-locks off`), and CLIENT is the client's command, to see what comes
-of others than the example's. It is bounded in count and time, and stands outside the gate."""
+drawn from, SET options of the volume (`client.strict-locks off`), and CLIENT is the client's command."""
 import ctypes
 import os
 import random

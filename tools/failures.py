@@ -7,14 +7,12 @@ nothing had happened: each acknowledged posting stands once, with its first repl
 posts           `post` is killed at random moments (LIVES times), and sent again from the first record with no reply
 serves          the same of `serve`, by TELLERS clients at once, each with 8 messages on their way
 inits           `init` is stopped at each call that writes or syncs, and made again where there is no bank; needs strace
-full, taken_away, taken_away_beneath, unreadable
-                the disk is full, a file is taken away or can't be read. What is told is a store fault or that there is no
-                bank, and a prefix of the replies was written; once the cause is mended the same records get the replies
-                of a run that nothing disturbed, the audit is CONSISTENT, and the tables are those of that run. Needs root
-                for a disk of its own and for another user; without, it says what it left out
+full, taken_away, unreadable
+                the disk is full, files lose their names or can't be read. What is told is a store fault, and a prefix of
+                the replies was written; once the cause is mended the same records get the replies of a run that nothing
+                disturbed, the audit is CONSISTENT, and the tables are those of that run. Needs root
 
-LIVES, RECORDS and TELLERS in the environment say how often, of how many records, and by how many. It needs the built
-program, and stands outside the gate."""
+LIVES, RECORDS and TELLERS in the environment say how often, of how many records, and by how many."""
 import os
 import random
 import shutil
@@ -96,47 +94,20 @@ def full(bench):
     """A disk of its own that is full but for so many bytes, which a file leaves."""
     disk = bench.path + "/disk"
     os.mkdir(disk)
-    mounted = subprocess.run(["mount", "-t", "tmpfs", "-o", "size=4m", "tmpfs", disk], stderr=subprocess.PIPE)
-    if mounted.returncode:
-        print("failures: no disk of its own: " + mounted.stderr.decode().strip())
-        return
+    subprocess.run(["mount", "-t", "tmpfs", "-o", "size=4m", "tmpfs", disk], check=True)
     bench.cause = "a full disk"
     try:
         for room in list(range(0, 80, 4)) + list(range(80, 1_600, 50)):
             file = disk + "/full.db"
             make_bank(file, PLAN)
-            fill(disk, room * 1024)
+            space = os.statvfs(disk)
+            with open(disk + "/ballast", "wb") as ballast:
+                ballast.write(b"x" * max(0, space.f_bavail * space.f_frsize - room * 1024))
             bench.is_told(bench.plain(["post", file], bench.given))
             os.remove(disk + "/ballast")
             bench.is_mended(file)
     finally:
         subprocess.run(["umount", disk], check=True)
-
-
-def fill(disk, room):
-    space = os.statvfs(disk)
-    free = space.f_bavail * space.f_frsize
-    with open(disk + "/ballast", "wb") as ballast:
-        ballast.write(b"x" * max(0, free - room))
-
-
-def taken_away(bench):
-    """The file isn't there: there is no bank, and none is made. Put back it is as it was."""
-    bench.cause = "a file that is taken away before a run"
-    for is_killed in (False, True):
-        file = bench.new_bank("away")
-        if is_killed:
-            killed(bench, file)
-        else:
-            bench.plain(["post", file], bench.given[:50_000])
-        os.rename(file, file + ".kept")
-        for words in (["post", file], ["audit", file], ["statement", file, "1"], ["load", file, file + ".csv"],
-                      ["drive", file, "--seed", "7", "--count", "5"]):
-            ended = bench.plain(words, bench.given)
-            ensure(ended == (4, b"", NO_BANK) and not os.path.exists(file), f"{words[0]}: {ended}")
-            bench.note(4, NO_BANK)
-        os.rename(file + ".kept", file)
-        bench.is_mended(file)
 
 
 def killed(bench, file):
@@ -151,7 +122,7 @@ def killed(bench, file):
     process.stdout.close()
 
 
-def taken_away_beneath(bench):
+def taken_away(bench):
     """Both files lose their names while a run answers, and get them back behind it: all that it answered is found."""
     bench.cause = "files that lose their names beneath a run"
     # The replies to the first part wait in a pipe, which has no room for more.
@@ -177,9 +148,6 @@ def taken_away_beneath(bench):
 
 def unreadable(bench):
     """Another user runs the program, who may read and write both files, and then not one of them, or not the folder."""
-    if os.getuid() != 0:
-        print("failures: not root: no other user")
-        return
     bench.cause = "a file or a folder that can't be read or written"
     folder = bench.path + "/theirs"
     for end, mode in (("", 0), ("-wal", 0), ("", 0o400), ("-wal", 0o400), ("", 0o200), ("folder", 0)):
@@ -289,7 +257,7 @@ def inits(bench):
     bench.note(0, b"after %d of them the bank was there, after the others none, and it was made" % found)
 
 
-CAUSES = (posts, serves, inits, full, taken_away, taken_away_beneath, unreadable)
+CAUSES = (posts, serves, inits, full, taken_away, unreadable)
 
 
 def main():

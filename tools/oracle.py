@@ -474,28 +474,19 @@ def stated(tables, aid, span, zone, reference):
 
 
 def statement(file, aid, first="", last="", zone="", reference="", layout=""):
-    """What the bank prints of a statement of an account of a path, and its status."""
+    """What the bank prints of a statement of an account of a path, and its status; with no account of the statements of all
+    that have a posting which is asked for."""
     span = asked(first, last, zone, reference)
     if isinstance(span, str):
         return [f"bank: {span}"], 4
     tables = tables_of(file)
-    if aid not in tables["account"]:
+    if aid is not None and aid not in tables["account"]:
         return [f"bank: no account {aid}"], 4
-    lines, listed = stated(tables, aid, span, zone, reference)
-    return sheet([SHEET_COLUMNS, *listed]) if layout == "csv" else lines, 0
-
-
-def statements(file, first="", last="", zone="", reference="", layout=""):
-    """The same of the statements of all accounts that have a posting which is asked for."""
-    span = asked(first, last, zone, reference)
-    if isinstance(span, str):
-        return [f"bank: {span}"], 4
-    tables = tables_of(file)
-    accounts = sorted({row[0] for row in tables["history"].values()})
-    parts = [stated(tables, aid, span or ALL_TIME, zone, reference) for aid in accounts]
+    accounts = sorted({row[0] for row in tables["history"].values()}) if aid is None else [aid]
+    parts = [stated(tables, it, span or (ALL_TIME if aid is None else None), zone, reference) for it in accounts]
     if layout == "csv":
         return sheet([SHEET_COLUMNS, *(row for _, listed in parts for row in listed)]), 0
-    return [line for lines, listed in parts if listed for line in lines], 0
+    return [line for lines, listed in parts if listed or aid is not None for line in lines], 0
 
 
 def main():

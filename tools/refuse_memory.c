@@ -1,13 +1,10 @@
-// Refuses one call of a program that it is preloaded into: the one whose number, from 1 on, is REFUSE_AT, of its
-// allocations, or, where REFUSE_KIND is `read` or `write`, of its reads of standard input or writes to standard output.
-// The file REFUSE_COUNT holds how many of them there were, whatever ends the program.
+// Refuses one allocation of a program that it is preloaded into: the one whose number, from 1 on, is REFUSE_AT. The file
+// REFUSE_COUNT holds how many of them there were, whatever ends the program.
 #include <errno.h>
 #include <fcntl.h>
 #include <stddef.h>
 #include <stdlib.h>
-#include <string.h>
 #include <sys/mman.h>
-#include <sys/syscall.h>
 #include <unistd.h>
 
 void *__libc_malloc(size_t);
@@ -18,10 +15,10 @@ void *__libc_memalign(size_t, size_t);
 static unsigned long nowhere;
 static unsigned long *count = &nowhere;
 static unsigned long refused_at;
-static enum { NOTHING, MEMORY, READS, WRITES } counts;
+static int counts;
 
 __attribute__((constructor)) static void begin(void) {
-    const char *at = getenv("REFUSE_AT"), *path = getenv("REFUSE_COUNT"), *kind = getenv("REFUSE_KIND");
+    const char *at = getenv("REFUSE_AT"), *path = getenv("REFUSE_COUNT");
     int file = path ? open(path, O_RDWR | O_CREAT | O_TRUNC, 0600) : -1;
     if (file >= 0 && ftruncate(file, sizeof *count) == 0) {
         void *page = mmap(NULL, sizeof *count, PROT_READ | PROT_WRITE, MAP_SHARED, file, 0);
@@ -29,16 +26,14 @@ __attribute__((constructor)) static void begin(void) {
         close(file);
     }
     refused_at = at ? strtoul(at, NULL, 10) : 0;
-    counts = !kind || !strcmp(kind, "memory") ? MEMORY : !strcmp(kind, "read") ? READS : WRITES;
+    counts = 1;
 }
 
-static int is_refused(int kind, int fault) {
-    if (counts != kind || ++*count != refused_at) return 0;
-    errno = fault;
+static int has_none(void) {
+    if (!counts || ++*count != refused_at) return 0;
+    errno = ENOMEM;
     return 1;
 }
-
-static int has_none(void) { return is_refused(MEMORY, ENOMEM); }
 
 void *malloc(size_t size) { return has_none() ? NULL : __libc_malloc(size); }
 
@@ -52,12 +47,4 @@ int posix_memalign(void **made, size_t align, size_t size) {
     if (has_none()) return ENOMEM;
     *made = __libc_memalign(align, size);
     return *made ? 0 : ENOMEM;
-}
-
-ssize_t read(int file, void *to, size_t size) {
-    return file == 0 && is_refused(READS, EIO) ? -1 : syscall(SYS_read, file, to, size);
-}
-
-ssize_t write(int file, const void *from, size_t size) {
-    return file == 1 && is_refused(WRITES, EIO) ? -1 : syscall(SYS_write, file, from, size);
 }

@@ -1,17 +1,10 @@
 #!/usr/bin/env python3
-"""Refuses each allocation of the built program in turn, one a run, in nine cases, which are played side by side: the
-first posting, a truncated stream, one record twice in a batch, a plan loaded twice, two messages in a row, an audit that
-finds damage, a statement, those of all accounts, and a drive made twice. What is told is the fault or the case's own answer; nothing that was
-acknowledged is lost; and the case passes when it is run again: on the same bank where a connection was refused memory,
-else on the reopened one. A run that was refused and left both files as they were isn't run again: it would be the run
-that was refused nothing.
+"""Refuses each allocation of the built program in turn, one a run, in nine cases, which are played side by side. What is
+told is the fault or the case's own answer; nothing that was acknowledged is lost; and the case passes when it is run again:
+on the same bank where a connection was refused memory, else on the reopened one. A run that was refused and left both files
+as they were isn't run again: it would be the run that was refused nothing.
 
-In four cases of `encode` and `decode` it refuses each allocation, each read of standard input and each write to standard
-output: what is told is that fault or the case's own answer, and what was written is a prefix of it, of whole records or
-lines unless a write was refused. A case's own answer is that of a run that is refused nothing.
-
-It needs the built program and a C compiler, and stands outside the gate. TMPDIR names the folder of its files, which is
-best in memory.
+It needs a C compiler. TMPDIR names the folder of its files, which is best in memory.
     tools/refuse_memory.py [CASE..]"""
 import os
 import sqlite3
@@ -25,8 +18,7 @@ import oracle
 from serve_client import (BANK, HERE, Failed, Server, clear, copy_bank, done, ensure, make_bank, need_program, post, record,
                           rows_of, same)
 
-FAULTS = {"memory": b"bank: no memory\n", "read": b"bank: read failed\n", "write": b"bank: write failed\n",
-          "store": b"bank: store fault\n", "network": b"bank: network failed\n"}
+FAULTS = {"memory": b"bank: no memory\n", "store": b"bank: store fault\n", "network": b"bank: network failed\n"}
 ROWS = [(1, 3), (2, 2)]
 FIRST = record(1, 1, 1, 1, 500)
 REMOTE = record(100001, 1, 1, 2, -700)
@@ -35,12 +27,6 @@ ANSWER = b"HTTP/1.1 200 OK\r\nContent-Type: application/octet-stream\r\nContent-
     oracle.reply_of(0, oracle.fields_of(1, 1, 1, 1, 500), 500)
 UNAVAILABLE = b"HTTP/1.1 503 Service Unavailable\r\nContent-Type: text/plain\r\nContent-Length: 24\r\n" \
     b"Connection: close\r\n\r\n503 Service Unavailable\n"
-ROW_COUNT = 150
-SHEET = [b"\xef\xbb\xbfaccount,teller,number,delta,branch,reference\r\n"] + [
-    f'{i % 3 + 1},{i % 10 + 1},{i + 1},{i * 37 % 2000 - 1000:+d},{"" if i % 2 else 1},"rent, {i}"\r\n'.encode()
-    for i in range(ROW_COUNT)]
-REPLIES = b"".join(oracle.reply_of(0 if i % 5 else 17, oracle.fields_of(i % 3 + 1, i % 10 + 1, 1, i + 1, i), i if i % 5 else 0)
-                   for i in range(ROW_COUNT))
 
 
 def rows_bank(file):
@@ -70,8 +56,8 @@ def small_bank(file):
     make_bank(file, [(1, 1)])
 
 
-# A name, what makes the bank that it begins with (none: it has none), and its runs: a command, the words behind the file's,
-# an input, and the status. With no runs it is that of `serve`.
+# A name, what makes the bank that it begins with, and its runs: a command, the words after the file's, an input, and the
+# status. With no runs it is that of `serve`.
 Case = namedtuple("Case", "name prepare runs")
 Run = namedtuple("Run", "command words given status")
 CASES = [
@@ -84,11 +70,6 @@ CASES = [
     Case("a statement", posted_bank, [Run("statement", ["1"], b"", 0), Run("statement", ["4"], b"", 4)]),
     Case("all statements", posted_bank, [Run("statements", [], b"", 0)]),
     Case("a drive made twice", small_bank, [Run("drive", ["--seed", "7", "--count", "50"], b"", 0)] * 2),
-    Case("a sheet", None, [Run("encode", [], b"".join(SHEET), 0)]),
-    Case("a sheet with a wrong row", None,
-         [Run("encode", [], b"".join(SHEET[:81]) + b"1,1,81,1.50,,\r\n" + b"".join(SHEET[81:]), 4)]),
-    Case("replies", None, [Run("decode", [], REPLIES, 0)]),
-    Case("replies cut off", None, [Run("decode", [], REPLIES[:80 * 200 + 77], 4)]),
 ]
 
 
@@ -96,27 +77,24 @@ class Folder:
     """A folder in which a case is played, over the files `work.db`, and what came of it."""
 
     def __init__(self, path, case):
-        self.path, self.case, self.work, self.runs, self.refused, self.faults = path, case, path + "/work.db", 0, Counter(), Counter()
+        self.path, self.case, self.work, self.runs, self.refused, self.faults = path, case, path + "/work.db", 0, 0, Counter()
         self.library, self.count = path + "/refuse.so", path + "/count"
         subprocess.run([os.environ.get("CC", "cc"), "-O1", "-shared", "-fPIC", "-o", self.library,
                         HERE + "/tools/refuse_memory.c"], check=True)
-        if case.prepare:
-            case.prepare(path + "/first.db")
+        case.prepare(path + "/first.db")
         copy_bank(path + "/first.db", self.work)
 
-    def environment(self, at, kind):
-        return {"LD_PRELOAD": self.library, "REFUSE_AT": str(at), "REFUSE_COUNT": self.count, "REFUSE_KIND": kind}
+    def environment(self, at):
+        return {"LD_PRELOAD": self.library, "REFUSE_AT": str(at), "REFUSE_COUNT": self.count}
 
     def was_refused(self, at):
         with open(self.count, "rb") as file:
             return 0 < at <= int.from_bytes(file.read(8), sys.byteorder)
 
-    def made(self, run, at=0, kind="memory"):
-        """A run that is refused its allocation, read or write of this number: its status, output and faults."""
-        words = [run.command, *([self.work] if self.case.prepare else []),
-                 *(self.path + "/first.db.csv" if word == "PLAN" else word for word in run.words)]
-        ended = subprocess.run([BANK, *words], input=run.given, capture_output=True, env=self.environment(at, kind),
-                               timeout=60)
+    def made(self, run, at=0):
+        """A run that is refused its allocation of this number: its status, output and faults."""
+        words = [run.command, self.work, *(self.path + "/first.db.csv" if word == "PLAN" else word for word in run.words)]
+        ended = subprocess.run([BANK, *words], input=run.given, capture_output=True, env=self.environment(at), timeout=60)
         self.runs += 1
         # The moment of a posting is the program's own clock.
         output = without_moments(ended.stdout) if run.command.startswith("statement") else ended.stdout
@@ -143,7 +121,7 @@ class Folder:
                     out.write(content)
 
     def rows(self):
-        return rows_of(self.work) if self.case.prepare else None
+        return rows_of(self.work)
 
 
 def without_moments(text):
@@ -152,9 +130,8 @@ def without_moments(text):
 
 
 def is_whole(command, output):
-    """The output ends with a whole reply, record or line."""
-    size = {"post": 200, "encode": 100}.get(command, 1)
-    return len(output) % size == 0 and (command != "decode" or output[-1:] in (b"", b"\n"))
+    """The output ends with a whole reply."""
+    return command != "post" or len(output) % 200 == 0
 
 
 def is_again(run, ended, end):
@@ -175,38 +152,37 @@ def own_of(folder):
     return ends, held, folder.rows()
 
 
-def try_at(folder, own, place, at, kind):
-    """Refuses an allocation, a read or a write in one run, and makes that run again. Whether there was such a one."""
+def try_at(folder, own, place, at):
+    """Refuses an allocation in one run, and makes that run again. Whether there was such a one."""
     ends, held, wanted = own
     run, end = folder.case.runs[place], ends[place]
     folder.restore(held[place])
-    ended = folder.made(run, at, kind)
+    ended = folder.made(run, at)
     refused = folder.was_refused(at)
     if ended != end:
         status, output, fault = ended
         ensure(refused and status == 3, f"status {status}, {fault!r}, refused {refused}")
-        ensure(end[1].startswith(output) and (kind == "write" or is_whole(run.command, output)), f"other output {output!r}")
-        folder.faults[folder.fault_of(fault, kind, *(["store"] if folder.case.prepare else []))] += 1
+        ensure(end[1].startswith(output) and is_whole(run.command, output), f"other output {output!r}")
+        folder.faults[folder.fault_of(fault, "memory", "store")] += 1
         if folder.files() == held[place]:
             return refused
     elif refused:
         folder.faults["own answer"] += 1
-    if folder.case.prepare:
-        again = folder.made(run)
-        ensure(is_again(run, again, end), f"again {again}")
-        for behind, its_end in zip(folder.case.runs[place + 1:], ends[place + 1:]):
-            same("a run behind it", folder.made(behind), its_end)
-        ensure(folder.rows() == wanted, "other tables")
+    again = folder.made(run)
+    ensure(is_again(run, again, end), f"again {again}")
+    for later, its_end in zip(folder.case.runs[place + 1:], ends[place + 1:]):
+        same("a later run", folder.made(later), its_end)
+    ensure(folder.rows() == wanted, "other tables")
     return refused
 
 
-def serve_at(folder, own, _, at, kind):
+def serve_at(folder, own, _, at):
     """The same of two messages, which three connections of one server send one after another, and then those of a server
     that is refused nothing. Behind a connection that was refused memory the next is answered by the same bank."""
     _, (held,), wanted = own
     folder.restore(held)
     given, answers = post(FIRST) * 2, ANSWER * 2
-    server = Server(folder.work, 3, folder.environment(at, kind), may_fail=True)
+    server = Server(folder.work, 3, folder.environment(at), may_fail=True)
     cut = 0
     for _ in range(3 if server.port else 0):
         before = server.process.poll()
@@ -241,22 +217,20 @@ def serve_at(folder, own, _, at, kind):
 
 def play(folder):
     case, own = folder.case, own_of(folder)
-    for kind in ("memory",) if case.prepare else ("memory", "read", "write"):
-        folder.faults.clear()
-        for place in range(max(1, len(case.runs))):
-            at = 1
-            try:
-                while (try_at if case.runs else serve_at)(folder, own, place, at, kind):
-                    at += 1
-            except Failed as why:
-                sys.exit(f"refuse_memory: {case.name}, run {place + 1}, {kind} {at}: {why}")
-            folder.refused[kind] += at - 1
-        said = ", ".join(f"{fault} {count}" for fault, count in sorted(folder.faults.items()))
-        print(f"{case.name}: {kind} refused {folder.refused[kind]} times: {said}", flush=True)
+    for place in range(max(1, len(case.runs))):
+        at = 1
+        try:
+            while (try_at if case.runs else serve_at)(folder, own, place, at):
+                at += 1
+        except Failed as why:
+            sys.exit(f"refuse_memory: {case.name}, run {place + 1}, allocation {at}: {why}")
+        folder.refused += at - 1
+    said = ", ".join(f"{fault} {count}" for fault, count in sorted(folder.faults.items()))
+    print(f"{case.name}: memory refused {folder.refused} times: {said}", flush=True)
 
 
 def alone(name):
-    """Plays the case of this name in a folder of its own, and gives how often each kind was refused, and the runs."""
+    """Plays the case of this name in a folder of its own, and gives how often memory was refused, and the runs."""
     with tempfile.TemporaryDirectory() as path:
         folder = Folder(path, next(it for it in CASES if it.name == name))
         play(folder)
@@ -266,13 +240,12 @@ def alone(name):
 def main():
     need_program()
     names = [it.name for it in CASES if not sys.argv[1:] or it.name in sys.argv[1:]]
-    refused, runs = Counter(), 0
+    refused = runs = 0
     with ProcessPoolExecutor(len(os.sched_getaffinity(0))) as pool:
         for refused_here, runs_here in pool.map(alone, names):
             runs, refused = runs + runs_here, refused + refused_here
-    said = ", ".join(f"{kind} refused {count} times" for kind, count in refused.items())
-    print(f"refuse_memory: {len(names)} cases, {runs} runs, {said}: each ends with its fault or its own answer, "
-          "and passes again")
+    print(f"refuse_memory: {len(names)} cases, {runs} runs, memory refused {refused} times: each ends with its fault or its "
+          "own answer, and passes again")
 
 
 if __name__ == "__main__":

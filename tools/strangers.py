@@ -4,11 +4,13 @@ posts as another teller, or not from the page of this server, or asks for the lo
 wrong passwords, each on a connection of its own, of which two a second are looked at in the end. It needs the built program,
 nginx and openssl, and stands outside the gate. What comes of kills is tools/failover.py's.
     tools/strangers.py"""
+import contextlib
 import sys
 import tempfile
 import time
 
-from serve_client import FROM_PAGE, Place, connect, need_program, post, read_answer, record, run, signed_in, tls_of, with_fields
+from serve_client import (FROM_PAGE, Place, connect, need_program, post, read_answer, record, run, signed_in, tls_of,
+                          with_fields, within)
 
 
 def strangers(folder):
@@ -48,18 +50,13 @@ def asking(path):
 
 def answer_of(tls, port, message):
     """The status of an answer, from a server that may still be starting."""
-    end = time.monotonic() + 60
-    while time.monotonic() < end:
-        try:
-            with connect(tls, port) as connection:
-                connection.sendall(message)
-                answer = read_answer(connection, b"")
-                if answer is not None and answer[0] < 500:
-                    return answer[0]
-        except OSError:
-            pass
-        time.sleep(0.1)
-    return None
+    def asked():
+        with contextlib.suppress(OSError), connect(tls, port) as connection:
+            connection.sendall(message)
+            answer = read_answer(connection, b"")
+            return answer and answer[0] < 500 and answer[0]
+
+    return within(60, "an answer", asked)
 
 
 def guesses(place, tls):

@@ -8,8 +8,7 @@ refused, undoing, a second tab, and another server's page that tries to post.
                                      postings, and 100 kills of the counter, 10 of nginx and 7 of the browser
     tools/teller_page.py hashes      writes the hashes of the page's script and style into examples/nginx.conf
     tools/teller_page.py pictures    takes docs/teller.png and docs/teller_narrow.png
-It needs the built program, nginx, openssl, and Debian's `chromium-driver` or `firefox-esr`. It is bounded in count and time,
-uses loopback alone, and stands outside the gate."""
+It needs nginx, openssl, and Debian's `chromium-driver` or `firefox-esr`, and uses loopback alone."""
 import base64
 import contextlib
 import hashlib

@@ -1,7 +1,7 @@
 #!/usr/bin/env bash
 # Tries what README, docs/USING.md and examples/ show, with the built program: README's minute as a script and pasted
-# into a terminal, the reports in SQL, the evening's copy, a recovery and the migration, each with what they refuse; and
-# what `bank serve` answers to curl; a bank that follows another one.
+# into a terminal, the reports in SQL, the evening's copy, a recovery, each with what they refuse; and a bank that
+# follows another one.
 #
 #     tools/try_examples.sh [TIMES]
 #
@@ -159,47 +159,8 @@ for it in audit export plan; do
 done
 echo "recovery"
 
-if "$top/examples/migrate.sh" lost.db "$bank" 2>/dev/null; then fail "a migration of nothing"; fi
-lacks lost.db.before
-for version in 1 2; do
-    cp "$top/crates/bank_trials/data/version_$version.db" old.db
-    cp "$top/crates/bank_trials/data/version_$version.db-wal" old.db-wal
-    "$top/examples/migrate.sh" old.db "$bank" | grep "^migrated $version to [0-9]*$" >moved || fail "version $version"
-    rm -r old.db*
-done
-echo "migrate.sh"
-"$top/examples/day.sh" "$bank" >/dev/null
-echo "day.sh"
-
-# A posting, the same one again, GET and HEAD, a kept connection, HTTP/1.0, and what isn't there, on ten connections.
 "$bank" init curl.db >/dev/null
 "$bank" load curl.db "$top/examples/plan.csv" >/dev/null
-"$bank" serve curl.db 127.0.0.1:0 --connections 10 >heard &
-server=$!
-until grep -qs listening heard; do sleep 0.1; done
-base=http://$(cut -d ' ' -f 2 heard)
-ask() { curl -sS --max-time 20 "$@"; }
-printf '%-100s' DC01000000000001000000010000010000000001+0000000500 >record
-ask --data-binary @record -o reply "$base/post"
-same "$(cat reply)" "$(printf '%-200s' DR0100000000000001000000010000010000000001+0000000500+000000000500POSTED)" "a posting"
-ask --data-binary @record -o repeat "$base/post"
-cmp reply repeat || fail "the same posting has another reply"
-same "$(ask "$base/account/1")" 'account 1 balance 500' "an account"
-same "$(ask -w '%{http_code}' -o /dev/null "$base/account/4")" 404 "an account that is not open"
-same "$(ask --data-binary short -w '%{http_code}' -o /dev/null "$base/post")" 400 "a record that is too short"
-same "$(ask -D - -o /dev/null "$base/post" | tr -d '\r' | head -4 | paste -sd ,)" \
-    "HTTP/1.1 405 Method Not Allowed,Content-Type: text/plain,Content-Length: 23,Allow: POST" "GET of what is posted"
-same "$(ask "$base/branches")" "$(printf '%6s %7s %14s\n%6s %7s %14s' 1 3 500 2 2 0)" "the branches"
-same "$(ask --head "$base/branches" | tr -d '\r' | paste -sd ,)" \
-    "HTTP/1.1 200 OK,Content-Type: text/plain,Content-Length: 60," "HEAD"
-same "$(ask --http1.0 -D - "$base/account/1" | tr -d '\r' | paste -sd ,)" \
-    "HTTP/1.1 200 OK,Content-Type: text/plain,Content-Length: 22,Connection: close,,account 1 balance 500" "HTTP/1.0"
-# Three requests of one call of curl take one connection.
-same "$(ask -w '%{num_connects} ' "$base/account/1" "$base/account/2" "$base/account/3" | tr '\n' ' ')" \
-    'account 1 balance 500 1 account 2 balance 0 0 account 3 balance 0 0 ' "a kept connection"
-wait "$server" || fail "serve ended with status $?"
-echo "curl"
-
 # A bank that follows, the evening of its machine, and a leader that has less.
 leads() {
     rm -f leads
@@ -233,7 +194,7 @@ followed "$count"
 STOP="bash second.sh stop" START="bash second.sh start" OPEN=follows BANK="$bank" \
     "$top/examples/evening.sh" second.db safe/second >said 2>&1 || fail "an evening of a bank that follows: $(cat said)"
 printf '%-100s' DC01000000000001000000010000019000000001+0000000500 >record
-ask --data-binary @record -o reply "$base/post"
+curl -sS --max-time 20 --data-binary @record -o reply "$base/post"
 count=$((count + 1))
 followed "$count"
 bash second.sh stop
