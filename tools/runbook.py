@@ -298,7 +298,19 @@ class Drill:
         time.sleep(2)
         self.posts(two, 1)
         ensure(len(self.answered) == count, "a teller who has left can post")
-        print(f"runbook: each of {count} answered postings stands, once", flush=True)
+        self.change(one, two)
+        print(f"runbook: each of {len(self.answered)} answered postings stands, once", flush=True)
+
+    def change(self, one, two):
+        """The one that follows serves again, and lacks nothing."""
+        page = "The machines change places"
+        two.plays(page, part=slice(1))
+        count = re.search(r"(\d+) requests, all", one.plays(page, part=slice(1, 2)))[1]
+        told = two.plays(page, part=slice(2, 3), changes=(("1234", count),))
+        ensure("\n0\n" in "\n" + told, f"it has more than {count} requests: {told}")
+        one.plays("The machine is lost, and another one follows it")
+        self.stands(one, "after the machines changed places")
+        two.plays("The lost machine is back")
 
     def end(self):
         for machine in (self.one, self.two):
