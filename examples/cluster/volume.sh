@@ -16,6 +16,7 @@ for _ in $(seq 30); do
     if [ "$(gluster pool list | grep -c Connected)" = 3 ]; then break; fi
     sleep 1
 done
+[ "$(gluster pool list | grep -c Connected)" = 3 ] || { echo "volume: a host is not connected" >&2; exit 1; }
 if ! gluster volume info bank >/dev/null 2>&1; then
     gluster volume create bank replica 3 "$1:$folder" "$2:$folder" "$3:$folder" ${5:+force}
 fi
