@@ -224,7 +224,7 @@ class Drill:
 
         one.does("head -c 64M /dev/zero > /var/lib/bank/filler || true")
         self.alarmed(one, "bank", lambda: self.posts(one, 1))
-        one.plays("The disk is full", ("rm filler", "systemctl reset-failed"))
+        one.plays("The disk is full, or nearly", ("rm filler", "systemctl reset-failed"))
         self.posts(one)
         self.stands(one, "after a full disk")
 
