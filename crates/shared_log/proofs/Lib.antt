@@ -3,3 +3,4 @@ pub mod Carried
 pub mod Appends
 pub mod Along
 pub mod Same
+pub mod Shared

@@ -4,3 +4,4 @@ pub mod Settled
 pub mod Holding
 pub mod Published
 pub mod Joined
+pub mod Sharing

@@ -36,12 +36,14 @@
 #![tactic(auto)]
 
 mod joining;
+mod laws;
 mod log;
 mod publishing;
 mod replicated;
 mod settled;
 
 pub use joining::{JoinFault, Joined};
+pub use laws::sharing_law;
 pub use log::{LogFault, SharedLog};
 pub use replicated::Replicated;
 pub use settled::{MOST_TRIES, append_settled};
