@@ -54,7 +54,7 @@ pub use posting_batch::{
 };
 pub use posting_rules::{
     ACCOUNTS_PER_BRANCH, AccountRow, BranchLine, BranchRow, Counter, Decision, Fault, FloorRow,
-    Found, HistoryRow, Kept, LAST_BRANCH, MAX_ACCOUNTS, MAX_DECIDED, OpenFault, Opening, Ordinal,
+    BankTable, Found, HistoryRow, Kept, LAST_BRANCH, MAX_ACCOUNTS, MAX_DECIDED, OpenFault, Opening, Ordinal,
     RECORDS_PER_BATCH, ReferenceRow, RequestRow, Rule, TELLERS_PER_BRANCH, TellerRow, Verdict,
     accounts_stay_above, balances_stay_within, branch_of_account, branch_of_teller,
     cases_are_as_stated, each_request_once, equal_tables_answer_alike, first_account, first_teller,

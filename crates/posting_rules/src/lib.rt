@@ -59,7 +59,7 @@ pub use limits::{
 pub use numbering::{
     branch_of_account, branch_of_teller, first_account, first_teller, place_of_account,
 };
-pub use open_fault::OpenFault;
+pub use open_fault::{BankTable, OpenFault};
 pub use rows::{
     AccountRow, BranchRow, FloorRow, HistoryRow, Ordinal, ReferenceRow, RequestRow, TellerRow,
 };

@@ -1,6 +1,42 @@
 //! Why no bank is made or found where its tables are kept.
+ghost use Rattle.std.specs.Prelude.{◌≡◌};
+
 use crate::fault::{Fault, Rule};
 use std::fmt;
+
+/// One of the tables of a bank.
+#[derive(Clone, Copy, Debug, PartialEq, Eq)]
+pub enum BankTable {
+    Meta,
+    Branch,
+    Teller,
+    Account,
+    History,
+    Request,
+    Floor,
+    Reference,
+}
+
+impl BankTable {
+    ghost use Rattle.posting_rules.specs.FaultTexts.{name_of_table};
+
+    /// Its name where the tables are kept.
+    #[must_use]
+    pub fn name(self) -> &'static str
+        ensures { result.now ≡ name_of_table self }
+    {
+        match self {
+            BankTable::Meta => "meta",
+            BankTable::Branch => "branch",
+            BankTable::Teller => "teller",
+            BankTable::Account => "account",
+            BankTable::History => "history",
+            BankTable::Request => "request",
+            BankTable::Floor => "branch_floor",
+            BankTable::Reference => "request_reference",
+        }
+    }
+}
 
 /// Why no bank is made where its tables are to be kept, or none is found there. `{}` writes it in a few words,
 /// as `version 2` or `damaged rule 1`.
@@ -17,6 +53,8 @@ pub enum OpenFault {
     Foreign,
     /// Its tables are there, and `meta` has this version, which isn't ours.
     Version(i64),
+    /// Its tables are there, and this is the first that is defined otherwise than a bank makes it.
+    OtherTable(BankTable),
     /// The row of `meta` is missing or its count of requests is out of range (`Rule::Meta`), or it has a
     /// value of another type (`Rule::Value`).
     Damaged(Rule),
@@ -35,6 +73,10 @@ impl fmt::Display for OpenFault {
             OpenFault::Blank => "no bank",
             OpenFault::Foreign => "foreign tables",
             OpenFault::Version(version) => return write!(f, "version {version}"),
+            OpenFault::OtherTable(table) => {
+                let name = table.name();
+                return write!(f, "table {name} is defined otherwise");
+            }
             OpenFault::Damaged(rule) => {
                 let fault = Fault::Damaged(*rule);
                 return write!(f, "{fault}");
