@@ -1,8 +1,7 @@
 -- Whether a schema has a table as its text makes it.
 use Rattle.std.proofs.Common.{◌≡◌, ◌≢◌, ◌≤◌, ℕ, zero, suc, List, [], ◌∷◌, length, take, slice_get, slice_index_or}
-use Rattle.std.proofs.Common.{Some, None, refl, sym, ap, subst, inl, inr, arith, pos, Bool}
+use Rattle.std.proofs.Common.{Option, Some, None, refl, sym, ap, subst, inl, inr, arith, pos, Bool}
 use Rattle.std.specs.Bool.{Decides}
-use Rattle.std.specs.List.{AllByRecursion}
 use Rattle.std.proofs.lemmas.Option.{get_or_from_slice_get}
 use Rattle.sqlite.specs.Schema.{Schema}
 use Rattle.sqlite.specs.Term.{Term, col, lit, op2}
@@ -14,8 +13,9 @@ use Rattle.sqlite_sql.specs.declared.ops.CompareOp.TheVariants.{Eq}
 use Rattle.sqlite_schema.specs.Code.{op_term, term_in, term_to}
 use Rattle.sqlite_schema.specs.declared.code.Op.{Op}
 use Rattle.sqlite_schema.specs.declared.code.Op.TheVariants.{Literal, Column, Unary, Binary, Case}
-use Rattle.store_rows.specs.Definitions.{IsAsMade, IsFirstOther, key_is_one, made}
-use Rattle.store_rows.specs.declared.probes.BankTable.{BankTable}
+use Rattle.sql_meanings.specs.believed.Tables.{Defines}
+use Rattle.store_rows.specs.Definitions.{AreMade, IsFirstOther, TellsOther, key_is_one, made}
+use Rattle.posting_rules.specs.declared.open_fault.BankTable.{BankTable}
 
 -- ---- a CHECK
 
@@ -116,14 +116,21 @@ decides_term ops root a b op r parts is = (
 -- ---- one table after another
 
 pub found_other : (schema : Schema) (ts : List BankTable) (n : ℕ) (t : BankTable) → slice_get ts n ≡ Some t
-    → AllByRecursion (λ t. IsAsMade schema (made t)) (take n ts) → ¬ IsAsMade schema (made t)
-    → IsFirstOther schema ts (Some t)
+    → AreMade schema (take n ts) → ¬ Defines schema (made t) → IsFirstOther schema ts t
 found_other schema [] n t is all other = absurd cc
 found_other schema (u ∷ ts) zero t is all other =
-    let same : u ≡ t = cc in inl (ap Some (sym same), subst (λ t. ¬ IsAsMade schema (made t)) (sym same) other)
+    let same : u ≡ t = cc in inl (sym same, subst (λ t. ¬ Defines schema (made t)) (sym same) other)
 found_other schema (u ∷ ts) (suc n) t is all other = inr (all.0, found_other schema ts n t is all.1 other)
 
-pub no_other : (schema : Schema) (ts : List BankTable) → AllByRecursion (λ t. IsAsMade schema (made t)) ts
-    → IsFirstOther schema ts None
-no_other schema [] all = refl
-no_other schema (u ∷ ts) all = inr (all.0, no_other schema ts all.1)
+-- one that is as made comes before these
+pub after_first : (schema : Schema) (t : BankTable) (ts : List BankTable) (found : Option BankTable)
+    → Defines schema (made t) → TellsOther schema ts found → TellsOther schema (t ∷ ts) found
+after_first schema t ts None defined tells = (defined, tells)
+after_first schema t ts (Some found) defined tells = inr (defined, tells)
+
+-- where each is as made, none is another
+pub none_other : (schema : Schema) (ts : List BankTable) (found : BankTable) → IsFirstOther schema ts found
+    → AreMade schema ts → ⊥
+none_other schema [] found other all = other
+none_other schema (t ∷ ts) found (inl other) all = other.1 all.0
+none_other schema (t ∷ ts) found (inr so) all = none_other schema ts found so.1 all.1

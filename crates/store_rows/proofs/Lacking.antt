@@ -13,6 +13,8 @@ use Rattle.posting_rules.specs.believed.Tables.{Tables}
 use Rattle.sql_meanings.specs.{believed.Contents.HoldsEach, Making.NotMade, StatementAnswers.IsUnderstood}
 use Rattle.sql_meanings.specs.Contents.{has_other_names, is_free, stand_apart}
 use Rattle.sql_meanings.proofs.{Contents.HoldsEach-prop, ListedTexts.listing_tests, Places.all_later}
+use Rattle.sql_meanings.proofs.Defining.{Defines-prop, defined_stands, stands_defined}
+use Rattle.sql_meanings.specs.believed.Tables.{placed_at, tree_of}
 use Rattle.sql_meanings.proofs.FreeNames.{free_beside, free_understood, needs_none, only_full}
 use Rattle.sql_meanings.proofs.StayHeld.{held_after, same_place, still_held, still_hold}
 use Rattle.sql_meanings.proofs.Trees.{Holds-prop, nat_set}
@@ -81,6 +83,11 @@ module _ (from : ℕ) (old new : Database) (made : TablesAreMade (lacking from) 
   lacking_made = record {
     empty = made.empty;
     keeps = made.keeps;
+    defines = λ table free defined. ∥∥₁_elim made.empty.sound (Defines-prop new.schema table)
+        (λ sound.
+        let stands = made.keeps.stands _ (defined_stands old.schema table free defined) in
+        let found = stands_defined new.schema new.trees (placed_at table (tree_of old.schema table.name)) sound stands in
+        record { found = found.1.found; apart = found.1.apart });
     holds = λ table es free holds. ∥∥₁_elim made.empty.sound (Holds-prop new table es)
         (λ sound. still_held old new sound made.keeps table es free holds);
     places = λ table es free holds. ∥∥₁_elim made.empty.sound (nat_set _ _)

@@ -6,7 +6,8 @@ pub mod CreateTexts
 pub mod CreationEnds
 pub mod CreationSteps
 pub mod EmptyFile
-mod AsMade
+pub mod AsMade
+pub mod BankTables
 pub mod Failing
 pub mod Lacking
 pub mod FoundRows

@@ -7,9 +7,10 @@ use Rattle.sqlite_resolve.specs.Select.{ungrouped}
 use Rattle.sql_meanings.proofs.{Probing.ProbesAs, Texts.IsSelect, Texts.columns_of, Texts.places_of, Texts.probes_by}
 use Rattle.sql_meanings.proofs.Texts.{select_of}
 use Rattle.store_rows.specs.believed.BankTables as bank
-use Rattle.store_rows.specs.{Probes.probe_of, declared.probes.BankTable.BankTable}
-use Rattle.store_rows.specs.declared.probes.BankTable.TheVariants.{Meta, Branch, Teller, Account, History, Request}
-use Rattle.store_rows.specs.declared.probes.BankTable.TheVariants.{Floor, Reference}
+use Rattle.store_rows.specs.Probes.{probe_of}
+use Rattle.posting_rules.specs.declared.open_fault.BankTable.{BankTable}
+use Rattle.posting_rules.specs.declared.open_fault.BankTable.TheVariants.{Meta, Branch, Teller, Account, History, Request}
+use Rattle.posting_rules.specs.declared.open_fault.BankTable.TheVariants.{Floor, Reference}
 use Rattle.store_rows.specs.declared.texts.TheConstants.{PROBE_META, PROBE_BRANCH, PROBE_TELLER, PROBE_ACCOUNT}
 use Rattle.store_rows.specs.declared.texts.TheConstants.{PROBE_HISTORY, PROBE_REQUEST, PROBE_FLOOR, PROBE_REFERENCE}
 

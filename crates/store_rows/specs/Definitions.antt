@@ -1,5 +1,6 @@
 -- Whether a schema has the tables of a bank as the CREATE texts make them.
-use Rattle.std.specs.Prelude.{◌≡◌, ◌⊎◌, ◌==◌, ◌∷◌, List, [], length, map, count_by, pos, true, Option, Some, None}
+use Rattle.std.specs.Prelude.{◌≡◌, ◌⊎◌, ◌∷◌, List, [], map, pos, true, Option, Some, None}
+use Rattle.std.specs.List.{AllByRecursion}
 use Rattle.sqlite.specs.Schema.{Schema}
 use Rattle.sqlite.specs.Table.{Table}
 use Rattle.sqlite.specs.Collation.TheVariants.{Binary}
@@ -9,30 +10,29 @@ use Rattle.sqlite_sql.specs.declared.ops.BinaryOp.TheVariants.{Compare}
 use Rattle.sqlite_sql.specs.declared.ops.CompareOp.TheVariants.{Eq}
 use Rattle.sqlite_schema.specs.declared.schema.Column.{Column}
 use Rattle.sql_meanings.specs.believed.Plain.{key_column, strict_column}
-use Rattle.sql_meanings.specs.believed.Tables.{Defines, tree_of}
-use Rattle.store_rows.specs.Probes.{all_tables, probe_of}
+use Rattle.sql_meanings.specs.believed.Tables.{Defines}
+use Rattle.store_rows.specs.Probes.{probe_of}
 use Rattle.store_rows.specs.declared.definitions.Made.{Made}
-use Rattle.store_rows.specs.declared.probes.BankTable.{BankTable}
+use Rattle.posting_rules.specs.declared.open_fault.BankTable.{BankTable}
 
 -- the table that its text makes
 abbrev pub made : BankTable → Table
 made table = (probe_of table).1
 
--- the name finds this table, and there are no more indexes on it than its UNIQUEs have
-pub record IsAsMade (schema : Schema) (table : Table) : Type 0 where
-  pub defined : Defines schema table
-  pub indexes : count_by (λ i. i.table == tree_of schema table.name) schema.indexes ≡ length table.uniques
+-- each of these tables is defined as its text makes it
+abbrev pub AreMade : Schema → List BankTable → Type 0
+AreMade schema = AllByRecursion (λ t. Defines schema (made t))
 
--- this is the first of these tables that the schema has otherwise, none where it has each as it is made
-abbrev pub IsFirstOther : Schema → List BankTable → Option BankTable → Type 0
-IsFirstOther schema [] found = found ≡ None
+-- this is the first of these tables that the schema has otherwise
+abbrev pub IsFirstOther : Schema → List BankTable → BankTable → Type 0
+IsFirstOther schema [] found = ⊥
 IsFirstOther schema (t ∷ ts) found =
-    ((found ≡ Some t) × ¬ IsAsMade schema (made t))
-    ⊎ (IsAsMade schema (made t) × IsFirstOther schema ts found)
+    ((found ≡ t) × ¬ Defines schema (made t)) ⊎ (Defines schema (made t) × IsFirstOther schema ts found)
 
--- so of all tables of a bank
-unfoldable pub IsOtherTable : Schema → Option BankTable → Type 0
-IsOtherTable schema = IsFirstOther schema all_tables
+-- which it is, if there is one
+abbrev pub TellsOther : Schema → List BankTable → Option BankTable → Type 0
+TellsOther schema tables None = AreMade schema tables
+TellsOther schema tables (Some found) = IsFirstOther schema tables found
 
 -- the CHECK of `meta`
 abbrev pub key_is_one : Term

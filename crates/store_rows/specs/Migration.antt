@@ -14,7 +14,7 @@ use Rattle.sql_meanings.specs.believed.Contents.{HoldsEach}
 use Rattle.sql_meanings.specs.believed.Entries.{Entry}
 use Rattle.sql_meanings.specs.Making.{KeepsWhatStood, SparesStanding}
 use Rattle.sql_meanings.specs.StatementAnswers.{Forbids, GoesOn, SetFails}
-use Rattle.sql_meanings.specs.believed.Tables.{Holds, tree_of}
+use Rattle.sql_meanings.specs.believed.Tables.{Defines, Holds, tree_of}
 use Rattle.store_rows.specs.believed.BankTables as bank
 use Rattle.store_rows.specs.believed.BankTables.{bank_tables}
 use Rattle.store_rows.specs.believed.Columns.{meta_in}
@@ -44,11 +44,12 @@ pub record ShowsLess (from : ℕ) (db : Database) (t : Tables) : Type 0 where
 
 -- ---- the tables that a version lacks
 
--- They are there and empty. Every table that was there is there, with its rows, and what was held is held, in its
--- tree. So where a bank of that version was, all tables of this version are.
+-- They are there and empty. Every table that was there is there, with its rows; what was defined is defined, and what
+-- was held is held, in its tree. So where a bank of that version was, all tables of this version are.
 pub record LackingAreMade (from : ℕ) (old new : Database) : Type 0 where
   pub empty : AreEmpty (lacking from) new
   pub keeps : KeepsWhatStood old new
+  pub defines : (table : Table) → table.references ≡ [] → Defines old.schema table → Defines new.schema table
   pub holds : (table : Table) (es : List Entry) → table.references ≡ [] → Holds old table es → Holds new table es
   pub places : (table : Table) (es : List Entry) → table.references ≡ [] → Holds old table es
       → tree_of new.schema table.name ≡ tree_of old.schema table.name

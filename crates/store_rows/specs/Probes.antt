@@ -5,9 +5,9 @@ use Rattle.sqlite.specs.Schema.{Schema}
 use Rattle.sqlite.specs.Table.{Table}
 use Rattle.sqlite_resolve.specs.declared.error.CompileError.{CompileError}
 use Rattle.store_rows.specs.believed.BankTables as bank
-use Rattle.store_rows.specs.declared.probes.BankTable.{BankTable}
-use Rattle.store_rows.specs.declared.probes.BankTable.TheVariants.{Meta, Branch, Teller, Account, History}
-use Rattle.store_rows.specs.declared.probes.BankTable.TheVariants.{Request, Floor, Reference}
+use Rattle.posting_rules.specs.declared.open_fault.BankTable.{BankTable}
+use Rattle.posting_rules.specs.declared.open_fault.BankTable.TheVariants.{Meta, Branch, Teller, Account, History}
+use Rattle.posting_rules.specs.declared.open_fault.BankTable.TheVariants.{Request, Floor, Reference}
 use Rattle.store_rows.specs.declared.texts.TheConstants as text
 
 -- the probe of a table: its text, and the table

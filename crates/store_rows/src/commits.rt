@@ -1,5 +1,5 @@
 //! What was written is made to last.
-ghost use Rattle.std.specs.Prelude.{◌≡◌, IfErr, OnOk, OnErr, false};
+ghost use Rattle.std.specs.Prelude.{◌≡◌, IfErr, IsTrue, OnOk, OnErr, false};
 ghost use Rattle.sqlite.specs.Tree.{Trees};
 ghost use Rattle.sqlite.specs.State.{HasCleanDisk, Survives};
 ghost use Rattle.sqlite.specs.Held.{state};
@@ -24,6 +24,8 @@ pub fn commit<S: Alter>(tx: Transaction<'_, S>) -> Result<(), Error>
         → ShowsTrees left tables) }
     ensures same { HasCleanDisk (state S.Store tx.exit.0.now)
         → OnOk result ((state S.Store tx.exit.0.now).now ≡ (state S.Store tx.entry.conn.now).now) }
+    ensures opened { HasCleanDisk (state S.Store tx.exit.0.now)
+        → OnOk result (IsTrue (state S.Store tx.entry.conn.now).is_open) }
     ensures err { HasCleanDisk (state S.Store tx.exit.0.now)
         → OnErr result (WriteFails (state S.Store tx.entry.conn.now) (state S.Store tx.exit.0.now)) }
     ensures cause { HasCleanDisk (state S.Store tx.exit.0.now)

@@ -2,7 +2,7 @@
 ghost use Rattle.std.specs.Bool.{Decides};
 ghost use Rattle.std.specs.List.{AllByRecursion};
 ghost use Rattle.std.specs.Option.{option_copied};
-ghost use Rattle.std.specs.Prelude.{◌≡◌, ◌==◌, ◌∷◌, [], Some, count_by, false, length, map, pos, slice_get, true};
+ghost use Rattle.std.specs.Prelude.{◌≡◌, ◌∷◌, [], Some, false, map, pos, slice_get, true};
 ghost use Rattle.sqlite.specs.Collation.TheVariants.{Binary as Plainly};
 ghost use Rattle.sqlite.specs.Held.{state};
 ghost use Rattle.sqlite.specs.declared.types.Value.TheVariants.{Int};
@@ -11,15 +11,16 @@ ghost use Rattle.sqlite_schema.specs.declared.code.Op.TheVariants.{Column as Pla
 ghost use Rattle.sqlite_sql.specs.declared.ops.BinaryOp.TheVariants.{Compare};
 ghost use Rattle.sqlite_sql.specs.declared.ops.CompareOp.TheVariants.{Eq};
 ghost use Rattle.sqlite_value.specs.Keys.{plain};
+ghost use Rattle.posting_rules.specs.declared.open_fault.BankTable.TheVariants.{Meta};
 ghost use Rattle.sql_meanings.specs.believed.Plain.{strict_column};
-ghost use Rattle.sql_meanings.specs.believed.Tables.{placed_at, table_of};
-ghost use Rattle.store_rows.specs.Definitions.{IsAsMade, IsFirstOther, IsOtherTable, columns_of, key_is_one, made};
+ghost use Rattle.sql_meanings.specs.believed.Tables.{Defines, placed_at, table_of};
+ghost use Rattle.store_rows.specs.Definitions.{TellsOther, columns_of, key_is_one, made};
 
-use crate::probes::{AFTER_META, BankTable};
+use posting_rules::BankTable;
 use sqlite::{Alter, Connection};
 use sqlite_items::Items;
 use sqlite_schema::code::{Op, Terms};
-use sqlite_schema::schema::{Column, Index, Kind, Schema, Table};
+use sqlite_schema::schema::{Column, Kind, Schema, Table};
 use sqlite_sql::ops::{BinaryOp, CompareOp};
 use sqlite_value::keys::{Collation, Order};
 use sqlite_value::value::Value;
@@ -88,16 +89,6 @@ const REFERENCE: Made = Made {
     others: &["reference"],
     kind: Kind::Text,
 };
-
-impl BankTable {
-    /// Its name in a file.
-    #[must_use]
-    pub fn name(self) -> &'static str
-        ensures { result.now ≡ (made self).name }
-    {
-        made_of(self).name
-    }
-}
 
 fn made_of(table: BankTable) -> Made
     ensures name { result.name.now ≡ (made table).name }
@@ -271,22 +262,6 @@ fn are_made(tables: &[Table], tree: u32, table: BankTable) -> bool
     true
 }
 
-fn count_on(indexes: &[Index], tree: u32) -> usize
-    ensures { result ≡ count_by (λ i. i.table == tree) indexes.now }
-{
-    indexes.iter().filter(|index| index.table == tree).count()
-}
-
-// How many UNIQUEs it has.
-fn count_uniques(table: BankTable) -> usize
-    ensures { result ≡ length (made table).uniques }
-{
-    match table {
-        BankTable::Request => 1,
-        _ => 0,
-    }
-}
-
 // The table that the name finds.
 fn find_table<'a>(schema: &'a Schema, name: &str) -> Option<&'a Table>
     ensures { option_copied result ≡ table_of schema.now name.now }
@@ -299,19 +274,18 @@ fn find_table<'a>(schema: &'a Schema, name: &str) -> Option<&'a Table>
 
 // Whether the schema has the table as its text makes it.
 fn is_as_made(schema: &Schema, table: BankTable) -> bool
-    ensures { Decides result (IsAsMade schema.now (made table)) }
+    ensures { Decides result (Defines schema.now (made table)) }
 {
     let Some(found) = find_table(schema, made_of(table).name) else {
         return false;
     };
     // The one that was found is among them.
     are_made(schema.tables.as_slice(), found.tree, table)
-        && count_on(schema.indexes.as_slice(), found.tree) == count_uniques(table)
 }
 
 // The first of these tables that the schema doesn't have as its text makes it.
 fn first_other(schema: &Schema, tables: &[BankTable]) -> Option<BankTable>
-    ensures { IsFirstOther schema.now tables.now result }
+    ensures { TellsOther schema.now tables.now result }
 {
     for table in tables {
         if !is_as_made(schema, *table) {
@@ -321,15 +295,15 @@ fn first_other(schema: &Schema, tables: &[BankTable]) -> Option<BankTable>
     None
 }
 
-/// The first of a bank's tables that the connection's file defines otherwise than [`create`](crate::create) makes
-/// it, none where it defines each so. A table is the same where its name, its columns and its rules are, and it has
-/// no index beside those of its rules; a table with a trigger isn't.
-pub fn other_table<S: Alter>(conn: &Connection<S>) -> Option<BankTable>
-    ensures { IsOtherTable (state S.Store conn.now).now.schema result }
+/// The first of `meta` and these other tables of a bank that the connection's file defines otherwise than
+/// [`create`](crate::create) makes it, none where it defines each so. A table is the same where its name, its columns
+/// and its rules are, whatever indexes it has beside those of its rules; a table with a trigger isn't.
+pub fn other_table<S: Alter>(conn: &Connection<S>, others: &[BankTable]) -> Option<BankTable>
+    ensures { TellsOther (state S.Store conn.now).now.schema (Meta ∷ others.now) result }
 {
     let schema = conn.schema();
     if !is_as_made(schema, BankTable::Meta) {
         return Some(BankTable::Meta);
     }
-    first_other(schema, AFTER_META)
+    first_other(schema, others)
 }

@@ -11,20 +11,8 @@ use crate::texts::{
     PROBE_ACCOUNT, PROBE_BRANCH, PROBE_FLOOR, PROBE_HISTORY, PROBE_META, PROBE_REFERENCE,
     PROBE_REQUEST, PROBE_TELLER,
 };
+use posting_rules::BankTable;
 use sqlite::{Alter, Connection, Error};
-
-/// One of the tables of a bank.
-#[derive(Clone, Copy)]
-pub enum BankTable {
-    Meta,
-    Branch,
-    Teller,
-    Account,
-    History,
-    Request,
-    Floor,
-    Reference,
-}
 
 /// The tables of a bank after `meta`, in their order.
 pub const AFTER_META: &[BankTable] = &[

@@ -1,5 +1,7 @@
 -- The tables of a bank, as `sqlite` understands them.
 use Rattle.std.specs.Prelude.{List, [], ◌∷◌, codes, pos}
+use Rattle.std.specs.List.{AllByRecursion}
+use Rattle.sqlite.specs.Schema.{Schema}
 use Rattle.sqlite.specs.Table.{Table}
 use Rattle.sqlite.specs.Collation.TheVariants.{Binary}
 use Rattle.sqlite.specs.Term.{lit, col, op2}
@@ -8,6 +10,7 @@ use Rattle.sqlite_sql.specs.declared.ops.BinaryOp.TheVariants.{Compare}
 use Rattle.sqlite_sql.specs.declared.ops.CompareOp.TheVariants.{Eq}
 use Rattle.sqlite_value.specs.Keys.{plain}
 use Rattle.sql_meanings.specs.believed.Plain.{plain_table, text_table}
+use Rattle.sql_meanings.specs.believed.Tables.{Defines}
 
 -- one row, since its key must be 1
 abbrev pub meta : Table
@@ -52,3 +55,7 @@ reference = text_table (codes "request_reference") (codes "ordinal") [] (codes "
 -- all of them; another table of the bank is one more here
 abbrev pub bank_tables : List Table
 bank_tables = meta ∷ branch ∷ teller ∷ account ∷ history ∷ request ∷ floor ∷ reference ∷ []
+
+-- each of them is defined as its CREATE text makes it
+abbrev pub HasBankTables : Schema → Type 0
+HasBankTables schema = AllByRecursion (Defines schema) bank_tables

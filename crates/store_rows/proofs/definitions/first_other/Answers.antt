@@ -4,8 +4,8 @@ use Rattle.std.proofs.Math.Seq.{take-length}
 use Rattle.std.proofs.lemmas.Option.{get_or_from_slice_get}
 use Rattle.std.proofs.lemmas.Bool.Decides.{not_from_Decides}
 use Rattle.sql_meanings.proofs.Places.{some_at}
-use Rattle.store_rows.specs.declared.probes.BankTable.TheVariants.{Meta}
-use Rattle.store_rows.proofs.AsMade.{found_other, no_other}
+use Rattle.posting_rules.specs.declared.open_fault.BankTable.TheVariants.{Meta}
+use Rattle.store_rows.proofs.AsMade.{found_other}
 use Rattle.store_rows.proofs.definitions.first_other.Goals as goal
 
 pub returns-then-not-is_as_made : goal.returns-then-not-is_as_made
@@ -22,5 +22,4 @@ returns c =
     let ts = c.args.tables.now in
     let all : c.loop-table.table-index ≡ length ts =
     omega (arith, c.loop-table-test.false, c.loop-table.auto.table-index-end) in
-    let so = rw all at c.loop-table.invariant in
-    no_other c.args.schema.now ts (rw (take-length ts) at so)
+    rw (take-length ts) at (rw all at c.loop-table.invariant)

@@ -1,0 +1,72 @@
+-- That a schema has the tables of a bank has one proof at most, and which files have them.
+use Rattle.std.proofs.Common.{◌+◌, ℕ, zero, suc, List, [], ◌∷◌, map, take, refl, arith}
+use Rattle.sqlite.specs.{Effect.Database, Schema.Schema}
+use Rattle.sql_meanings.specs.Names.{AllByRecursion-prop}
+use Rattle.posting_rules.specs.believed.Tables.{Tables}
+use Rattle.posting_rules.specs.declared.open_fault.BankTable.{BankTable}
+use Rattle.sql_meanings.specs.believed.{Contents.HoldsEach, Entries.Entry, Tables.Defines}
+use Rattle.sql_meanings.proofs.Defining.{Defines-prop}
+use Rattle.store_rows.specs.believed.{BankTables.HasBankTables, BankTables.bank_tables, View.Shows}
+use Rattle.store_rows.specs.believed.BankTables as bank
+use Rattle.store_rows.specs.{Definitions.AreMade, Definitions.made, Migration.IsEarlier, Migration.LackingAreMade}
+use Rattle.store_rows.specs.{Probes.all_tables, View.contents}
+
+pub HasBankTables-prop : (schema : Schema) → IsProp (HasBankTables schema)
+HasBankTables-prop schema = AllByRecursion-prop (Defines schema) (Defines-prop schema) bank_tables
+
+-- tables that are held are defined
+pub made_each : (db : Database) (ts : List BankTable) (contents : List (List Entry))
+    → HoldsEach db (map made ts) contents → AreMade db.schema ts
+made_each db [] contents each = tt
+made_each db (t ∷ ts) [] each = absurd each
+made_each db (t ∷ ts) (es ∷ contents) each = (each.0.defined, made_each db ts contents each.1)
+
+-- so where tables are shown, they are a bank's
+pub shown_tables : (db : Database) (t : Tables) → Shows db t → HasBankTables db.schema
+shown_tables db t shows = made_each db all_tables (contents t) shows.each
+
+-- where those of an earlier version were, and those that it lacks are made
+pub completed : (from : ℕ) (old new : Database) → IsEarlier from → AreMade old.schema (take (5 + from) all_tables)
+    → LackingAreMade from old new → HasBankTables new.schema
+completed zero old new earlier all made = absurd (omega (arith, earlier.0))
+completed (suc zero) old new earlier all lacking =
+    let d = lacking.defines in (
+      d bank.meta refl all.0,
+      (
+        d bank.branch refl all.1.0,
+        (
+          d bank.teller refl all.1.1.0,
+          (
+            d bank.account refl all.1.1.1.0,
+            (
+              d bank.history refl all.1.1.1.1.0,
+              (
+                d bank.request refl all.1.1.1.1.1.0,
+                (lacking.empty.each.0.defined, (lacking.empty.each.1.0.defined, tt)),
+              ),
+            ),
+          ),
+        ),
+      ),
+    )
+completed (suc (suc zero)) old new earlier all lacking =
+    let d = lacking.defines in (
+      d bank.meta refl all.0,
+      (
+        d bank.branch refl all.1.0,
+        (
+          d bank.teller refl all.1.1.0,
+          (
+            d bank.account refl all.1.1.1.0,
+            (
+              d bank.history refl all.1.1.1.1.0,
+              (
+                d bank.request refl all.1.1.1.1.1.0,
+                (d bank.floor refl all.1.1.1.1.1.1.0, (lacking.empty.each.0.defined, tt)),
+              ),
+            ),
+          ),
+        ),
+      ),
+    )
+completed (suc (suc (suc n))) old new earlier all made = absurd (omega (arith, earlier.1))
