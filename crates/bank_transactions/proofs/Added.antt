@@ -7,7 +7,6 @@ use Rattle.sqlite.specs.{Effect.Database, Order.Row}
 use Rattle.sqlite_rules.specs.Lists.{Has}
 use Rattle.sqlite_rules.proofs.ListLemmas.{all_has}
 use Rattle.message_records.specs.{believed.Reading.request_of, believed.Records.RequestFields}
-use Rattle.posting_rules.specs.declared.rows.RequestRow.{RequestRow}
 use Rattle.posting_batch.specs.{believed.Batch.IsNextOrdinal, Overlay.Overlay, View.IsMadeOf}
 use Rattle.posting_batch.specs.{View.reads_of, View.view, declared.batch.Batch.Batch}
 use Rattle.posting_batch.specs.Batch.{HasNextOrdinals, blanked, no_slots}
@@ -15,12 +14,10 @@ use Rattle.posting_batch.specs.Slots.{account_slot_key, branch_slot_key, teller_
 use Rattle.posting_batch.proofs.NextOrdinals.{HasNoRow, none_covered, none_new}
 use Rattle.store_rows.specs.believed.Inserts.{account_update, branch_update, teller_update}
 use Rattle.store_rows.specs.believed.Rules.{OfRows}
-use Rattle.bank_transactions.specs.believed.Additions.{AddsWhere, AskFor, ChangesFor, FollowsCount, WritesFor}
+use Rattle.bank_transactions.specs.believed.Additions.{AddsForRecords, AskFor, ChangesFor, FollowsCount, WritesFor}
 use Rattle.bank_transactions.specs.believed.Additions.{WritesUnder}
 use Rattle.bank_transactions.specs.Additions.{AddsNew, ChangesEach, ChangesRows, adds_so}
 use Rattle.bank_transactions.specs.{Filling.emptied, believed.Stored.HoldsDecided}
-use Rattle.bank_transactions.specs.believed.{Additions.AddsForRecords, Stored.HasOther, Stored.ShowsKept}
-use Rattle.bank_transactions.specs.Additions.{AddsTried}
 use Rattle.bank_transactions.proofs.OwnKeys.{AreAsked, OfAccount, OfBranch, OfTeller, asked_by}
 
 -- ---- rows that are changed
@@ -54,8 +51,7 @@ changes_for records o asked text values (inr (inr (inr it))) = inr it
 
 module _ (db : Database) (o judged : Overlay) (records : List (List ℕ))
     (held : OfRows (λ rows. HoldsDecided rows o.decided) db)
-    (next : HasNextOrdinals o.decided (length records) judged) (asked : AreAsked (AskFor records) judged)
-    (IsSo : RequestRow → Type 0) (so : (r : RequestRow) → Has judged.requests r → IsSo r) where
+    (next : HasNextOrdinals o.decided (length records) judged) (asked : AreAsked (AskFor records) judged) where
   follows : (ordinal : ℕ) → IsNextOrdinal o.decided (length records) ordinal → FollowsCount db (length records) ordinal
   follows ordinal is = λ rows has. (o.decided, held rows has, is)
 
@@ -66,13 +62,13 @@ module _ (db : Database) (o judged : Overlay) (records : List (List ℕ))
       follows (ordinal r)
       (all_has (λ x. IsNextOrdinal o.decided (length records) (ordinal x)) rows r all has)
 
-  adds_own : (text : List ℕ) (values : Row) → AddsNew judged text values → AddsWhere db records IsSo text values
+  adds_own : (text : List ℕ) (values : Row) → AddsNew judged text values → AddsForRecords db records text values
   adds_own text values (inl it) = inl (adds_so _ _ (Has judged.history)
       (λ r. FollowsCount db (length records) r.ordinal) (own (λ r. r.ordinal) judged.history next.history) text
       values it)
   adds_own text values (inr (inl it)) = inr (inl (adds_so _ _ (Has judged.requests)
-      (λ r. FollowsCount db (length records) r.ordinal × IsSo r)
-      (λ r has. (own (λ x. x.ordinal) judged.requests next.requests r has, so r has)) text values it))
+      (λ r. FollowsCount db (length records) r.ordinal) (own (λ r. r.ordinal) judged.requests next.requests) text
+      values it))
   adds_own text values (inr (inr (inl it))) = inr (inr (inl (adds_so _ _ (Has judged.references)
       (λ r. FollowsCount db (length records) r.ordinal)
       (own (λ r. r.ordinal) judged.references next.references) text values it)))
@@ -88,30 +84,15 @@ none_filled o p same none = record {
 none_at_first : HasNoRow no_slots
 none_at_first = record { history = refl; requests = refl; references = refl }
 
-adds_of_batch : (b : Batch) (records : List (List ℕ)) (o judged : Overlay) (db : Database)
+pub adds_records : (b : Batch) (records : List (List ℕ)) (o judged : Overlay) (db : Database)
     → IsMadeOf b records → emptied o ≡ emptied (view b.overlay) → OfRows (λ rows. HoldsDecided rows o.decided) db
     → (HasNextOrdinals o.decided 0 o → HasNextOrdinals o.decided (length (reads_of b)) judged)
-    → blanked judged ≡ blanked o → (IsSo : RequestRow → Type 0)
-    → ((r : RequestRow) → Has judged.requests r → IsSo r)
-    → (text : List ℕ) (values : Row) → AddsNew judged text values → AddsWhere db records IsSo text values
-adds_of_batch b records o judged db made same held next keys =
+    → blanked judged ≡ blanked o
+    → (text : List ℕ) (values : Row) → AddsNew judged text values → AddsForRecords db records text values
+adds_records b records o judged db made same held next keys =
     let none = none_filled o (view b.overlay) same
     (subst HasNoRow (sym made.overlay) (none_covered no_slots (map request_of records) none_at_first)) in
     let many : length (reads_of b) ≡ length records = ap length made.reads ∙ length-map records request_of in
     adds_own db o judged records held
     (subst (λ (n : ℕ). HasNextOrdinals o.decided n judged) many (next (none_new o.decided o none)))
     (asked_by b records o judged made same keys)
-
-module _ (b : Batch) (records : List (List ℕ)) (o judged : Overlay) (db : Database) (made : IsMadeOf b records)
-    (same : emptied o ≡ emptied (view b.overlay)) (held : OfRows (λ rows. HoldsDecided rows o.decided) db)
-    (next : HasNextOrdinals o.decided 0 o → HasNextOrdinals o.decided (length (reads_of b)) judged)
-    (keys : blanked judged ≡ blanked o) where
-  -- of requests that weren't looked up
-  pub adds_tried : (text : List ℕ) (values : Row) → AddsNew judged text values → AddsTried db records text values
-  adds_tried = adds_of_batch b records o judged db made same held next keys (λ r. Unit {0}) (λ r has. tt)
-
-  -- of requests that were, and of which none is kept
-  pub adds_looked_up : ((r : RequestRow) → Has judged.requests r → ShowsKept db r.teller r.number None)
-      → (text : List ℕ) (values : Row) → AddsNew judged text values → AddsForRecords db records text values
-  adds_looked_up unkept = adds_of_batch b records o judged db made same held next keys
-      (λ r. HasOther db → ShowsKept db r.teller r.number None) (λ r has other. unkept r has)

@@ -1,5 +1,5 @@
 -- A look-up whose answer is let go, and then a part that acts: it is as if there had been that part alone.
-use Rattle.std.proofs.Common.{◌∙◌, ℕ, List, length, None, Result, Ok, sym, subst}
+use Rattle.std.proofs.Common.{◌∙◌, ℕ, List, length, Result, Ok, sym, subst}
 use Rattle.std.specs.Prelude.{IfSome, IsTrue, OnOk}
 use Rattle.std.proofs.lemmas.Option.{IfSome_then}
 use Rattle.sqlite.specs.{Effect.Database, Held.state, declared.transaction.Transaction.Transaction}
@@ -10,10 +10,10 @@ use Rattle.posting_rules.specs.believed.Tables.{Tables}
 use Rattle.bank_transactions.specs.believed.Batches.{HasRoomFor}
 use Rattle.sql_meanings.specs.Calls.{Inside, Says}
 use Rattle.sql_meanings.proofs.Saying.{clean_between, says_then}
-use Rattle.store_rows.specs.{Definitions.IsOtherTable, believed.Made.WritesOnly, believed.Rules.IsBroken}
+use Rattle.store_rows.specs.believed.{Made.WritesOnly, Rules.IsBroken}
 use Rattle.store_rows.specs.believed.View.{Shows}
 use Rattle.store_rows.specs.declared.fault.TableFault.{TableFault}
-use Rattle.bank_transactions.specs.{Additions.AddsTried, believed.Batches.DecidesNone}
+use Rattle.bank_transactions.specs.believed.{Additions.AddsForRecords, Batches.DecidesNone}
 use Rattle.bank_transactions.specs.{Doing.Acts, Doing.ReadsWhere, Tries.answer_of, Tries.replies_of}
 use Rattle.bank_transactions.specs.{believed.Answered.AnswersAll, declared.first_try.Tried.Tried}
 use Rattle.bank_transactions.proofs.{Blamed.blames_since, Blamed.comes, Chained.keeps_then, Chained.of_bad, Chained.still_in}
@@ -24,8 +24,8 @@ module _ {S X : Type 0} {g : Ghosts S} {old mid new : Transaction S} {So : Table
   -- a part that acts, and puts in what records may
   acts_since : {Y : Type 0} {Of : Tables → Type 0} {after : Tables → Tables} {wanted : Tables → Y}
       {r : Result Y TableFault} (records : List (List ℕ))
-      → Acts g (AddsTried (state g mid.conn.now).now records) mid new Of after wanted r
-      → Acts g (AddsTried (state g old.conn.now).now records) old new Of after wanted r
+      → Acts g (AddsForRecords (state g mid.conn.now).now records) mid new Of after wanted r
+      → Acts g (AddsForRecords (state g old.conn.now).now records) old new Of after wanted r
   acts_since {after = after} {wanted = wanted} {r = r} records acts = record {
     says = says_then g old mid new look.says acts.says
         (λ answers leaves answers' live t shows so.
@@ -37,9 +37,9 @@ module _ {S X : Type 0} {g : Ghosts S} {old mid new : Transaction S} {So : Table
         let on = leaves.0.goes_on in
         let it = leaves' (still_in (state g old.conn.now) (state g mid.conn.now) on live) in (
           keeps_then (state g old.conn.now) (state g mid.conn.now) (state g new.conn.now) r on it.0,
-          blames_since (λ (db : Database). AddsTried db records) g old.conn.now mid.conn.now new.conn.now
+          blames_since (λ (db : Database). AddsForRecords db records) g old.conn.now mid.conn.now new.conn.now
               (comes look.says.survives) leaves.0.now r it.1,
-          subst (λ (db : Database). OnOk r (WritesOnly (AddsTried db records) db (state g new.conn.now).now))
+          subst (λ (db : Database). OnOk r (WritesOnly (AddsForRecords db records) db (state g new.conn.now).now))
               leaves.0.now it.2,
         ));
   }
@@ -54,7 +54,7 @@ module _ {S X : Type 0} {g : Ghosts S} {old mid new : Transaction S} {So : Table
 
     abbrev ActsFrom : Transaction S → Result (List (List ℕ)) TableFault → Type 0
     ActsFrom begun answer = (records : List (List ℕ)) → Made records
-        → Acts g (AddsTried (state g begun.conn.now).now records) begun new (HasRoomFor (length records))
+        → Acts g (AddsForRecords (state g begun.conn.now).now records) begun new (HasRoomFor (length records))
         (λ tables. tables_past_all tables moment records) (λ tables. replies_past_all tables moment records) answer
 
     pub says_since : IfSome (answer_of tried) (ActsFrom mid) → IfSome (answer_of tried) (ActsFrom old)
@@ -75,14 +75,12 @@ module _ {S X : Type 0} {g : Ghosts S} {old mid new : Transaction S} {So : Table
 
     abbrev AreStored : Transaction S → List (List ℕ) → Type 0
     AreStored begun replies = HasCleanDisk (state g new.conn.now) → IsTrue (state g begun.conn.now).in_transaction
-        → IsOtherTable (state g begun.conn.now).now.schema None
         → (records : List (List ℕ)) → Made records
         → AnswersAll (state g begun.conn.now).now (state g new.conn.now).now moment records replies
 
     pub stored_since : IfSome (replies_of tried) (AreStored mid) → IfSome (replies_of tried) (AreStored old)
     stored_since are = IfSome_then (replies_of tried) {P = AreStored mid} {Q = AreStored old} are
-        (λ replies stored clean live as_made records made.
+        (λ replies stored clean live records made.
         let stays = (look.says.leaves (clean_between g old mid new look.says quiet clean)).0 in
         subst (λ (db : Database). AnswersAll db (state g new.conn.now).now moment records replies) stays.now
-        (stored clean (still_in (state g old.conn.now) (state g mid.conn.now) stays.goes_on live)
-        (subst (λ (db : Database). IsOtherTable db.schema None) (sym stays.now) as_made) records made))
+        (stored clean (still_in (state g old.conn.now) (state g mid.conn.now) stays.goes_on live) records made))

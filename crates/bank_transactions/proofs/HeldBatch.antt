@@ -36,13 +36,13 @@ use Rattle.bank_transactions.specs.{Doing.Ends, Stored.HoldsTellerRow}
 use Rattle.bank_transactions.specs.Filling.{AreHeld, AreShown, HasOwnRow, HoldsBranch, IsRowOf, RequestShown}
 use Rattle.bank_transactions.specs.Filling.{emptied, emptied_account, emptied_branch, emptied_floor, emptied_request}
 use Rattle.bank_transactions.specs.Filling.{emptied_teller}
-use Rattle.bank_transactions.specs.believed.Stored.{HasOther, HasRead, HasShown, HasStored, HoldsAccount, HoldsFloor}
+use Rattle.bank_transactions.specs.believed.Stored.{HasRead, HasStored, HoldsAccount, HoldsFloor}
 use Rattle.bank_transactions.specs.believed.Stored.{HoldsKept, RepliesToAllStored}
 use Rattle.bank_transactions.specs.believed.Stored.{ShowsKept}
-use Rattle.bank_transactions.specs.Batches.{RepliesLookedUp}
+use Rattle.bank_transactions.specs.Batches.{HasShown, RepliesLookedUp}
 use Rattle.bank_transactions.specs.{Running.Leads, Writing.AreBranchNumbers, Writing.MayWrite}
 use Rattle.bank_transactions.specs.believed.{Additions.AddsForRecords, Answered.AnswersAll, Ran.LeadTo, Ran.Runs}
-use Rattle.bank_transactions.proofs.{HeldRows.both_held, HeldSlots.at_key, Unkept.were_unkept}
+use Rattle.bank_transactions.proofs.{HeldRows.both_held, HeldSlots.at_key}
 use Rattle.bank_transactions.proofs.Running.{runs_for, runs_same}
 use Rattle.sqlite_rules.specs.Lists.{Has}
 use Rattle.sqlite_rules.proofs.ListLemmas.{all_has}
@@ -258,12 +258,11 @@ pub in_turn : (old new : Database) (b b' : Batch) (records : List (List ℕ)) (m
     → emptied (view b'.overlay) ≡ emptied (view b.overlay)
     → AllByRecursion HasOwnRow (view b'.overlay).branches
     → OfRows (λ rows. AreHeld rows (view b'.overlay)) old
-    → (HasOther old → AllByRecursion (RequestShown old) (view b'.overlay).kept)
     → ((t : Tables) (rs : List (List ℕ)) → IsFilledFrom b' t rs → HasFreeOrdinals t (length rs)
     → IsJudged o items t m rs)
     → (o.decided ≡ (view b'.overlay).decided → new ≡ old)
     → RepliesToAllStored old new m records items
-in_turn old new b b' records m o items made reads same own held shown judged idle =
+in_turn old new b b' records m o items made reads same own held judged idle =
     let its : List (Result RequestFields Bad) = map request_of records in
     let slots = view b'.overlay in
     let so = same ∙ ap emptied made.overlay in
@@ -278,7 +277,6 @@ in_turn old new b b' records m o items made reads same own held shown judged idl
       tables = t;
       stored = λ rows has.
           (has_records rows slots t its stand (held rows has) records stand.covers, (held rows has).decided);
-      shown = λ other. shown_records old slots t its stand (shown other) records stand.covers;
       free = told_free free slots;
       are = is.answers;
       stays = λ none. idle (ap (λ (u : Tables). u.decided) is.tables ∙ none);
@@ -290,7 +288,6 @@ pub answers_all : (old new : Database) (b b' : Batch) (records : List (List ℕ)
     → emptied (view b'.overlay) ≡ emptied (view b.overlay)
     → AllByRecursion HasOwnRow (view b'.overlay).branches
     → OfRows (λ rows. AreHeld rows (view b'.overlay)) old
-    → (HasOther old → AllByRecursion (RequestShown old) (view b'.overlay).kept)
     → ((t : Tables) (rs : List (List ℕ)) → IsFilledFrom b' t rs → HasFreeOrdinals t (length rs)
     → IsJudged o items t m rs)
     → (o.decided ≡ (view b'.overlay).decided → new ≡ old)
@@ -298,7 +295,7 @@ pub answers_all : (old new : Database) (b b' : Batch) (records : List (List ℕ)
     → ((o ≡ view b'.overlay) × (new ≡ old)) ⊎ Runs (AddsForRecords old records) (Leads (MayWrite o) (tables_over o)) old new
     → AnswersAll old new m records items
 unfolding in_turn
-answers_all old new b b' records m o items made reads same own held shown judged idle rising wrote =
+answers_all old new b b' records m o items made reads same own held judged idle rising wrote =
     let its : List (Result RequestFields Bad) = map request_of records in
     let slots = view b'.overlay in
     let so = same ∙ ap emptied made.overlay in
@@ -307,7 +304,7 @@ answers_all old new b b' records m o items made reads same own held shown judged
     let filled_from = filled_so free its slots so own in
     let is = judged t records (record { reads = reads ∙ made.reads; overlay = filled_from }) (told_free free slots) in
     record {
-      answers = in_turn old new b b' records m o items made reads same own held shown judged idle;
+      answers = in_turn old new b b' records m o items made reads same own held judged idle;
       wrote = elim wrote [
         | inl none ↦
             let back : tables_past_all t m records ≡ t = sym is.tables
@@ -337,44 +334,9 @@ in_turn_looked_up old new b b' records m o items made reads same shown held judg
     let slots = view b'.overlay in
     let stand = they_stand (length records) its slots (same ∙ ap emptied made.overlay) shown.branches in
     record {
-      answers = in_turn old new b b' records m o items made reads same shown.branches held (λ _. shown.kept) judged idle;
+      answers = in_turn old new b b' records m o items made reads same shown.branches held judged idle;
       shown = shown_records old slots _ its stand shown.kept records stand.covers;
     }
-
--- what is shown of the request of one of the records
-shown_of : (db : Database) (t : Tables) (records : List (List ℕ)) (bytes : List ℕ) (r : RequestFields)
-    → AllByRecursion (λ b. HasShown db t (request_of b)) records → Has records bytes → request_of bytes ≡ Ok r
-    → ShowsKept db r.teller r.number (kept_in t.requests t.references r.teller r.number)
-shown_of db t records bytes r shown has is =
-    subst (HasShown db t) is (all_has (λ b. HasShown db t (request_of b)) records bytes shown has)
-
--- the look-up of each request that is new showed none that is kept
-pub new_unkept : (db : Database) (b b' : Batch) (records : List (List ℕ)) (m : ℕ) (o : Overlay)
-    (items : List (List ℕ)) → IsMadeOf b records → reads_of b' ≡ reads_of b
-    → emptied (view b'.overlay) ≡ emptied (view b.overlay) → AreShown db (view b'.overlay)
-    → ((t : Tables) (rs : List (List ℕ)) → IsFilledFrom b' t rs → HasFreeOrdinals t (length rs)
-    → IsJudged o items t m rs)
-    → (r : RequestRow) → Has o.requests r → ShowsKept db r.teller r.number None
-new_unkept db b b' records m o items made reads same shown judged r has =
-    let its : List (Result RequestFields Bad) = map request_of records in
-    let slots = view b'.overlay in
-    let so = same ∙ ap emptied made.overlay in
-    let free = length records in
-    let t : Tables = its_tables free its slots so shown.branches in
-    let stand = they_stand free its slots so shown.branches in
-    let is = judged t records (record {
-      reads = reads ∙ made.reads;
-      overlay = filled_so free its slots so shown.branches;
-    }) (told_free free slots) in
-    let unkept = were_unkept t (tables_over o t) records m o.requests is.adds.requests refl is.tables r has in
-    let f = unkept.2 in
-    let at = shown_of db t records unkept.0 f
-    (shown_records db slots t its stand shown.kept records stand.covers) unkept.1 unkept.3 in
-    let none : kept_in t.requests t.references f.teller f.number ≡ None =
-    ap (option_map (kept_of_row t.references)) unkept.4.none in
-    subst (λ (n : ℕ). ShowsKept db n r.number None) (sym unkept.4.teller)
-    (subst (λ (n : ℕ). ShowsKept db f.teller n None) (sym unkept.4.number)
-    (subst (ShowsKept db f.teller f.number) none at))
 
 -- every branch that a batch asks for has its slot
 pub homes_made : (b : Batch) (records : List (List ℕ)) → IsMadeOf b records → HasHomes (view b.overlay)

@@ -59,7 +59,7 @@ module _ (Made : List (List ℕ) → Type 0) (moment : ℕ) {S : Type 0} (g : Gh
       let first : Shows (state g begun).now t = rw is shows in
       let it = idle before records made t first so none in
       let answers = ends.answers ended in
-      let left = answers.1 t (subst (λ (db : Database). Shows db t) (sym it.stays.now) first) in
+      let left = answers.2 t (subst (λ (db : Database). Shows db t) (sym it.stays.now) first) in
       subst (λ (h : Held S). KeepsOnly (state g old) (state g h) t moment records)
       (same records made) (record {
         leads = it.leads;

@@ -31,7 +31,6 @@ pub mod JudgedSlots
 pub mod OneRequest
 pub mod Idle
 pub mod Added
-pub mod Unkept
 pub mod OwnKeys
 pub mod NewRequests
 pub mod Tries

@@ -11,8 +11,8 @@ use Rattle.posting_rules.specs.believed.Kept.{KeptFields}
 use Rattle.posting_rules.specs.believed.{LookUps.found_in, Tables.Tables}
 use Rattle.posting_rules.specs.declared.judgments.{Found.Found, Verdict.TheVariants.Again, Verdict.TheVariants.Unkept}
 use Rattle.store_rows.specs.believed.Rules.{HoldsBank, StoredRows}
-use Rattle.bank_transactions.specs.Batches.{RepliesLookedUp}
-use Rattle.bank_transactions.specs.believed.Stored.{HasRead, HasShown, HasStored, IsStoredFound, RepliesToStored}
+use Rattle.bank_transactions.specs.Batches.{HasShown, RepliesLookedUp}
+use Rattle.bank_transactions.specs.believed.Stored.{HasRead, HasStored, IsStoredFound, RepliesToStored}
 
 -- a request that is kept changes nothing
 module _ (t : Tables) (m : ℕ) (r : RequestFields) where

@@ -41,7 +41,7 @@ completes : {X : Type 0} (old last new : State) (after : Tables) (wanted : X)
     → Completes old new after wanted result
 completes old last new after wanted (Ok x) (Ok y) given answers ends =
     let same : y ≡ x = (let is = given in cc) in
-    let committed = ends.1 after answers.1 in
+    let committed = ends.2 after answers.1 in
     (same ∙ answers.0, committed.0, committed.1)
 completes old last new after wanted (Ok x) (Err (Sqlite e)) given answers ends = tt
 completes old last new after wanted (Ok x) (Err (Damaged rule)) given answers ends = absurd ends
@@ -88,6 +88,14 @@ spared_now : {X : Type 0} (old last new : State) (answer result : Result X Table
 spared_now old last new (Ok x) (Ok y) given leaves ends = subst (SparesOthers old.now) (sym ends.0) leaves.spares
 spared_now old last new (Err e) (Ok y) given leaves ends = absurd (let is = given in cc)
 spared_now old last new answer (Err e) given leaves ends = tt
+
+-- the store was open, as it committed
+was_open : {X : Type 0} (old last new : State) (answer result : Result X TableFault)
+    → IfOk result (λ x. answer ≡ Ok x) → CommitsNothing old last answer → EndsBy last new answer result
+    → OnOk result (IsTrue old.is_open)
+was_open old last new (Ok x) (Ok y) given leaves ends = leaves.opened ends.1
+was_open old last new (Err e) (Ok y) given leaves ends = absurd (let is = given in cc)
+was_open old last new answer (Err e) given leaves ends = tt
 
 -- and was made of what there was
 wrote_by : {X : Type 0} (Adds : Additions) (old last new : State) (answer result : Result X TableFault)
@@ -175,6 +183,8 @@ module _ {S X : Type 0} {Met : Damage S} {Adds : Additions} {So : Tables → Typ
     theirs_so : SparesTheirs g old new result
     theirs_so = record {
       now = λ clean. spared_now (state g start) (state g last.conn.now) (state g new) answer result ends.given
+          (kept_so (clean_before clean)).0 (ends.answers clean);
+      opened = λ clean. was_open (state g start) (state g last.conn.now) (state g new) answer result ends.given
           (kept_so (clean_before clean)).0 (ends.answers clean);
       left = survives_begin g old (state g new) (LeavesOthers (state g old).now)
           (subst (λ (h : Held S). Survives (state g h) (state g new) (LeavesOthers (state g old).now)) is

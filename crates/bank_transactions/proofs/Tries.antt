@@ -17,20 +17,16 @@ use Rattle.store_rows.specs.believed.Failures.{Additions, Committing}
 use Rattle.store_rows.specs.believed.{Made.WritesOnly, Rules.IsBroken, Sparing.SparesOthers, View.Shows}
 use Rattle.store_rows.specs.declared.fault.TableFault.{TableFault}
 use Rattle.store_rows.specs.declared.fault.TableFault.TheVariants.{Sqlite, Damaged}
-use Rattle.bank_transactions.specs.believed.{Additions.AddsForRecords, Additions.FollowsCount, Batches.DecidesNone}
-use Rattle.bank_transactions.specs.Additions.{AddsTried, adds_so}
+use Rattle.bank_transactions.specs.believed.{Additions.AddsForRecords, Batches.DecidesNone}
 use Rattle.bank_transactions.specs.{Batches.KeepsOnly, believed.Doing.LeavesOthers}
-use Rattle.store_rows.specs.Definitions.{IsOtherTable}
 use Rattle.bank_transactions.specs.{believed.Answered.AnswersAll, believed.Answered.KeepsWhole, declared.first_try.Tried.Tried}
-use Rattle.bank_transactions.specs.believed.Stored.{HasOther, ShowsKept}
-use Rattle.bank_transactions.proofs.OwnRows.{none_other}
 use Rattle.bank_transactions.specs.believed.Causes.{IsBefore}
 use Rattle.bank_transactions.specs.Doing.{Acts, Completes, Ends, MayLeaveAfter, Transacts, Undoes}
 use Rattle.bank_transactions.specs.Tries.{IsAsBefore, answer_of, batch_of, replies_of}
 use Rattle.bank_transactions.specs.Undone.{UndoesFaults}
 use Rattle.bank_transactions.specs.declared.first_try.Tried.TheVariants.{Answered, Again}
 use Rattle.bank_transactions.proofs.Blamed.{blames_since, comes, same_moment, then_moment}
-use Rattle.bank_transactions.proofs.Transacted.{rolled, transacts_also, transacts_records, undoes, whole_after}
+use Rattle.bank_transactions.proofs.Transacted.{rolled, transacts_records, undoes, whole_after}
 
 undoes_again : {X : Type 0} (old mid new : State) (r : Result X TableFault) → IsTrue old.is_open
     → mid.now ≡ old.now → Undoes mid new r → Undoes old new r
@@ -79,6 +75,7 @@ module _ {S : Type 0} (g : Ghosts S) (old mid new : Held S) (before : IsAsBefore
       spares = record {
         now = λ clean. subst (λ (db : Database). OnOk r (SparesOthers db (state g new).now)) (same_rows clean)
             (does.spares.now clean);
+        opened = λ clean. on_ok_weaker r (λ _. was_open clean) (does.spares.opened clean);
         left = survives_then (state g old) (state g mid) (state g new) (λ _. ⊥)
             (LeavesOthers (state g mid).now) (LeavesOthers (state g old).now)
             (λ clean left none. absurd none)
@@ -190,21 +187,11 @@ module _ {S : Type 0} (g : Ghosts S) (old : Held S) (begun last : Transaction S)
       after = same_moment (state g new);
     };
     mode = mode;
-    spares = record { now = λ clean. tt; left = quiet_so _ };
+    spares = record { now = λ clean. tt; opened = λ clean. tt; left = quiet_so _ };
     wrote = λ clean. tt;
   }
 
 -- ---- a try that has answered
-
--- what it puts in is what records may, since the tables are a bank's
-pub tried_own : (db : Database) (records : List (List ℕ)) → IsOtherTable db.schema None → (text : List ℕ) (values : Row)
-    → AddsTried db records text values → AddsForRecords db records text values
-tried_own db records as_made text values (inl it) = inl it
-tried_own db records as_made text values (inr (inl it)) = inr (inl (adds_so _ _
-    (λ r. FollowsCount db (length records) r.ordinal × Unit {0})
-    (λ r. FollowsCount db (length records) r.ordinal × (HasOther db → ShowsKept db r.teller r.number None))
-    (λ r so. (so.0, λ other. absurd (none_other db as_made other))) text values it))
-tried_own db records as_made text values (inr (inr it)) = inr (inr it)
 
 -- what is so of its replies is so where it answered
 if_answered : {Said : List (List ℕ) → Type 0} (P : Type 0) (tried : Result Tried TableFault) → batch_of tried ≡ None
@@ -280,19 +267,18 @@ module _ {S : Type 0} (g : Ghosts S) (Made : List (List ℕ) → Type 0) (moment
 
   abbrev ActsFor : Result (List (List ℕ)) TableFault → Type 0
   ActsFor answer = (records : List (List ℕ)) → Made records
-      → Acts g (AddsTried (state g begun.conn.now).now records) begun last (HasRoomFor (length records))
+      → Acts g (AddsForRecords (state g begun.conn.now).now records) begun last (HasRoomFor (length records))
       (λ tables. tables_past_all tables moment records) (λ tables. replies_past_all tables moment records) answer
 
-  pub tried_says : IsOtherTable (state g old).now.schema None → batch_of tried ≡ None
+  pub tried_says : batch_of tried ≡ None
       → IfSome (answer_of tried) ActsFor
       → IfSome (answer_of result) (λ answer. (records : List (List ℕ)) → Made records
       → Transacts g (AddsForRecords (state g old).now records) old new (HasRoomFor (length records))
       (λ tables. tables_past_all tables moment records) (λ tables. replies_past_all tables moment records) answer)
-  tried_says as_made none it = ends_tried g last.conn.now end {P = ActsFor} tried result none ends
+  tried_says none it = ends_tried g last.conn.now end {P = ActsFor} tried result none ends
       (λ answer answered acts its records made.
-      transacts_also (tried_own (state g old).now records as_made)
-      (transacts_records (λ (db : Database). AddsTried db records) g old begun last end new is settled
-      (acts records made) its (same records made))) it
+      transacts_records (λ (db : Database). AddsForRecords db records) g old begun last end new is settled
+      (acts records made) its (same records made)) it
 
   pub tried_undone : batch_of tried ≡ None → IfSome (answer_of tried) ActsFor
       → IfSome (answer_of result) (λ answer. (records : List (List ℕ)) → Made records → UndoesFaults g old new answer)
@@ -308,29 +294,23 @@ module _ {S : Type 0} (g : Ghosts S) (Made : List (List ℕ) → Type 0) (moment
   tried_busy = of_tried tried result ends.given (λ replies busy clean records made t shows so none.
       busy (was_clean_at records made clean) (rw is refl) records made t (rw is shows) so none)
 
-  pub tried_whole : (records : List (List ℕ)) → Made records → IsOtherTable (state g old).now.schema None
-      → batch_of tried ≡ None → Survives (state g begun.conn.now) (state g last.conn.now) (λ _. ⊥)
+  pub tried_whole : (records : List (List ℕ)) → Made records → batch_of tried ≡ None
+      → Survives (state g begun.conn.now) (state g last.conn.now) (λ _. ⊥)
       → IfSome (replies_of tried) (λ replies. HasCleanDisk (state g last.conn.now)
-      → IsTrue (state g begun.conn.now).in_transaction → IsOtherTable (state g begun.conn.now).now.schema None
-      → (records : List (List ℕ)) → Made records
+      → IsTrue (state g begun.conn.now).in_transaction → (records : List (List ℕ)) → Made records
       → AnswersAll (state g begun.conn.now).now (state g last.conn.now).now moment records replies)
       → Survives (state g old) (state g new) (KeepsWhole (state g old).now moment records)
-  tried_whole records made as_made none quiet it = whole_after g
+  tried_whole records made none quiet it = whole_after g
       (λ old after. (replies : List (List ℕ)) × AnswersAll old after moment records replies) old begun.conn.now
       last.conn.now end new tried is quiet ends.survives (same records made)
-      (if_answered _ tried none (λ replies stored clean live. (
-        replies,
-        stored clean live (subst (λ (h : Held S). IsOtherTable (state g h).now.schema None) (sym is) as_made) records made,
-      )) it)
+      (if_answered _ tried none (λ replies stored clean live. (replies, stored clean live records made)) it)
 
-  pub tried_stored : IsOtherTable (state g old).now.schema None
-      → IfSome (replies_of tried) (λ replies. HasCleanDisk (state g last.conn.now)
-      → IsTrue (state g begun.conn.now).in_transaction → IsOtherTable (state g begun.conn.now).now.schema None
-      → (records : List (List ℕ)) → Made records
+  pub tried_stored : IfSome (replies_of tried) (λ replies. HasCleanDisk (state g last.conn.now)
+      → IsTrue (state g begun.conn.now).in_transaction → (records : List (List ℕ)) → Made records
       → AnswersAll (state g begun.conn.now).now (state g last.conn.now).now moment records replies)
       → IfSome (replies_of result) (λ replies. HasCleanDisk (state g new) → (records : List (List ℕ)) → Made records
       → AnswersAll (state g old).now (state g new).now moment records replies)
-  tried_stored as_made = of_answered tried result ends (λ replies stored shown clean records made.
+  tried_stored = of_answered tried result ends (λ replies stored shown clean records made.
       let ended : HasCleanDisk (state g end) =
       subst (λ (h : Held S). HasCleanDisk (state g h)) (sym (same records made)) clean in
       subst (λ (h : Held S). AnswersAll (state g old).now (state g h).now moment records replies)
@@ -338,5 +318,4 @@ module _ {S : Type 0} (g : Ghosts S) (Made : List (List ℕ) → Type 0) (moment
       (subst (λ (db : Database). AnswersAll (state g old).now db moment records replies) (sym (shown ended))
       (subst (λ (db : Database). AnswersAll db (state g last.conn.now).now moment records replies)
       (ap (λ (h : Held S). (state g h).now) is)
-      (stored (was_clean_at records made clean) (rw is refl)
-      (subst (λ (h : Held S). IsOtherTable (state g h).now.schema None) (sym is) as_made) records made))))
+      (stored (was_clean_at records made clean) (rw is refl) records made))))

@@ -1,6 +1,5 @@
 -- The rows that parts of a call put in, and those of their parts.
-use Rattle.std.specs.Prelude.{◌⊎◌, ℕ, List, ⊤}
-use Rattle.sqlite.specs.Effect.{Database}
+use Rattle.std.specs.Prelude.{◌⊎◌, ℕ, List}
 use Rattle.sqlite.specs.Order.{Row}
 use Rattle.sqlite_rules.specs.Lists.{Has}
 use Rattle.sqlite_trees.proofs.ListLemmas.{all_weaker}
@@ -9,7 +8,7 @@ use Rattle.sql_meanings.specs.believed.Entries.{Entry}
 use Rattle.store_rows.specs.believed.Failures.{Additions}
 use Rattle.posting_batch.specs.Slots.{account_slot_key, branch_slot_key, teller_slot_key}
 use Rattle.store_rows.specs.believed.Inserts.{account_update, branch_update, meta_key, meta_update, teller_update}
-use Rattle.bank_transactions.specs.believed.Additions.{AddsEach, AddsPostings, AddsReferences, AddsRequests, AddsWhere}
+use Rattle.bank_transactions.specs.believed.Additions.{AddsEach, AddsPostings, AddsReferences, AddsRequests}
 use Rattle.bank_transactions.specs.believed.Additions.{WritesUnder}
 
 -- by this text a number is written under the key of one of the slots
@@ -28,10 +27,6 @@ abbrev pub AddsNew : Overlay → Additions
 AddsNew o text values = AddsPostings (Has o.history) text values
     ⊎ (AddsRequests (Has o.requests) text values
     ⊎ (AddsReferences (Has o.references) text values ⊎ ChangesRows o text values))
-
--- what records put in that are tried without look-ups
-abbrev pub AddsTried : Database → List (List ℕ) → Additions
-AddsTried db records = AddsWhere db records (λ r. ⊤)
 
 -- some of the changes put in no other rows than all of them
 pub record AddsAlike {A : Type 0} (Adds : List A → Additions) : Type 0 where

@@ -122,7 +122,7 @@ MayCommit last (Err fault) left = ⊥
 
 -- an answer is committed, and a crash leaves its tables; or its commit fails; after a fault all is rolled back
 abbrev pub EndsBy : {X : Type 0} → State → State → Result X TableFault → Result X TableFault → Type 0
-EndsBy last new (Ok x) (Ok y) = (new.now ≡ last.now)
+EndsBy last new (Ok x) (Ok y) = (new.now ≡ last.now) × IsTrue last.is_open
     × ((tables : Tables) → Shows last.now tables
     → Shows new.now tables × ((left : Trees) → new.may_leave left → ShowsTrees left tables))
 EndsBy last new (Ok x) (Err (Sqlite e)) = FailsToCommit last new e
@@ -157,11 +157,12 @@ abbrev pub MayLeaveAfter : State → (Tables → Type 0) → (Tables → Tables)
 MayLeaveAfter old So after left = (tables : Tables) → Shows old.now tables → So tables
     → ShowsTrees left (after tables)
 
--- Whatever rows the file holds: after `Ok` the tables of other products are as they were, and a crash leaves what
--- it could leave before, or them as they were.
+-- Whatever rows the file holds: after `Ok` the tables of other products are as they were, and the store was open. A
+-- crash leaves what it could leave before, or them as they were.
 pub record SparesTheirs {S X : Type 0} (g : Ghosts S) (old new : Held S) (result : Result X TableFault)
     : Type 0 where
   pub now : HasCleanDisk (state g new) → OnOk result (SparesOthers (state g old).now (state g new).now)
+  pub opened : HasCleanDisk (state g new) → OnOk result (IsTrue (state g old).is_open)
   pub left : Survives (state g old) (state g new) (LeavesOthers (state g old).now)
 
 -- Tables that are so become these, and the answer is this one, or the rows that they have break the rule that is

@@ -39,7 +39,6 @@ ghost use Rattle.sqlite.specs.Held.{state};
 ghost use Rattle.posting_rules.specs.believed.Changes.{tables_past_all, replies_past_all};
 ghost use Rattle.posting_rules.specs.believed.Tables.{Tables};
 ghost use Rattle.posting_batch.specs.View.{reads_of, IsMadeOf};
-ghost use Rattle.store_rows.specs.Definitions.{IsOtherTable};
 ghost use Rattle.store_rows.specs.believed.View.{Shows};
 ghost use Rattle.bank_transactions.specs.believed.Additions.{AddsForRecords};
 ghost use Rattle.bank_transactions.specs.Doing.{Acts, Transacts};
@@ -56,7 +55,7 @@ use crate::{Memory, begin, finish};
 use message_records::Moment;
 use posting_batch::{Batch, Replies};
 use sqlite::{Alter, Connection, Transaction};
-use store_rows::{TableFault, other_table};
+use store_rows::TableFault;
 
 /// Answers the records that a batch is made of, in order. A batch in which nothing is decided writes nothing.
 pub fn answer_batch<S: Alter>(
@@ -144,20 +143,6 @@ pub fn post_looked_up<S: Alter>(
     finish(tx, replies)
 }
 
-// Whether a batch is tried before its requests are looked up: only where the tables are defined as they are made,
-// so that an INSERT tells of a request that is kept. A single request is looked up, unless it is likely new.
-fn is_tried<S: Alter>(conn: &Connection<S>, batch: &Batch, is_new: bool) -> bool
-    ensures { IsTrue result → IsOtherTable (state S.Store conn.now).now.schema None }
-{
-    if batch.overlay.kept.len() <= 1 && !is_new {
-        return false;
-    }
-    match other_table(conn) {
-        Some(_) => false,
-        None => true,
-    }
-}
-
 /// Answers the records that a batch is made of, in order. They stand together or not at all. Where none of
 /// them is decided, the tables are as they were, and a crash leaves nothing else.
 pub fn post_all<S: Alter>(
@@ -192,7 +177,8 @@ pub fn post_all<S: Alter>(
     ensures remembers { OnOk result (∥ Remembers S.Store conn.new memory.new ∥₁) }
 {
     let is_new = memory.note_requests(&batch.overlay.kept);
-    if !is_tried(conn, &batch, is_new) {
+    // A single request is looked up, unless it is likely new.
+    if batch.overlay.kept.len() <= 1 && !is_new {
         return post_looked_up(conn, memory, moment, batch);
     }
     match try_new(conn, memory, moment, batch, is_new)? {

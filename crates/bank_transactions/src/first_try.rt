@@ -9,9 +9,7 @@ ghost use Rattle.posting_rules.specs.believed.Tables.{Tables};
 ghost use Rattle.posting_batch.specs.Batch.{has_gap};
 ghost use Rattle.posting_batch.specs.View.{reads_of, view, IsMadeOf};
 ghost use Rattle.sql_meanings.specs.Calls.{Inside, Says};
-ghost use Rattle.store_rows.specs.Definitions.{IsOtherTable};
 ghost use Rattle.store_rows.specs.believed.View.{Shows};
-ghost use Rattle.bank_transactions.specs.Additions.{AddsTried};
 ghost use Rattle.bank_transactions.specs.believed.Additions.{AddsForRecords};
 ghost use Rattle.bank_transactions.specs.believed.Batches.{DecidesNone, HasRoomFor};
 ghost use Rattle.bank_transactions.specs.Doing.{Acts, Reads, Transacts};
@@ -95,7 +93,7 @@ fn answer_unkept<S: Alter>(
 ) -> Result<Tried, TableFault>
     requires { ∥ Remembers S.Store tx.old.conn.now memory.old ∥₁ }
     ensures says { IfSome (answer_of result) (λ answer. (records : List (List ℕ)) → IsMadeOf batch records
-        → Acts S.Store (AddsTried (state S.Store tx.old.conn.now).now records) tx.old tx.new
+        → Acts S.Store (AddsForRecords (state S.Store tx.old.conn.now).now records) tx.old tx.new
         (HasRoomFor (length records)) (λ tables. tables_past_all tables moment records)
         (λ tables. replies_past_all tables moment records) answer) }
     ensures count { IfSome (replies_of result) (λ replies. length replies ≡ length (reads_of batch)) }
@@ -105,7 +103,6 @@ fn answer_unkept<S: Alter>(
         → DecidesNone tables moment records → ⊥) }
     ensures stored { IfSome (replies_of result) (λ replies. HasCleanDisk (state S.Store tx.new.conn.now)
         → IsTrue (state S.Store tx.old.conn.now).in_transaction
-        → IsOtherTable (state S.Store tx.old.conn.now).now.schema None
         → (records : List (List ℕ)) → IsMadeOf batch records
         → AnswersAll (state S.Store tx.old.conn.now).now (state S.Store tx.new.conn.now).now moment records
         replies) }
@@ -140,7 +137,7 @@ fn answer_new<S: Alter>(
 ) -> Result<Tried, TableFault>
     requires { ∥ Remembers S.Store tx.old.conn.now memory.old ∥₁ }
     ensures says { IfSome (answer_of result) (λ answer. (records : List (List ℕ)) → IsMadeOf batch records
-        → Acts S.Store (AddsTried (state S.Store tx.old.conn.now).now records) tx.old tx.new
+        → Acts S.Store (AddsForRecords (state S.Store tx.old.conn.now).now records) tx.old tx.new
         (HasRoomFor (length records)) (λ tables. tables_past_all tables moment records)
         (λ tables. replies_past_all tables moment records) answer) }
     ensures count { IfSome (replies_of result) (λ replies. length replies ≡ length (reads_of batch)) }
@@ -150,7 +147,6 @@ fn answer_new<S: Alter>(
         → DecidesNone tables moment records → ⊥) }
     ensures stored { IfSome (replies_of result) (λ replies. HasCleanDisk (state S.Store tx.new.conn.now)
         → IsTrue (state S.Store tx.old.conn.now).in_transaction
-        → IsOtherTable (state S.Store tx.old.conn.now).now.schema None
         → (records : List (List ℕ)) → IsMadeOf batch records
         → AnswersAll (state S.Store tx.old.conn.now).now (state S.Store tx.new.conn.now).now moment records
         replies) }
@@ -166,7 +162,7 @@ fn answer_new<S: Alter>(
 }
 
 /// Tries a batch as if none of its requests were kept. Its first one is looked up, unless it is likely new. Where one may
-/// be kept, nothing was done. That an INSERT tells of it rests on the tables as they are made.
+/// be kept, nothing was done. That an INSERT tells of it rests on the UNIQUE of `request`.
 pub(crate) fn try_new<S: Alter>(
     conn: &mut Connection<S>,
     memory: &mut Memory,
@@ -176,7 +172,6 @@ pub(crate) fn try_new<S: Alter>(
 ) -> Result<Tried, TableFault>
     requires mode { conn.old.in_transaction ≡ false }
     requires remembers { ∥ Remembers S.Store conn.old memory.old ∥₁ }
-    requires made { IsOtherTable (state S.Store conn.old).now.schema None }
     ensures says { IfSome (answer_of result) (λ answer. (records : List (List ℕ)) → IsMadeOf batch records
         → Transacts S.Store (AddsForRecords (state S.Store conn.old).now records) conn.old conn.new
         (HasRoomFor (length records)) (λ tables. tables_past_all tables moment records)

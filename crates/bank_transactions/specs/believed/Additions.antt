@@ -25,7 +25,7 @@ use Rattle.store_rows.specs.believed.Inserts.{account_insert, branch_insert, eig
 use Rattle.store_rows.specs.believed.Inserts.{eight_requests_insert, floor_insert, posting_insert}
 use Rattle.store_rows.specs.believed.Inserts.{reference_insert, request_insert, teller_insert}
 use Rattle.store_rows.specs.believed.Inserts.{account_update, branch_update, meta_key, meta_update, teller_update}
-use Rattle.bank_transactions.specs.believed.Stored.{HasOther, HoldsDecided, ShowsKept}
+use Rattle.bank_transactions.specs.believed.Stored.{HoldsDecided}
 use Rattle.bank_transactions.specs.declared.new_branch.NewRows.{NewRows}
 use Rattle.bank_transactions.specs.declared.new_branch.NewRows.TheVariants.{Tellers, Accounts}
 
@@ -77,17 +77,13 @@ abbrev pub ChangesFor : List (List ℕ) → Additions
 ChangesFor records text values =
     AskFor records (λ r. WritesFor r text values) ⊎ WritesUnder meta_update meta_key text values
 
--- records: postings, requests that are so and references, each under such an ordinal, and what a posting changes
-abbrev pub AddsWhere : Database → List (List ℕ) → (RequestRow → Type 0) → Additions
-AddsWhere db records IsSo text values =
+-- records: postings, requests and references, each under such an ordinal, and what a posting changes
+abbrev pub AddsForRecords : Database → List (List ℕ) → Additions
+AddsForRecords db records text values =
     AddsPostings (λ r. FollowsCount db (length records) r.ordinal) text values
-    ⊎ (AddsRequests (λ r. FollowsCount db (length records) r.ordinal × IsSo r) text values
+    ⊎ (AddsRequests (λ r. FollowsCount db (length records) r.ordinal) text values
     ⊎ (AddsReferences (λ r. FollowsCount db (length records) r.ordinal) text values
     ⊎ ChangesFor records text values))
-
--- on tables that are no bank's the look-up of such a request showed none that is kept
-abbrev pub AddsForRecords : Database → List (List ℕ) → Additions
-AddsForRecords db records = AddsWhere db records (λ r. HasOther db → ShowsKept db r.teller r.number None)
 
 -- ---- the rows of a branch
 

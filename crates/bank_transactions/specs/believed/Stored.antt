@@ -23,8 +23,6 @@ use Rattle.posting_rules.specs.declared.counter.Opening.TheVariants.{Opened}
 use Rattle.posting_rules.specs.declared.rows.RequestRow.{RequestRow}
 use Rattle.posting_rules.specs.declared.rows.ReferenceRow.{ReferenceRow}
 use Rattle.sql_meanings.specs.believed.Entries.{Entry, has_two}
-use Rattle.sql_meanings.specs.believed.Tables.{Defines}
-use Rattle.store_rows.specs.believed.BankTables.{bank_tables}
 use Rattle.store_rows.specs.believed.Columns.{meta_in}
 use Rattle.store_rows.specs.believed.Readings.{read_balance, read_branch, read_floor, read_reference, read_request}
 use Rattle.store_rows.specs.believed.Rules.{AccountFits, IsAbove, OfRows, StoredRows, TellerFits, branch_under}
@@ -166,24 +164,13 @@ abbrev pub HasRead : StoredRows → Tables → Result RequestFields Bad → Type
 HasRead rows t (Err fault) = ⊤
 HasRead rows t (Ok r) = HasStored rows t r
 
--- what was read is no request, or the tables have what is shown to be kept of it
-abbrev pub HasShown : Database → Tables → Result RequestFields Bad → Type 0
-HasShown db t (Err fault) = ⊤
-HasShown db t (Ok r) = ShowsKept db r.teller r.number (kept_in t.requests t.references r.teller r.number)
-
--- one of a bank's tables isn't there as its CREATE text makes it
-abbrev pub HasOther : Database → Type 0
-HasOther db = AllByRecursion (Defines db.schema) bank_tables → ⊥
-
 -- The replies are those to the records one after another, each on what the ones before it left, in tables that
--- had what the rows hold: under the keys of each request, and of how many are decided. Where those are no bank's
--- tables, they had what is shown to be kept. The ordinals that follow were free there. Where none of the records is
--- decided there, all is as it was.
+-- had what the rows hold: under the keys of each request, and of how many are decided. The ordinals that follow were
+-- free there. Where none of the records is decided there, all is as it was.
 pub record RepliesToAllStored (old new : Database) (moment : ℕ) (records replies : List (List ℕ)) : Type 0 where
   pub tables : Tables
   pub stored : OfRows (λ rows. AllByRecursion (λ bytes. HasRead rows tables (request_of bytes)) records
       × HoldsDecided rows tables.decided) old
-  pub shown : HasOther old → AllByRecursion (λ bytes. HasShown old tables (request_of bytes)) records
   pub free : HasFreeOrdinals tables (length records)
   pub are : replies ≡ replies_past_all tables moment records
   pub stays : DecidesNone tables moment records → new ≡ old

@@ -4,8 +4,8 @@ use Rattle.std.proofs.Math.Logic.{∥∥₁_map}
 use Rattle.sqlite.specs.{State.HasCleanDisk, Held.state}
 use Rattle.posting_batch.specs.View.{view}
 use Rattle.bank_transactions.proofs.Chained.{acts_read, does_adds, still_in}
-use Rattle.bank_transactions.proofs.{Added.adds_looked_up, HeldBatch.homes_made, HeldBatch.in_turn_looked_up}
-use Rattle.bank_transactions.proofs.{HeldBatch.answers_all, HeldBatch.new_unkept, Running.ran_since}
+use Rattle.bank_transactions.proofs.{Added.adds_records, HeldBatch.homes_made, HeldBatch.in_turn_looked_up}
+use Rattle.bank_transactions.proofs.{HeldBatch.answers_all, Running.ran_since}
 use Rattle.bank_transactions.proofs.{LookUps.does_fail, LookUps.does_look, Remembered.keeps_followed}
 use Rattle.bank_transactions.proofs.JudgedSlots.{answered_idle, answered_not, answered_written, counts_none}
 use Rattle.bank_transactions.proofs.JudgedSlots.{fills, judging_all}
@@ -43,11 +43,9 @@ returns-in_err-write g c =
           answered_not so (does_look (fills (length records) (view c.fill.new.overlay) (view c.args.batch.overlay)
           fill.says fill.same (λ clean. fill.stored clean (homes_made c.args.batch records made)))) (does_adds (λ clean.
           let before = clean_at failed.says.survives clean in
-          adds_looked_up c.args.batch records (view c.fill.new.overlay) (view c.judge-judged.result.overlay) _ made
+          adds_records c.args.batch records (view c.fill.new.overlay) (view c.judge-judged.result.overlay) _ made
           fill.same
-          (λ rows has. (fill.stored before (homes_made c.args.batch records made) rows has).decided) j.next j.again.keys
-          (new_unkept _ c.args.batch _ records c.args.moment (view c.judge-judged.result.overlay)
-          c.judge-judged.result.replies.items made refl fill.same (fill.shown before) j.judged))
+          (λ rows has. (fill.stored before (homes_made c.args.batch records made) rows has).decided) j.next j.again.keys)
           failed);
       count = tt;
       idle = tt;
@@ -70,17 +68,15 @@ returns-clause-wrote g c clean live records made =
     let stays = (fill.says.says.leaves before).0 in
     let held = fill.stored before (homes_made c.args.batch records made) in
     rw c.into_replies.ensures (answers_all _ _ c.args.batch _ records c.args.moment o c.judge-judged.result.replies.items
-    made refl fill.same (fill.shown before).branches held (λ _. (fill.shown before).kept) j.judged
+    made refl fill.same (fill.shown before).branches held j.judged
     (λ none. elim c.if-judged-before.branch [
       | then-judged-before+in_ok-write w ↦ absurd (w.if-judged-before.true none)
       | else-judged-before w ↦ rw w.tx-is stays.now
     ]) j.rising
     (elim c.if-judged-before.branch [
       | then-judged-before+in_ok-write w ↦ inr (rw w.tx-is (ran_since stays.now
-          (adds_looked_up c.args.batch records (view c.fill.new.overlay) o _ made fill.same
-          (λ rows has. (held rows has).decided) j.next j.again.keys
-          (new_unkept _ c.args.batch _ records c.args.moment o c.judge-judged.result.replies.items made refl fill.same
-          (fill.shown before) j.judged))
+          (adds_records c.args.batch records (view c.fill.new.overlay) o _ made fill.same
+          (λ rows has. (held rows has).decided) j.next j.again.keys)
           (w.in_ok-write.ensures.ran (rw w.tx-is at clean) (still_in _ _ stays.goes_on live))))
       | else-judged-before w ↦ inl (j.idle (omega (arith, w.if-judged-before.false)), rw w.tx-is stays.now)
     ]))
@@ -98,13 +94,10 @@ returns-clause-says g c records made =
       | then-judged-before+in_ok-write w ↦
           rw w.tx-is (answered_written so (does_look reads) (does_adds (λ clean.
           let before = clean_at w.in_ok-write.ensures.does.says.survives clean in
-          adds_looked_up c.args.batch records (view c.fill.new.overlay) (view c.judge-judged.result.overlay) _
+          adds_records c.args.batch records (view c.fill.new.overlay) (view c.judge-judged.result.overlay) _
           made c.in_ok-fill.ensures.same
           (λ rows has. (c.in_ok-fill.ensures.stored before (homes_made c.args.batch records made) rows has).decided)
-          j.next j.again.keys
-          (new_unkept _ c.args.batch _ records c.args.moment (view c.judge-judged.result.overlay)
-          c.judge-judged.result.replies.items made refl c.in_ok-fill.ensures.same (c.in_ok-fill.ensures.shown before)
-          j.judged))
+          j.next j.again.keys)
           w.in_ok-write.ensures.does))
       | else-judged-before w ↦
           rw w.tx-is (answered_idle so (does_look reads) (omega (arith, w.if-judged-before.false)))

@@ -27,8 +27,8 @@ post_looked_up-requires-in-Again-clause-remembers g c =
 pub post_looked_up-requires-in-Again-clause-mode : goal.post_looked_up-requires-in-Again-clause-mode
 post_looked_up-requires-in-Again-clause-mode g c = (rw c.in-Again.is at c.in_ok-replies.ensures.again).1.mode
 
-pub returns-then-not-is_tried : goal.returns-then-not-is_tried
-returns-then-not-is_tried g c =
+pub returns-then-not-is_new : goal.returns-then-not-is_new
+returns-then-not-is_new g c =
     let it = c.post_looked_up.ensures in record {
       says = it.says;
       count = it.count;

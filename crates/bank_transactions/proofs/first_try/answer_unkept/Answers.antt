@@ -4,11 +4,11 @@ use Rattle.sqlite.specs.Held.{state}
 use Rattle.smallvec.specs.SmallVec.{SmallVec}
 use Rattle.posting_rules.specs.believed.Tables.{Tables}
 use Rattle.posting_batch.specs.{Overlay.Overlay, View.view, declared.slots.RequestSlot.RequestSlot}
-use Rattle.bank_transactions.proofs.{Added.adds_tried, JudgedSlots.judging_all, ShownSlots.shown_filled}
+use Rattle.bank_transactions.proofs.{Added.adds_records, JudgedSlots.judging_all, ShownSlots.shown_filled}
 use Rattle.bank_transactions.proofs.{Chained.acts_read, Chained.does_adds, HeldBatch.homes_made}
-use Rattle.bank_transactions.proofs.{OwnRows.none_other, Remembered.followed_next, Remembered.keeps_followed}
+use Rattle.bank_transactions.proofs.{Remembered.followed_next, Remembered.keeps_followed}
 use Rattle.bank_transactions.proofs.{Remembered.recalls_read, Remembered.recalls_then}
-use Rattle.bank_transactions.proofs.{Tries.tried_own, Chained.still_in, Running.ran_since, Together.all_ran, Together.requests_ran}
+use Rattle.bank_transactions.proofs.{Chained.still_in, Running.ran_since, Together.all_ran, Together.requests_ran}
 use Rattle.bank_transactions.proofs.{HeldBatch.answers_all, LookUps.does_fail, LookUps.does_look, NewBatch.all_held}
 use Rattle.bank_transactions.proofs.{NewBatch.answered_new, NewBatch.decided_all, NewBatch.is_again, NewBatch.refused_new}
 use Rattle.bank_transactions.proofs.{NewBatch.blind, NewBatch.quiet, NewBatch.unanswered_new, Together.all_written}
@@ -76,7 +76,7 @@ returns-in-Err-2 g c =
       says = λ records made.
           refused_new c.in-Err.fault (search rules) (does_look fk.says) (does_adds (λ clean.
           let first = clean_at puts.says.survives clean in
-          adds_tried c.args.batch records (view c.fill_known.new.overlay) (view c.judge-judged.result.overlay) _ made
+          adds_records c.args.batch records (view c.fill_known.new.overlay) (view c.judge-judged.result.overlay) _ made
           fk.same (λ rows has. (fk.stored first (homes_made c.args.batch records made) rows has).decided)
           c.judge-judged.ensures.next c.judge-judged.ensures.again.keys) puts);
       count = tt;
@@ -116,7 +116,7 @@ returns-in_err-write_after-in-Ok g c =
           (does_adds (λ clean.
           let before = clean_at end.says.survives clean in
           let first = clean_at c.in-Ok.ensures.puts.says.survives before in
-          adds_tried c.args.batch records p' o _ made fk.same
+          adds_records c.args.batch records p' o _ made fk.same
           (λ rows has. (fk.stored first (homes_made c.args.batch records made) rows has).decided) j.next j.again.keys)
           (all_written o (requests_first o c.deref.ensures c.in-Ok.ensures.puts) end));
       count = tt;
@@ -152,7 +152,7 @@ returns-in_ok-write_after-in-Ok-clause-says g c records made =
     (does_adds (λ clean.
     let before = clean_at end.says.survives clean in
     let first = clean_at c.in-Ok.ensures.puts.says.survives before in
-    adds_tried c.args.batch records p' o _ made fk.same
+    adds_records c.args.batch records p' o _ made fk.same
     (λ rows has. (fk.stored first (homes_made c.args.batch records made) rows has).decided) j.next j.again.keys)
     (all_written o (requests_first o c.deref.ensures c.in-Ok.ensures.puts) end)))
 
@@ -178,7 +178,7 @@ returns-in_ok-write_after-in-Ok-clause-busy g c clean live records made t shows 
     ∙ sym (ap (λ (q : Overlay). q.decided) e)))
 
 pub returns-in_ok-write_after-in-Ok-clause-stored : goal.returns-in_ok-write_after-in-Ok-clause-stored
-returns-in_ok-write_after-in-Ok-clause-stored g c clean live as_made records made =
+returns-in_ok-write_after-in-Ok-clause-stored g c clean live records made =
     let p' = view c.fill_known.new.overlay in
     let o = view c.judge-judged.result.overlay in
     let fk = c.in_ok-fill_known.ensures in
@@ -197,11 +197,10 @@ returns-in_ok-write_after-in-Ok-clause-stored g c clean live as_made records mad
     let ran = all_ran o (requests_ran o c.deref.ensures (record { does = puts.puts; ran = puts.ran }))
     (record { does = end.does; ran = end.ran }) in
     rw c.into_replies.ensures (answers_all _ _ c.args.batch _ records c.args.moment o c.judge-judged.result.replies.items
-    made refl fk.same (fk.own first) held (λ other. absurd (none_other (state g.S.Store c.args.tx.now.conn.now).now as_made other)) j.judged
+    made refl fk.same (fk.own first) held j.judged
     (λ same. absurd (all.0 same)) j.rising
-    (inr (ran_since stays.now (λ text values adds. tried_own (state g.S.Store c.args.tx.now.conn.now).now records as_made text values
-    (adds_tried c.args.batch records p' o _ made fk.same
-    (λ rows has. (fk.stored first (homes_made c.args.batch records made) rows has).decided) j.next j.again.keys text values adds))
+    (inr (ran_since stays.now (adds_records c.args.batch records p' o _ made fk.same
+    (λ rows has. (fk.stored first (homes_made c.args.batch records made) rows has).decided) j.next j.again.keys)
     (ran.ran clean on))))
 
 pub returns-in_ok-write_after-in-Ok-clause-quiet : goal.returns-in_ok-write_after-in-Ok-clause-quiet

@@ -44,7 +44,7 @@ returns-clause-says g c =
     tried_says g.S.Store (IsMadeOf c.args.batch) c.args.moment c.args.conn.now c.begin-tx.result
     c.answer_new-tried.new.tx c.finish.new.tx.0 c.conn-2-1.given.0 c.answer_new-tried.result c.finish.result
     c.begin-tx.ensures.begun c.begin-tx.ensures.settled (rw same at c.finish.ensures)
-    (λ records made. search rules) c.requires.made none c.answer_new-tried.ensures.says
+    (λ records made. search rules) none c.answer_new-tried.ensures.says
 
 pub returns-clause-undone : goal.returns-clause-undone
 returns-clause-undone g c =
@@ -81,7 +81,7 @@ returns-clause-stored g c =
     tried_stored g.S.Store (IsMadeOf c.args.batch) c.args.moment c.args.conn.now c.begin-tx.result
     c.answer_new-tried.new.tx c.finish.new.tx.0 c.conn-2-1.given.0 c.answer_new-tried.result c.finish.result
     c.begin-tx.ensures.begun c.begin-tx.ensures.settled (rw same at c.finish.ensures)
-    (λ records made. search rules) c.requires.made c.answer_new-tried.ensures.stored
+    (λ records made. search rules) c.answer_new-tried.ensures.stored
 
 pub returns-clause-whole : goal.returns-clause-whole
 returns-clause-whole g c records made =
@@ -96,7 +96,7 @@ returns-clause-whole g c records made =
     tried_whole g.S.Store (IsMadeOf c.args.batch) c.args.moment c.args.conn.now c.begin-tx.result
     c.answer_new-tried.new.tx c.finish.new.tx.0 c.conn-2-1.given.0 c.answer_new-tried.result c.finish.result
     c.begin-tx.ensures.begun c.begin-tx.ensures.settled (rw same at c.finish.ensures)
-    (λ records made. search rules) records made c.requires.made none c.answer_new-tried.ensures.quiet.survives
+    (λ records made. search rules) records made none c.answer_new-tried.ensures.quiet.survives
     c.answer_new-tried.ensures.stored
 
 -- ---- what is remembered

@@ -19,6 +19,6 @@ returns g c =
     rw c.in_ok-answer.was record {
       mode = done.ended;
       given = refl;
-      answers = λ clean. (done.same clean, λ t shows. ((done.ok clean t shows).0, done.alone clean t shows));
+      answers = λ clean. (done.same clean, done.opened clean, λ t shows. ((done.ok clean t shows).0, done.alone clean t shows));
       survives = done.survives;
     }
