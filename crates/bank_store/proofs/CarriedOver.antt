@@ -1,9 +1,10 @@
 -- A bank that is carried over stands at the plain log, and what is known of the answer and of what a refusal leaves.
-use Rattle.std.proofs.Common.{ℕ, pos, List, Ok, Err, refl, ap, subst, ◌∙◌, inl, inr}
-use Rattle.sqlite.specs.{Held.Held, Held.state, State.State, State.HasCleanDisk, State.Survives}
+use Rattle.std.proofs.Common.{ℕ, pos, List, Ok, Err, refl, ap, subst, sym, ◌∙◌, inl, inr}
+use Rattle.sqlite.specs.{Effect.Database, Held.Held, Held.state, State.State, State.HasCleanDisk, State.Survives}
 use Rattle.sqlite_trees.specs.declared.store.Store.{Ghosts}
 use Rattle.posting_rules.specs.{believed.Commands.Command, believed.Counter.StandsAt, Editions.plain}
 use Rattle.posting_rules.proofs.Editions.{plain_are_commands}
+use Rattle.store_rows.specs.believed.BankTables.{HasBankTables}
 use Rattle.bank_store.specs.Migration.{BankIsMoved, HasCarriedOver, HasMoved, IsFromEarlier, IsMigrated, KnowsAnswer}
 use Rattle.bank_store.specs.Migration.{LeavesBank, Migrates, Misplaces, ShowsEarlier}
 use Rattle.bank_store.specs.believed.Seen.{bank_seen, file_of, seen_in}
@@ -28,6 +29,14 @@ stands_plain from old new D log up it moved =
       up = up;
       survives = λ left may. (it.tables, now.left left may, plainly from old.now log it);
     }
+
+-- its tables are a bank's
+pub has_tables : (old new : State) (migrated : Migrated) → IsFromEarlier migrated → Migrates old new (Ok migrated)
+    → HasBankTables new.now.schema
+has_tables old new Already from found =
+    subst (λ (db : Database). HasBankTables db.schema) (sym found.there.same.now_is) found.there.made
+has_tables old new (Moved version) (from, is) moved =
+    let it = moved from is in it.2.2 it.1.there.made
 
 module _ {S : Type 0} (g : Ghosts S) (conn : Held S) (bank : Bank S g) (up : (bank_seen g bank).is_down → ⊥) where
   pub is_migrated : (migrated : Migrated)

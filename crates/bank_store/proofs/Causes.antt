@@ -2,7 +2,7 @@
 use Rattle.std.proofs.Common.{refl, Bool, Option, Ok, Err, Result, List, ℕ, ℤ, inl, inr, arith}
 use Rattle.std.specs.Prelude.{IfErr, IsTrue}
 use Rattle.std.proofs.lemmas.Bool.{cases_Bool}
-use Rattle.sqlite.specs.{Table.Table, Tree.Trees, State.State, State.HasCleanDisk, State.Survives, Held.Held}
+use Rattle.sqlite.specs.{Schema.Schema, Table.Table, Tree.Trees, State.State, State.HasCleanDisk, State.Survives, Held.Held}
 use Rattle.sqlite.specs.{Held.state, Steps.FailsToCommit, declared.error.Error.Error}
 use Rattle.sqlite.proofs.StateLemmas.{survives_then, survives_weaker}
 use Rattle.sqlite_trees.specs.declared.store.Store.{Ghosts}
@@ -13,8 +13,9 @@ use Rattle.bank_transactions.specs.believed.Causes.{IsBefore}
 use Rattle.bank_transactions.proofs.Blamed.{comes, commit_fails, failed_here, failed_within, same_moment, then_moment}
 use Rattle.bank_store.specs.{MetaRow.ChecksCount, MetaRow.ChecksMeta, OpenFaults.of_the_store, OpenFaults.unmade_by}
 use Rattle.bank_store.specs.OpenFaults.{unread_by}
+use Rattle.bank_store.specs.TablePresence.{ChecksTables}
 use Rattle.bank_store.specs.StoreFaults.{CallFailed, IsOpenCall, KnowsCause, KnowsWhyUnmade, LooksIn, MakingFailed}
-use Rattle.posting_rules.specs.declared.open_fault.OpenFault.{OpenFault}
+use Rattle.posting_rules.specs.declared.open_fault.{BankTable.BankTable, OpenFault.OpenFault}
 use Rattle.posting_rules.specs.declared.open_fault.OpenFault.TheVariants.{Store}
 use Rattle.bank_store.proofs.Unmade.{if_err}
 
@@ -112,6 +113,11 @@ module _ {S : Type 0} (g : Ghosts S) (old new : Held S) where
       → IfErr r (KnowsCause g old new)
   count_known decided (Ok done) checks = tt
   count_known decided (Err fault) checks = rw checks.0 tt
+
+  pub other_known : (schema : Schema) (tables : List BankTable) (fault : OpenFault)
+      → ChecksTables schema tables (Err fault) → KnowsCause g old new fault
+  other_known schema tables Store checks = absurd checks
+  other_known schema tables other checks = tt
 
 -- ---- one call after another
 

@@ -13,18 +13,21 @@ use Rattle.posting_rules.proofs.Undamaged.{undamaged}
 use Rattle.sql_meanings.proofs.Contents.{each_defined}
 use Rattle.sql_meanings.specs.believed.Entries.{Entry}
 use Rattle.store_rows.specs.believed.{Columns.meta_in, BankTables.bank_tables, View.Shows, View.meta_entry}
-use Rattle.store_rows.specs.{Probes.all_probes, Probes.probe_of, Statements.HasOtherValue, View.HoldsRows}
+use Rattle.store_rows.specs.believed.BankTables.{HasBankTables}
+use Rattle.store_rows.specs.Definitions.{IsFirstOther}
+use Rattle.store_rows.proofs.{AsMade.none_other, BankTables.shown_tables}
+use Rattle.store_rows.specs.{Probes.all_probes, Probes.all_tables, Probes.probe_of, Statements.HasOtherValue, View.HoldsRows}
 use Rattle.store_rows.specs.{View.contents, declared.metas.StoredMeta.StoredMeta, declared.metas.TheConstants.VERSION}
-use Rattle.store_rows.specs.declared.probes.BankTable.TheVariants as table
+use Rattle.posting_rules.specs.declared.open_fault.BankTable.TheVariants as table
 use Rattle.store_rows.specs.believed.BankTables as bank
 use Rattle.bank_store.specs.Connections.{IsAsBefore, IsReadOnly}
 use Rattle.bank_store.specs.FoundBank.{HasNoOtherVersion, MetaIs, Misses, SeeksBank, SeeksTables, TablesAreFound}
 use Rattle.bank_store.specs.MetaRow.{IsOurs, IsOfVersion, IsNoCount, ChecksMeta, TellsMeta, IsOfOtherType, ChecksOnly}
 use Rattle.bank_store.specs.MetaRow.{HasOnlyRow, LacksOnlyRow}
 use Rattle.bank_store.specs.{OpenFaults.RowIsUnread, declared.presence.Presence.Presence}
-use Rattle.bank_store.specs.TablePresence.{Lacks, IsPresent, IsReadable}
+use Rattle.bank_store.specs.TablePresence.{ChecksTables, Lacks, IsPresent, IsReadable}
 use Rattle.bank_store.specs.declared.presence.Presence.TheVariants.{Absent, Partial, Whole}
-use Rattle.posting_rules.specs.declared.open_fault.OpenFault.TheVariants.{Store, Blank, Foreign, Version, Damaged}
+use Rattle.posting_rules.specs.declared.open_fault.OpenFault.TheVariants.{Store, Blank, Foreign, Version, OtherTable, Damaged}
 use Rattle.store_rows.proofs.MetaRow.{has_one}
 use Rattle.walked_rows.proofs.Shown.{has_meta}
 use Rattle.bank_store.proofs.{MetaRow.other_version, Probed.as_before}
@@ -65,7 +68,7 @@ module _ (old mid new : State) (first : IsAsBefore old mid) (Missed : OpenFault 
 
 -- what was read of the row, and what was said against it
 module _ (old mid new : State) (stored : Option StoredMeta) (tables : IsPresent old.now all_probes Whole)
-    (first : IsAsBefore old mid)
+    (made : HasBankTables mid.now.schema) (first : IsAsBefore old mid)
     (read : (rows : List Entry) → HoldsRows mid.now bank.meta rows → stored ≡ meta_in rows)
     (then : IsAsBefore mid new) where
   row_is : (P : Option StoredMeta → Type 0) → P stored → MetaIs old P
@@ -76,17 +79,36 @@ module _ (old mid new : State) (stored : Option StoredMeta) (tables : IsPresent 
   same = as_before old mid new first then
 
   pub looked : (r : Result (Unit {0}) OpenFault) → ChecksMeta stored r → SeeksTables old new r
-  looked (Ok done) checks = record { tables = tables; meta = row_is IsOurs checks; same = same }
+  looked (Ok done) checks = record {
+    tables = tables;
+    made = subst (λ (db : Database). HasBankTables db.schema) first.now_is made;
+    meta = row_is IsOurs checks;
+    same = same;
+  }
   looked (Err Store) checks = absurd checks
   looked (Err (Version n)) checks = ((tables.0, row_is (IsOfVersion n) checks), same)
   looked (Err (Damaged Meta)) checks = ((tables, inl (row_is IsNoCount checks)), same)
   looked other checks = absurd checks
 
+-- a table is defined otherwise
+pub not_made : (old mid : State) → IsPresent old.now all_probes Whole → IsAsBefore old mid → HasNoOtherVersion old
+    → (fault : OpenFault) → ChecksTables mid.now.schema all_tables (Err fault) → SeeksTables old mid (Err fault)
+not_made old mid there same ours (OtherTable t) other = (
+  (there, subst (λ (db : Database). IsFirstOther db.schema all_tables t) same.now_is other, ours),
+  same,
+)
+not_made old mid there same ours rest other = absurd other
+
 -- what was found of the tables, and whether the row of the bank is the only one
 module _ (old mid new : State) (there : TablesAreFound old mid) where
   pub only_checked : (r : Result (Unit {0}) OpenFault) → ChecksOnly VERSION mid new r → SeeksBank old new r
   only_checked (Ok done) (one, same) = record {
-    there = record { tables = there.tables; meta = there.meta; same = as_before old mid new there.same same };
+    there = record {
+      tables = there.tables;
+      made = there.made;
+      meta = there.meta;
+      same = as_before old mid new there.same same;
+    };
     one = subst (HasOnlyRow VERSION) there.same.now_is one;
   }
   only_checked (Err fault) (inl (is, undone)) =
@@ -129,6 +151,11 @@ module _ (old mid : State) (same : IsAsBefore old mid) where
     subst (λ (db : Database). IsReadable db (probe_of table.Meta)) same.now_is misses.0,
     meta_at (IsOfVersion n) misses.1,
   )
+  misses_at (OtherTable t) misses = (
+    present_at Whole misses.0,
+    subst (λ (db : Database). IsFirstOther db.schema all_tables t) same.now_is misses.1,
+    λ n. meta_at (λ stored. IsOfVersion n stored → ⊥) (misses.2 n),
+  )
   misses_at (Damaged Meta) misses = (
     present_at Whole misses.0,
     elim misses.1 [
@@ -152,6 +179,7 @@ module _ (old mid : State) (same : IsAsBefore old mid) where
   pub found_at : (new : State) → TablesAreFound mid new → TablesAreFound old new
   found_at new found = record {
     tables = present_at Whole found.tables;
+    made = subst (λ (db : Database). HasBankTables db.schema) same.now_is found.made;
     meta = meta_at IsOurs found.meta;
     same = as_before old mid new same found.same;
   }
@@ -235,6 +263,8 @@ known old Foreign t log misses shows are log_shown =
 known old (Version n) t log misses shows are log_shown =
     absurd (not_other _ n (holds t (undamaged t log are log_shown))
     (misses.1 (meta_entry VERSION t.decided ∷ []) (has_one old.now t shows)))
+known old (OtherTable found) t log misses shows are log_shown =
+    absurd (none_other old.now.schema all_tables found misses.1 (shown_tables old.now t shows))
 known old (Damaged Meta) t log misses shows are log_shown =
     let sound = undamaged t log are log_shown in
     let rows = meta_entry VERSION t.decided ∷ [] in

@@ -9,7 +9,7 @@ use Rattle.posting_rules.specs.{believed.Commands.Command, believed.Commands.Are
 use Rattle.posting_rules.specs.{Editions.plain, believed.Tables.Tables, believed.Tables.AreTablesOf}
 use Rattle.posting_rules.specs.{declared.limits.TheConstants.MAX_DECIDED, declared.open_fault.OpenFault.OpenFault}
 use Rattle.posting_rules.specs.declared.fault.Rule.TheVariants.{Meta, Teller, Value}
-use Rattle.posting_rules.specs.declared.open_fault.OpenFault.TheVariants.{Store, Blank, Foreign, Version, Damaged}
+use Rattle.posting_rules.specs.declared.open_fault.OpenFault.TheVariants.{Store, Blank, Foreign, Version, OtherTable, Damaged}
 use Rattle.posting_rules.proofs.Editions.{carries_over, has_no_floors, has_no_references, plain_are_commands}
 use Rattle.posting_rules.proofs.Undamaged.{undamaged}
 use Rattle.sql_meanings.proofs.Contents.{each_defined, held}
@@ -20,8 +20,10 @@ use Rattle.store_rows.specs.{declared.metas.StoredMeta.StoredMeta, declared.meta
 use Rattle.store_rows.specs.{Probes.all_tables, Probes.probe_of, View.HoldsRows}
 use Rattle.store_rows.specs.Migration.{IsEarlier, ShowsLess, TakesLacking, lacking}
 use Rattle.store_rows.specs.believed.View.{Shows, contents_of, meta_entry, rows_of, tables_of}
-use Rattle.store_rows.specs.declared.probes.BankTable.TheVariants as table
-use Rattle.store_rows.proofs.Lacking.{lacking_refused}
+use Rattle.posting_rules.specs.declared.open_fault.BankTable.TheVariants as table
+use Rattle.store_rows.proofs.{AsMade.none_other, BankTables.made_each, Lacking.lacking_refused}
+use Rattle.store_rows.specs.Definitions.{AreMade, IsFirstOther, made as made_table}
+use Rattle.sql_meanings.specs.believed.Contents.{HoldsEach}
 use Rattle.bank_store.specs.{Connections.IsAsBefore, Connections.IsReadOnly, FoundBank.BankIsFound, FoundBank.MetaIs}
 use Rattle.bank_store.specs.{FoundBank.Misses, OpenFaults.of_the_store, declared.presence.Presence.Presence}
 use Rattle.walked_rows.specs.Rows.{HasStoredRows}
@@ -30,7 +32,7 @@ use Rattle.bank_store.specs.Migration.{BankIsMoved, HasEarlier, HasEarlierTables
 use Rattle.bank_store.specs.Migration.{IsUnmoved, Migrates, Misplaces, MissesEarlier, TellsNoEarlier, IsUncounted}
 use Rattle.bank_store.specs.Migration.{MovesFound, SeeksEarlier, ShowsEarlier, earlier_probes}
 use Rattle.bank_store.specs.declared.migration.Migrated.TheVariants.{Moved}
-use Rattle.bank_store.specs.TablePresence.{IsPresent, Lacks, OneOf}
+use Rattle.bank_store.specs.TablePresence.{ChecksTables, IsPresent, Lacks, OneOf}
 use Rattle.bank_store.specs.declared.presence.Presence.TheVariants.{Absent, Partial, Whole}
 use Rattle.bank_store.proofs.FoundBank.{decided_in, has_its_table, known, not_outside, reads_at, version_in}
 use Rattle.bank_store.proofs.Probed.{as_before}
@@ -38,7 +40,7 @@ use Rattle.bank_store.proofs.Probed.{as_before}
 -- ---- a bank of that version is looked for
 
 -- `meta` comes first
-one_and : (from : ℕ) → suc (4 + from) ≡ 5 + from
+pub one_and : (from : ℕ) → suc (4 + from) ≡ 5 + from
 one_and from = omega arith
 
 pub meta_first : (from : ℕ) → map probe_of (table.Meta ∷ take (4 + from) (drop 1 all_tables)) ≡ earlier_probes from
@@ -57,7 +59,8 @@ some_lacking from db Whole not_so here = absurd (not_so refl)
 
 -- what was read of the row, and what was said against its count
 module _ (from : ℕ) (old mid new : State) (tables : IsPresent old.now (earlier_probes from) Whole)
-    (first : IsAsBefore old mid) (then : IsAsBefore mid new) where
+    (first : IsAsBefore old mid) (made : AreMade mid.now.schema (take (5 + from) all_tables))
+    (then : IsAsBefore mid new) where
   row_is : (stored : Option StoredMeta)
       → ((rows : List Entry) → HoldsRows mid.now bank.meta rows → stored ≡ meta_in rows)
       → (P : Option StoredMeta → Type 0) → P stored → MetaIs old P
@@ -68,7 +71,11 @@ module _ (from : ℕ) (old mid new : State) (tables : IsPresent old.now (earlier
       → ((rows : List Entry) → HoldsRows mid.now bank.meta rows → Some m ≡ meta_in rows)
       → (r : Result (Unit {0}) OpenFault) → ChecksCount m.decided r → SeeksEarlier from old new r
   counted m read (Ok done) checks = (
-    record { tables = tables; meta = row_is (Some m) read IsCounted (m, refl, checks) },
+    record {
+      tables = tables;
+      made = subst (λ (db : Database). AreMade db.schema (take (5 + from) all_tables)) first.now_is made;
+      meta = row_is (Some m) read IsCounted (m, refl, checks);
+    },
     as_before old mid new first then,
   )
   counted m read (Err fault) (is, outside) =
@@ -78,6 +85,16 @@ module _ (from : ℕ) (old mid new : State) (tables : IsPresent old.now (earlier
   pub missing : ((rows : List Entry) → HoldsRows mid.now bank.meta rows → None ≡ meta_in rows)
       → SeeksEarlier from old new (Err (Damaged Meta))
   missing read = ((tables, inl (row_is None read IsUncounted (inl refl))), as_before old mid new first then)
+
+-- a table is defined otherwise
+pub not_made : (from : ℕ) (old mid : State) → IsPresent old.now (earlier_probes from) Whole → IsAsBefore old mid
+    → (fault : OpenFault) → ChecksTables mid.now.schema (take (5 + from) all_tables) (Err fault)
+    → SeeksEarlier from old mid (Err fault)
+not_made from old mid there same (OtherTable t) other = (
+  (there, subst (λ (db : Database). IsFirstOther db.schema (take (5 + from) all_tables) t) same.now_is other),
+  same,
+)
+not_made from old mid there same rest other = absurd other
 
 -- the row of the bank isn't the only one, or that isn't known
 pub not_only : (from : ℕ) (old mid new : State) → HasEarlierTables from old.now → IsAsBefore old mid
@@ -171,6 +188,11 @@ module _ (from : ℕ) (db : Database) (log : List Command) (it : ShowsEarlier fr
       lacks.1 it.are.sound (each_defined db (tables_of from) (contents_of from it.tables) it.are.each probe.1
       (subst (λ tables. Has tables probe.1) all_defined (has_its_table (earlier_probes from) probe has)))
 
+  all_made : AreMade db.schema (take (5 + from) all_tables)
+  all_made = made_each db (take (5 + from) all_tables) (contents_of from it.tables)
+      (subst (λ tables. HoldsEach db tables (contents_of from it.tables)) (take-map made_table (5 + from) all_tables)
+      it.are.each)
+
   lacks_meta : Lacks db (probe_of table.Meta) → ⊥
   lacks_meta =
       lacks_none (probe_of table.Meta)
@@ -208,6 +230,7 @@ module _ (from : ℕ) (old : State) (log : List Command) (it : ShowsEarlier from
   missed_as Foreign misses other = absurd (misses.1 (pos from) row (has_row from old.now log it) is_one)
   missed_as (Version n) misses other =
       absurd (other from it.earlier (ap Version (sym (ap version_in (one_row (IsOfVersion n) misses.1).1))))
+  missed_as (OtherTable found) misses other = absurd (misses.2 (pos from) row (has_row from old.now log it) is_one)
   missed_as (Damaged Meta) misses other = elim misses.1 [
     | inl uncounted ↦ elim (one_row IsNoCount uncounted) [
       | inl none ↦ absurd (cc)
@@ -226,6 +249,8 @@ module _ (from : ℕ) (old : State) (log : List Command) (it : ShowsEarlier from
   not_missed : (fault : OpenFault) → MissesEarlier from old.now fault → fault ≡ Store
   not_missed Store misses = refl
   not_missed Foreign misses = absurd (lacks_none from old.now log it misses.0 misses.1 misses.2)
+  not_missed (OtherTable found) misses =
+      absurd (none_other old.now.schema (take (5 + from) all_tables) found misses.1 (all_made from old.now log it))
   not_missed (Damaged Meta) misses = elim misses.1 [
     | inl uncounted ↦ elim (one_row IsUncounted uncounted) [
       | inl none ↦ absurd (cc)

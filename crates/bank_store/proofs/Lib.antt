@@ -6,12 +6,12 @@ pub mod ByTables
 pub mod CarriedOver
 pub mod Causes
 pub mod Countered
+pub mod FileTables
 pub mod FoundBank
 pub mod FoundEarlier
 pub mod Probed
 pub mod MetaRow
 pub mod Refusing
-pub mod MadeTables
 pub mod Moved
 pub mod NewBank
 pub mod OnlyRow

@@ -11,12 +11,14 @@ use Rattle.posting_rules.specs.declared.{open_fault.OpenFault.TheVariants.Damage
 use Rattle.sql_meanings.specs.{Making.SparesStanding, believed.Making.Stands, believed.Sparing.SparesAllBut}
 use Rattle.sql_meanings.specs.{believed.Tables.tree_of}
 use Rattle.sql_meanings.proofs.Contents.{held}
-use Rattle.store_rows.specs.{believed.BankTables.meta, believed.Columns.meta_in, Failures.HasFailedAtLast}
+use Rattle.store_rows.specs.{believed.BankTables.HasBankTables, believed.BankTables.meta, believed.Columns.meta_in}
+use Rattle.store_rows.specs.{Failures.HasFailedAtLast}
+use Rattle.store_rows.proofs.BankTables.{completed}
 use Rattle.store_rows.specs.{declared.metas.StoredMeta.StoredMeta, declared.metas.TheConstants.VERSION}
-use Rattle.store_rows.specs.Migration.{LackingAreMade, MakesLacking, SetsVersion, ShowsLess}
+use Rattle.store_rows.specs.Migration.{IsEarlier, LackingAreMade, MakesLacking, SetsVersion, ShowsLess}
 use Rattle.store_rows.specs.believed.View.{Shows, ShowsTrees, contents_of, meta_entry, tables_of}
 use Rattle.bank_transactions.proofs.Blamed.{comes, same_moment}
-use Rattle.bank_store.specs.Migration.{BankIsMoved, ChangesTables, HasMoved, IsUnmoved, KeepsRows}
+use Rattle.bank_store.specs.Migration.{BankIsMoved, ChangesTables, Completes, HasMoved, IsUnmoved, KeepsRows}
 use Rattle.bank_store.specs.{OpenFaults.of_the_store, OpenFaults.unmoved_by, StoreFaults.KnowsCause}
 use Rattle.bank_store.proofs.{FoundEarlier.meta_there, Settled.begun_survives, Settled.live, Unmade.own_error}
 
@@ -51,7 +53,8 @@ unmoved_known g old new e why = elim (cases_Bool (of_the_store e)) [
 
 -- ---- the version is written
 
-module _ (from : ℕ) (old mid new : State) (made : LackingAreMade from old.now mid.now) where
+module _ (from : ℕ) (earlier : IsEarlier from) (old mid new : State) (made : LackingAreMade from old.now mid.now)
+    where
   moved_tables : SetsVersion VERSION mid new (Ok true) → (t : Tables) → ShowsLess from old.now t
       → Shows new.now t × SparesStanding old.now new.now meta.name
   moved_tables set t was =
@@ -76,7 +79,11 @@ module _ (from : ℕ) (old mid new : State) (made : LackingAreMade from old.now 
 
   pub moved : SetsVersion VERSION mid new (Ok true) → SparesAllBut (meta.name ∷ []) mid.now new.now
       → ChangesTables from old.now new.now (Ok tt)
-  moved set spares = (moved_tables set, moved_rows spares)
+  moved set spares = (
+    moved_tables set,
+    moved_rows spares,
+    λ all. subst HasBankTables (sym spares.schema) (completed from old.now mid.now earlier all made),
+  )
 
   none_there : (o : Option StoredMeta) → false ≡ is_some o → o ≡ None
   none_there None h = refl
@@ -146,4 +153,5 @@ module _ {S : Type 0} (from : ℕ) (g : Ghosts S) (old begun last new : Held S)
           spares = subst (λ (db : Database). SparesStanding (state g old).now db meta.name) (sym same) (it.0 t was).1;
         },
         subst (KeepsRows (state g old).now) (sym same) it.1,
+        subst (Completes from (state g old).now) (sym same) it.2,
       )

@@ -8,7 +8,8 @@ use Rattle.sqlite_trees.specs.declared.store.Store.{Ghosts}
 use Rattle.sqlite_rules.proofs.ListLemmas.{has_left, has_right}
 use Rattle.sqlite_trees.proofs.ListLemmas.{all-append}
 use Rattle.sql_meanings.specs.StatementAnswers.{TellsProbe, TellsUnderstood}
-use Rattle.store_rows.specs.{Calls.Probes, Probes.probe_of, declared.probes.BankTable.BankTable}
+use Rattle.store_rows.specs.{Calls.Probes, Probes.probe_of}
+use Rattle.posting_rules.specs.declared.open_fault.BankTable.{BankTable}
 use Rattle.bank_store.specs.{declared.presence.Presence.Presence, Connections.IsAsBefore}
 use Rattle.bank_store.specs.declared.presence.Presence.TheVariants.{Absent, Partial, Whole}
 use Rattle.bank_store.specs.TablePresence.{IsReadable, Lacks, OneOf, IsPresent, presence_of, joined}

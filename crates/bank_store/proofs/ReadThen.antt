@@ -47,7 +47,7 @@ module _ {S X : Type 0} {So : Tables → Type 0} {wanted : Tables → X} (g : Gh
     survives = quiet_also (state g old) (state g new) _ quiet;
     cause = cause;
     mode = outside;
-    spares = record { now = λ clean. tt; left = quiet_also (state g old) (state g new) _ quiet };
+    spares = record { now = λ clean. tt; opened = λ clean. tt; left = quiet_also (state g old) (state g new) _ quiet };
     wrote = λ clean. tt;
   }
     where
@@ -102,6 +102,7 @@ module _ {S X : Type 0} {So : Tables → Type 0} {wanted : Tables → X} (g : Gh
       spares = record {
         now = λ clean. on_ok_weaker r
             (subst (λ (db : Database). SparesOthers db (state g new).now) (same clean)) (two.spares.now clean);
+        opened = λ clean. on_ok_weaker r (subst IsTrue (still (before clean)).3) (two.spares.opened clean);
         left = survives_then (state g old) (state g mid) (state g new) (λ _. ⊥) (LeavesOthers (state g mid).now)
             (LeavesOthers (state g old).now) (λ clean left none. absurd none)
             (λ clean left may. subst (λ (db : Database). LeavesOthers db left) (same clean) may)
@@ -140,7 +141,7 @@ module _ {S X Y : Type 0} {So : Tables → Type 0} {wanted : Tables → X} {aske
     survives = one.survives;
     cause = λ clean. tt;
     mode = one.mode;
-    spares = record { now = one.spares.now; left = one.spares.left };
+    spares = record { now = one.spares.now; opened = one.spares.opened; left = one.spares.left };
     wrote = one.wrote;
   }
 
@@ -153,7 +154,7 @@ module _ {S X Y : Type 0} {So : Tables → Type 0} {wanted : Tables → X} {aske
     survives = one.survives;
     cause = one.cause;
     mode = one.mode;
-    spares = record { now = λ clean. tt; left = one.spares.left };
+    spares = record { now = λ clean. tt; opened = λ clean. tt; left = one.spares.left };
     wrote = λ clean. tt;
   }
     where

@@ -9,7 +9,7 @@ use Rattle.posting_rules.proofs.Keyed.{by_test}
 use Rattle.sql_meanings.specs.Making.{KeepsTables}
 use Rattle.store_rows.specs.Creation.{CreatesBank, IsEmpty, TablesAreMade, RefusesNext, all_texts}
 use Rattle.store_rows.specs.Probes.{all_probes, probe_of}
-use Rattle.store_rows.specs.declared.probes.BankTable.TheVariants as table
+use Rattle.posting_rules.specs.declared.open_fault.BankTable.TheVariants as table
 use Rattle.store_rows.proofs.EmptyFile.{refused_on_nothing}
 use Rattle.bank_store.specs.{NewBank.IsRefusedOnTheWay, NewBank.IsTaken, declared.presence.Presence.Presence}
 use Rattle.bank_store.specs.OpenFaults.{of_the_store, unmade_by}

@@ -9,9 +9,11 @@ use Rattle.posting_rules.specs.believed.Counter.{ShowsLog, StandsAt}
 use Rattle.posting_rules.specs.declared.fault.Rule.TheVariants.{Meta, Value}
 use Rattle.sql_meanings.specs.believed.Entries.{Entry}
 use Rattle.store_rows.specs.believed.Columns.{meta_in}
-use Rattle.store_rows.specs.Probes.{all_probes, probe_of}
-use Rattle.store_rows.specs.declared.probes.BankTable.TheVariants as table
+use Rattle.store_rows.specs.Definitions.{IsFirstOther}
+use Rattle.store_rows.specs.Probes.{all_probes, all_tables, probe_of}
+use Rattle.posting_rules.specs.declared.open_fault.BankTable.TheVariants as table
 use Rattle.store_rows.specs.believed.BankTables as bank
+use Rattle.store_rows.specs.believed.BankTables.{HasBankTables}
 use Rattle.store_rows.specs.Statements.{HasOtherValue}
 use Rattle.store_rows.specs.View.{HoldsRows}
 use Rattle.store_rows.specs.declared.metas.TheConstants.{VERSION}
@@ -26,7 +28,7 @@ use Rattle.bank_store.specs.TablePresence.{IsPresent, IsReadable}
 use Rattle.bank_store.specs.declared.presence.Presence.TheVariants.{Absent, Partial, Whole}
 use Rattle.posting_rules.specs.declared.open_fault.OpenFault.{OpenFault}
 use Rattle.posting_rules.specs.declared.open_fault.OpenFault.TheVariants.{Store, NotBlank, Blank, Foreign, Version}
-use Rattle.posting_rules.specs.declared.open_fault.OpenFault.TheVariants.{Damaged}
+use Rattle.posting_rules.specs.declared.open_fault.OpenFault.TheVariants.{Damaged, OtherTable}
 
 -- whatever rows of `meta` the database holds, the row of the bank is so
 abbrev pub RowIs : Database → (Option StoredMeta → Type 0) → Type 0
@@ -43,10 +45,11 @@ pub record ReadsMeta {S : Type 0} (g : Ghosts S) (old new : Held S) (result : Re
   pub fault : IfErr result RowIsUnread
   pub other : HasCleanDisk (state g new) → IfErr result (IsOfOtherType (state g old).now)
 
--- its tables are there, the row of the bank is of our version and has a count within its range, and everything is
--- as it was
+-- its tables are there, defined as a bank's are made, the row of the bank is of our version and has a count within its
+-- range, and everything is as it was
 pub record TablesAreFound (old new : State) : Type 0 where
   pub tables : IsPresent old.now all_probes Whole
+  pub made : HasBankTables old.now.schema
   pub meta : MetaIs old IsOurs
   pub same : IsAsBefore old new
 
@@ -71,6 +74,8 @@ Misses old NotBlank = ⊥
 Misses old Blank = IsPresent old.now all_probes Absent
 Misses old Foreign = IsPresent old.now all_probes Partial × HasNoOtherVersion old
 Misses old (Version n) = IsReadable old.now (probe_of table.Meta) × MetaIs old (IsOfVersion n)
+Misses old (OtherTable t) =
+    IsPresent old.now all_probes Whole × IsFirstOther old.now.schema all_tables t × HasNoOtherVersion old
 Misses old (Damaged Meta) = IsPresent old.now all_probes Whole × BreaksMeta old
 Misses old (Damaged Value) = IsPresent old.now all_probes Whole × MetaIs old (λ _. ⊥) × HasOtherValue old.now
 Misses old (Damaged _) = ⊥

@@ -16,11 +16,12 @@ use Rattle.posting_rules.specs.Editions.{AreTablesIn}
 use Rattle.posting_rules.specs.believed.Tables.{Tables, AreTablesOf}
 use Rattle.posting_rules.specs.declared.fault.Rule.TheVariants.{Meta, Value}
 use Rattle.posting_rules.specs.declared.open_fault.OpenFault.{OpenFault}
-use Rattle.posting_rules.specs.declared.open_fault.OpenFault.TheVariants.{Store, Foreign, Version, Damaged}
+use Rattle.posting_rules.specs.declared.open_fault.OpenFault.TheVariants.{Store, Foreign, Version, OtherTable, Damaged}
 use Rattle.sql_meanings.specs.believed.Making.{Stands}
 use Rattle.sql_meanings.specs.Making.{SparesStanding}
 use Rattle.sql_meanings.specs.believed.Tables.{tree_of}
-use Rattle.store_rows.specs.believed.BankTables.{meta}
+use Rattle.store_rows.specs.believed.BankTables.{HasBankTables, meta}
+use Rattle.store_rows.specs.Definitions.{AreMade, IsFirstOther}
 use Rattle.store_rows.specs.Migration.{IsEarlier, RefusesLacking, ShowsLess, TakesLacking}
 use Rattle.store_rows.specs.Probes.{all_tables, probe_of}
 use Rattle.store_rows.specs.Statements.{HasOtherValue}
@@ -86,9 +87,15 @@ KeepsRows old new = (t : Table) → Stands old.schema t → t.tree ≢ tree_of n
 abbrev pub LeavesRows : Database → Trees → Type 0
 LeavesRows old left = (after : Database) × (left ≡ after.trees) × KeepsRows old after
 
--- a bank of that version is one of this version, with the same rows; and so are the tables of any file
+-- where the tables of that version were defined as a bank's are made, those of this version are
+abbrev pub Completes : ℕ → Database → Database → Type 0
+Completes from old new = AreMade old.schema (take (5 + from) all_tables) → HasBankTables new.schema
+
+-- a bank of that version is one of this version, with the same rows; and so are the tables of any file. The tables of
+-- this version are there, where those of that version were.
 abbrev pub BankIsMoved : ℕ → Database → State → Type 0
 BankIsMoved from old new = ((t : Tables) → ShowsLess from old t → IsMoved old new t) × KeepsRows old new.now
+    × Completes from old new.now
 
 -- the same of what a crash may leave
 abbrev pub HasMoved : ℕ → Database → Trees → Type 0
@@ -106,6 +113,7 @@ IsUnmoved from old _ = ⊥
 abbrev pub ChangesTables : ℕ → Database → Database → Result (Unit {0}) OpenFault → Type 0
 ChangesTables from old new (Ok done) =
     ((t : Tables) → ShowsLess from old t → Shows new t × SparesStanding old new meta.name) × KeepsRows old new
+    × Completes from old new
 ChangesTables from old new (Err fault) = IsUnmoved from old fault
 
 -- What a call that changes the tables comes to: a bank is moved, or, as long as the store is open, nothing has
@@ -123,9 +131,11 @@ pub record MovesBank {S : Type 0} (from : ℕ) (g : Ghosts S) (old new : Held S)
 abbrev pub IsCounted : Option StoredMeta → Type 0
 IsCounted stored = (m : StoredMeta) × (stored ≡ Some m) × IsWithin m.decided
 
--- a file with that version has its tables, and the row of the bank has a count within its range
+-- a file with that version has its tables, defined as a bank's are made, and the row of the bank has a count within
+-- its range
 pub record HasEarlierTables (from : ℕ) (db : Database) : Type 0 where
   pub tables : IsPresent db (earlier_probes from) Whole
+  pub made : AreMade db.schema (take (5 + from) all_tables)
   pub meta : RowIs db IsCounted
 
 -- it has a bank of it: the same, and that row is the only one of `meta`, whatever CHECK that has
@@ -141,6 +151,8 @@ IsUncounted stored = (stored ≡ None) ⊎ ((m : StoredMeta) × (stored ≡ Some
 abbrev pub MissesEarlier : ℕ → Database → OpenFault → Type 0
 MissesEarlier from old Store = ⊤
 MissesEarlier from old Foreign = OneOf (earlier_probes from) (Lacks old)
+MissesEarlier from old (OtherTable t) =
+    IsPresent old (earlier_probes from) Whole × IsFirstOther old.schema (take (5 + from) all_tables) t
 MissesEarlier from old (Damaged Meta) =
     IsPresent old (earlier_probes from) Whole × (RowIs old IsUncounted ⊎ LacksOnlyRow (pos from) old)
 MissesEarlier from old (Damaged Value) =

@@ -1,5 +1,5 @@
 -- A bank is made over a connection, or why none is.
-use Rattle.std.specs.Prelude.{◌≡◌, ◌⊎◌, [], false, None, Result, IfErr, OnErr, OnOk}
+use Rattle.std.specs.Prelude.{◌≡◌, ◌⊎◌, [], false, Result, IfErr, OnErr, OnOk}
 use Rattle.sqlite.specs.Tree.{Trees}
 use Rattle.sqlite.specs.Effect.{Database}
 use Rattle.sqlite.specs.State.{State, HasCleanDisk, Survives}
@@ -9,8 +9,7 @@ use Rattle.sqlite_trees.specs.declared.store.Store.{Ghosts}
 use Rattle.posting_rules.specs.believed.Counter.{StandsAt}
 use Rattle.posting_rules.specs.believed.Tables.{Tables}
 use Rattle.sql_meanings.specs.Making.{KeepsTables}
-use Rattle.store_rows.specs.Creation.{HasNewBank, IsAlone, IsEmpty, RefusedIn, new_tables}
-use Rattle.store_rows.specs.Definitions.{IsOtherTable}
+use Rattle.store_rows.specs.Creation.{HasNewBank, IsAlone, RefusedIn, new_tables}
 use Rattle.store_rows.specs.Probes.{all_probes}
 use Rattle.store_rows.specs.believed.View.{Shows, ShowsTrees}
 use Rattle.bank_store.specs.Connections.{IsAsBefore, IsUndoneIfOpen}
@@ -40,8 +39,6 @@ pub record IsNewBank {S : Type 0} (g : Ghosts S) (conn : Held S) (bank : Bank S 
   pub blank : HasCleanDisk (file_of bank) → IsPresent (state g conn).now all_probes Absent
   pub new : HasCleanDisk (file_of bank) → (tables : Tables) → Shows (state g conn).now tables → ⊥
   pub up : (bank_seen g bank).is_down → ⊥
-  -- in an empty file its tables are defined as they are made, so that a batch is tried at once
-  pub made : HasCleanDisk (file_of bank) → IsEmpty (state g conn).now → IsOtherTable (file_of bank).now.schema None
 
 -- a statement that makes the bank is refused in a database on the way, by an error that isn't the store's own
 abbrev pub IsRefusedOnTheWay : State → Type 0

@@ -1,12 +1,17 @@
 -- How many of a bank's tables are there.
 use Rattle.std.specs.Prelude.{ℕ, Bool, true, false, List, Result, Ok, Err}
 use Rattle.std.specs.List.{AllByRecursion}
+use Rattle.sqlite.specs.Schema.{Schema}
 use Rattle.sqlite.specs.Table.{Table}
 use Rattle.sqlite.specs.Effect.{Database, IsDatabase}
 use Rattle.sqlite.specs.State.{State}
 use Rattle.sqlite_rules.specs.Lists.{Has}
 use Rattle.sql_meanings.specs.StatementAnswers.{IsThere, IsUnderstood}
 use Rattle.sql_meanings.specs.believed.Tables.{Defines}
+use Rattle.posting_rules.specs.declared.open_fault.BankTable.{BankTable}
+use Rattle.posting_rules.specs.declared.open_fault.OpenFault.{OpenFault}
+use Rattle.posting_rules.specs.declared.open_fault.OpenFault.TheVariants.{OtherTable}
+use Rattle.store_rows.specs.Definitions.{AreMade, IsFirstOther}
 use Rattle.store_rows.specs.Probes.{IsNotUnderstood}
 use Rattle.bank_store.specs.Connections.{IsAsBefore, IsUndoneIfOpen}
 use Rattle.bank_store.specs.declared.presence.Presence.{Presence}
@@ -29,6 +34,12 @@ abbrev pub IsPresent : Database → List (List ℕ × Table) → Presence → Ty
 IsPresent db probes Absent = AllByRecursion (Lacks db) probes
 IsPresent db probes Partial = OneOf probes (IsReadable db) × OneOf probes (Lacks db)
 IsPresent db probes Whole = AllByRecursion (IsReadable db) probes
+
+-- each of these tables is defined as a bank's is made; or this is the first that isn't
+abbrev pub ChecksTables : Schema → List BankTable → Result (Unit {0}) OpenFault → Type 0
+ChecksTables schema tables (Ok done) = AreMade schema tables
+ChecksTables schema tables (Err (OtherTable found)) = IsFirstOther schema tables found
+ChecksTables schema tables (Err _) = ⊥
 
 -- one table is there, or it isn't
 abbrev pub presence_of : Bool → Presence

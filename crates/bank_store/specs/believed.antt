@@ -1,4 +1,5 @@
 pub mod Down
+pub mod FileTables
 pub mod Seen
 pub mod NoneOrAll
 pub mod BankSparing

@@ -13,13 +13,13 @@ ghost use Rattle.bank_store.specs.Seen.{alloc_of};
 ghost use Rattle.bank_store.specs.StoreFaults.{KnowsCause, LooksIn};
 
 use crate::bank::Bank;
-use crate::presence::{Presence, count_tables, tables_there};
+use crate::presence::{Presence, check_tables, count_tables, tables_there};
 use crate::refused::{Refused, unread};
 use bank_transactions::{begin, note_settled};
 use posting_rules::{MAX_DECIDED, OpenFault, Rule};
 use sqlite::{Alter, Connection};
 use std::alloc::Global;
-use store_rows::{BankTable, StoredMeta, VERSION, probe_table, read_meta};
+use store_rows::{AFTER_META, BankTable, StoredMeta, VERSION, probe_table, read_meta};
 use walked_rows::only_meta;
 
 // The row of the bank, if there is one, whatever its numbers. Nothing is written, so the transaction is
@@ -98,7 +98,7 @@ pub(crate) fn check_only<S: Alter>(conn: &mut Connection<S>, version: i64) -> Re
     check_count(&meta)
 }
 
-// Looks for the tables of a bank, and then for the row of `meta`.
+// Looks for the tables of a bank, and for what defines them, and then for the row of `meta`.
 fn find_tables<S: Alter>(conn: &mut Connection<S>) -> Result<(), OpenFault>
     requires mode { conn.old.in_transaction ≡ false }
     requires ours { HasCleanDisk (state S.Store conn.old) → HasNoOtherVersion (state S.Store conn.old) }
@@ -109,10 +109,13 @@ fn find_tables<S: Alter>(conn: &mut Connection<S>) -> Result<(), OpenFault>
     match tables_there(conn)? {
         Presence::Absent => Err(OpenFault::Blank),
         Presence::Partial => Err(OpenFault::Foreign),
-        Presence::Whole => match settled_meta(conn)? {
-            None => Err(OpenFault::Damaged(Rule::Meta)),
-            Some(meta) => check_meta(&meta),
-        },
+        Presence::Whole => {
+            check_tables(conn, AFTER_META)?;
+            match settled_meta(conn)? {
+                None => Err(OpenFault::Damaged(Rule::Meta)),
+                Some(meta) => check_meta(&meta),
+            }
+        }
     }
 }
 
@@ -147,19 +150,21 @@ pub(crate) fn find_bank<S: Alter>(conn: &mut Connection<S>) -> Result<(), OpenFa
 }
 
 /// Takes up the bank that the connection's file has. It reads the row of `meta`, whose version comes first,
-/// and looks for the other tables of a bank, and changes nothing. Other rows are checked by the calls that
-/// meet them.
+/// looks for the other tables of a bank and compares what defines them, and changes nothing. Other rows are checked by
+/// the calls that meet them.
 ///
 /// The connection has to be outside a transaction, as a new one is.
 ///
 /// # Errors
 ///
-/// The connection comes back with each, outside a transaction. The first four say what the file has, and that
+/// The connection comes back with each, outside a transaction. The first five say what the file has, and that
 /// it is as it was.
 ///
 /// - [`OpenFault::Version`]: `meta` is there and has another version, whatever other tables there are.
 /// - [`OpenFault::Blank`]: none of a bank's tables is there.
 /// - [`OpenFault::Foreign`]: some of them are there, and some aren't.
+/// - [`OpenFault::OtherTable`]: this one is defined otherwise than [`create`](crate::create) makes it. An index more
+///   changes no definition.
 /// - [`OpenFault::Damaged`]: the row of `meta` is missing, is out of its range, has a value of another type or
 ///   isn't the only one.
 /// - [`OpenFault::Store`]: a call of `sqlite` failed. Nothing has changed, as long as the store is open. It

@@ -6,6 +6,7 @@ ghost use Rattle.smallvec.specs.SmallVec.{small_vec_len};
 ghost use Rattle.sqlite.specs.State.{Survives};
 ghost use Rattle.sqlite.specs.Held.{state};
 ghost use Rattle.bank_transactions.specs.Memory.{Remembers};
+ghost use Rattle.bank_store.specs.believed.FileTables.{HasFileTables};
 ghost use Rattle.message_records.specs.believed.Spelling.{reply_spelling};
 ghost use Rattle.posting_rules.specs.Branches.{IsNextBranch, IsLineAbove};
 ghost use Rattle.posting_rules.specs.believed.Commands.{Command, Open, Post, opened_with};
@@ -30,7 +31,7 @@ use posting_rules::{
 use sqlite::{Alter, Connection, Error};
 use std::alloc::Global;
 use std::fmt;
-use store_rows::{BankTable, TableFault, other_table, probe_table};
+use store_rows::{BankTable, TableFault, probe_table};
 use walked_rows::{AHEAD, WalkedRow};
 
 // Puts replies after the others, for which there is room.
@@ -51,7 +52,8 @@ fn only_reply(replies: &Replies) -> [u8; REPLY_BYTES]
 
 /// A bank over a connection, with the calls of [`Counter`]. Each call is one transaction, which is committed
 /// before the call answers `Ok` (TPC-B clause 2). Between calls no transaction is open. Amounts are whole
-/// cents, and moments whole seconds since 1970-01-01T00:00:00Z.
+/// cents, and moments whole seconds since 1970-01-01T00:00:00Z. Its file defines the tables of a bank, which is compared
+/// once.
 ///
 /// # After a fault
 ///
@@ -75,6 +77,7 @@ pub struct Bank<S: Alter> {
     fault: Option<TableFault>,
     ghost idle: { conn.in_transaction ≡ false },
     ghost remembers: { ∥ Remembers S.Store conn memory ∥₁ },
+    ghost tables: { ∥ HasFileTables S.Store conn ∥₁ },
 }
 
 impl<S: Alter> Bank<S> {
@@ -86,7 +89,8 @@ impl<S: Alter> Bank<S> {
 
     // The bank over a connection whose tables were made or checked.
     pub(crate) fn over(alloc: Global, conn: Connection<S>) -> Self
-        requires { conn.in_transaction ≡ false }
+        requires idle { conn.in_transaction ≡ false }
+        requires tables { HasFileTables S.Store conn }
         ensures conn { result.conn ≡ conn }
         ensures up { result.fault ≡ None }
         ensures alloc { result.alloc ≡ alloc }
@@ -161,11 +165,10 @@ impl<S: Alter> Bank<S> {
     ghost use Rattle.std.specs.Prelude.{◌++◌, filter, is_some, map, MatchResult};
     ghost use Rattle.sqlite.specs.State.{HasCleanDisk};
     ghost use Rattle.sql_meanings.specs.StatementAnswers.{IsStoreError};
-    ghost use Rattle.store_rows.specs.Definitions.{IsOtherTable};
     ghost use Rattle.walked_rows.specs.StepOutcomes.{BreaksFirst};
     ghost use Rattle.walked_rows.specs.Rising.{RisesFrom};
     ghost use Rattle.walked_rows.specs.Rows.{items_after, items_from};
-    ghost use Rattle.bank_store.specs.believed.Seen.{database_of};
+    ghost use Rattle.bank_store.specs.believed.Seen.{connection_of};
     ghost use Rattle.bank_store.specs.Seen.{alloc_of};
     ghost use Rattle.bank_store.specs.Walks.{IsStill, IsUntouchedIfOpen};
 
@@ -177,13 +180,11 @@ impl<S: Alter> Bank<S> {
         self.fault.is_some()
     }
 
-    /// The first of its tables that the file defines otherwise than [`create`](crate::create) makes it, none where it
-    /// defines each so. Only there is a batch tried before its requests are looked up.
-    #[must_use]
-    pub fn other_table(&self) -> Option<BankTable>
-        ensures { IsOtherTable (database_of S.Store self.now).schema result }
+    /// A hook for proofs, with no effect at run time: a bank's file defines the tables of a bank. That was compared as it
+    /// was made or taken up, and no call changes a definition.
+    pub fn tables_law(&self)
+        ensures { HasFileTables S.Store (connection_of self.now) }
     {
-        other_table(&self.conn)
     }
 
     /// The allocator that the bank was made or taken up with.
@@ -281,8 +282,8 @@ impl<S: Alter + Drop> Counter for Bank<S> {
             (λ log out. out ≡ reply_spelling (reply log bytes.now)) }
         ensures call { IsBankCall S.Store self.old self.new (Post moment bytes.now ∷ []) result }
         ensures frugal { result ≢ Err fault.Memory }
-        // Whatever rows the file holds, and whatever tables it has: a request that is kept changes nothing, and of one
-        // that is new all that is due is written, and nothing else; a crash leaves all of that or nothing.
+        // Whatever rows the file holds: a request that is kept changes nothing, and of one that is new all that is due
+        // is written, and nothing else; a crash leaves all of that or nothing.
         ensures stored { OnAnyRows S.Store self.old self.new (λ out. (r : RequestFields) → request_of bytes.now ≡ Ok r
             → AnswersOne (database_of S.Store self.old) (database_of S.Store self.new) moment bytes.now r out)
             (KeepsWhole (database_of S.Store self.old) moment (bytes.now ∷ [])) result }
@@ -292,8 +293,8 @@ impl<S: Alter + Drop> Counter for Bank<S> {
         ensures malformed { ((bank_seen S.Store self.old).is_down → ⊥) → (bad : Bad)
             → request_of bytes.now ≡ Err bad
             → (result ≡ Ok (reply_spelling malformed_reply)) × (self.new ≡ self.old) }
-        // A key that is taken is the next ordinal's, unless the file has no bank's tables. Where that ordinal is free,
-        // the rows that the file held break the rule, and a crash leaves all of the posting or nothing.
+        // A key that is taken is the next ordinal's. Where that ordinal is free, the rows that the file held break the
+        // rule, and a crash leaves all of the posting or nothing.
         ensures own { IfErr result (RefusesRecords S.Store moment (bytes.now ∷ []) self.old self.new) }
         ensures spares { SparesOtherTables S.Store self.old self.new }
     {
@@ -336,14 +337,13 @@ impl<S: Alter + Drop> Counter for Bank<S> {
         // a crash leaves.
         ensures leaves { IfOk result (λ replies. LeavesAll S.Store self.old self.new moment records.now
             replies.items) }
-        // Whatever rows the file holds, and whatever tables it has: records that are all kept change nothing, and of the
-        // others all that is due is written, and nothing else; a crash leaves all of that or nothing.
+        // Whatever rows the file holds: records that are all kept change nothing, and of the others all that is due is
+        // written, and nothing else; a crash leaves all of that or nothing.
         ensures stored { OnAnyRows S.Store self.old self.new (λ replies. AnswersAll (database_of S.Store self.old)
             (database_of S.Store self.new) moment records.now replies.items)
             (KeepsWhole (database_of S.Store self.old) moment records.now) result }
-        // A key that is taken is one of the next ordinals', at most one a record, unless the file has no bank's
-        // tables. Where those are free, the rows that the file held break the rule, and a crash leaves all of the
-        // batch or nothing.
+        // A key that is taken is one of the next ordinals', at most one a record. Where those are free, the rows that
+        // the file held break the rule, and a crash leaves all of the batch or nothing.
         ensures own { IfErr result (RefusesRecords S.Store moment records.now self.old self.new) }
         ensures spares { SparesOtherTables S.Store self.old self.new }
     {
@@ -383,9 +383,9 @@ impl<S: Alter + Drop> Counter for Bank<S> {
         ensures stored { OnAnyRows S.Store self.old self.new (OpensAll (database_of S.Store self.old)
             (database_of S.Store self.new) branch (opened_with count floor))
             (KeepsOpening (database_of S.Store self.old) branch (opened_with count floor)) result }
-        // A key that is taken is the branch's own, one of its tellers', of its accounts' or its floor's, unless the
-        // file has no bank's tables. It changes no row that is there, so that none can be missing. Where those keys
-        // are free, the rows that the file held break the rule, and a crash leaves all of the branch or nothing.
+        // A key that is taken is the branch's own, one of its tellers', of its accounts' or its floor's. It changes no
+        // row that is there, so that none can be missing. Where those keys are free, the rows that the file held break
+        // the rule, and a crash leaves all of the branch or nothing.
         ensures own { IfErr result (RefusesOpening S.Store branch (opened_with count floor) self.old self.new) }
         ensures spares { SparesOtherTables S.Store self.old self.new }
     {

@@ -15,7 +15,7 @@ ghost use Rattle.bank_store.specs.StoreFaults.{IsOpenCall, KnowsCause, LooksIn};
 
 use crate::adoption::{check_count, check_only, find_bank, settled_meta};
 use crate::bank::Bank;
-use crate::presence::{Presence, count_tables};
+use crate::presence::{Presence, check_tables, count_tables};
 use crate::refused::{Refused, unmoved};
 use bank_transactions::{begin, note_settled};
 use posting_rules::{OpenFault, Rule};
@@ -107,7 +107,7 @@ fn after_meta(from: u64) -> &'static [BankTable]
     &AFTER_META[..4 + from as usize]
 }
 
-// Looks for the tables of a bank of that version, and then for its count of requests.
+// Looks for the tables of a bank of that version and for what defines them, and then for its count of requests.
 fn find_earlier<S: Alter>(conn: &mut Connection<S>, from: u64) -> Result<(), OpenFault>
     requires mode { conn.old.in_transaction ≡ false }
     requires earlier { IsEarlier from }
@@ -118,6 +118,7 @@ fn find_earlier<S: Alter>(conn: &mut Connection<S>, from: u64) -> Result<(), Ope
     let Presence::Whole = count_tables(conn, BankTable::Meta, after_meta(from))? else {
         return Err(OpenFault::Foreign);
     };
+    check_tables(conn, after_meta(from))?;
     match settled_meta(conn)? {
         None => Err(OpenFault::Damaged(Rule::Meta)),
         Some(meta) => check_count(&meta),
@@ -174,6 +175,7 @@ fn find_or_move<S: Alter>(conn: &mut Connection<S>) -> Result<Migrated, OpenFaul
 /// - [`OpenFault::Blank`]: none of a bank's tables is there.
 /// - [`OpenFault::Foreign`]: some of the tables of its version are there, and some aren't; or one that the version
 ///   lacked can't be made, as where something else has its name.
+/// - [`OpenFault::OtherTable`]: this table of its version is defined otherwise than that version made it.
 /// - [`OpenFault::Damaged`]: the row of `meta` is missing, is out of its range, has a value of another type or
 ///   isn't the only one.
 /// - [`OpenFault::Store`]: a call of `sqlite` failed. Nothing has changed, as long as the store is open.

@@ -2,14 +2,15 @@
 ghost use Rattle.std.specs.Prelude.{◌≡◌, ◌∷◌, IfErr, false, map};
 ghost use Rattle.sqlite.specs.State.{HasCleanDisk};
 ghost use Rattle.sqlite.specs.Held.{state};
+ghost use Rattle.posting_rules.specs.declared.open_fault.BankTable.TheVariants.{Meta};
 ghost use Rattle.store_rows.specs.Probes.{all_probes, probe_of};
 ghost use Rattle.bank_store.specs.StoreFaults.{LooksIn};
-ghost use Rattle.bank_store.specs.TablePresence.{joined, presence_of, TellsPresence};
+ghost use Rattle.bank_store.specs.TablePresence.{ChecksTables, joined, presence_of, TellsPresence};
 
 use bank_transactions::note_settled;
 use posting_rules::OpenFault;
 use sqlite::{Alter, Connection};
-use store_rows::{AFTER_META, BankTable, probe_table};
+use store_rows::{AFTER_META, BankTable, other_table, probe_table};
 
 /// How many of some tables are there.
 #[derive(Clone, Copy)]
@@ -65,6 +66,19 @@ pub(crate) fn count_tables<S: Alter>(
         there = there.and(Presence::of(is_there));
     }
     Ok(there)
+}
+
+/// Whether `meta` and others of a bank's tables are defined as a bank's are made.
+pub(crate) fn check_tables<S: Alter>(
+    conn: &Connection<S>,
+    others: &[BankTable],
+) -> Result<(), OpenFault>
+    ensures { ChecksTables (state S.Store conn.now).now.schema (Meta ∷ others.now) result }
+{
+    match other_table(conn, others) {
+        Some(table) => Err(OpenFault::OtherTable(table)),
+        None => Ok(()),
+    }
 }
 
 /// How many of a bank's tables are there.

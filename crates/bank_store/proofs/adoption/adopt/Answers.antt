@@ -1,11 +1,20 @@
 -- What the found bank shows is what was shown. A bank that shows a log is missed only where the store failed.
 use Rattle.std.proofs.Common.{sym, subst}
 use Rattle.std.specs.Prelude.{IsSome}
-use Rattle.sqlite.specs.{State.HasCleanDisk, State.Survives, Held.state}
+use Rattle.sqlite.specs.{Effect.Database, State.HasCleanDisk, State.Survives, Held.state}
+use Rattle.store_rows.specs.believed.BankTables.{HasBankTables}
 use Rattle.bank_store.specs.FoundBank.{BankIsFound}
 use Rattle.bank_store.proofs.{FoundBank.known, Settled.as_it_was, Settled.undone_if_open}
 use Rattle.bank_store.proofs.TakenUp.{still_left, taken_up}
 use Rattle.bank_store.proofs.adoption.adopt.Goals as goal
+
+pub over-requires : goal.over-requires
+over-requires g c = record {
+  idle = c.in-Ok.ensures.looks.mode;
+  tables = λ clean is_open.
+      let there = (c.in-Ok.ensures.answers clean).there in
+      subst (λ (db : Database). HasBankTables db.schema) (sym there.same.now_is) there.made;
+}
 
 pub returns-in-Ok : goal.returns-in-Ok
 returns-in-Ok g c =

@@ -5,7 +5,8 @@ use mir.Val.{to_z, of_z}
 use mir.Syntax.{w64}
 use Rattle.bank_store.specs.{Connections.IsAsBefore, FoundBank.LooksAtVersion, TablePresence.IsPresent}
 use Rattle.bank_store.specs.{StoreFaults.KnowsCause, declared.presence.Presence.Presence}
-use Rattle.store_rows.specs.{Probes.probe_of, declared.probes.BankTable.TheVariants.Meta}
+use Rattle.store_rows.specs.Probes.{probe_of}
+use Rattle.posting_rules.specs.declared.open_fault.BankTable.TheVariants.{Meta}
 use Rattle.posting_rules.specs.declared.open_fault.OpenFault.{OpenFault, TheVariants.Store}
 use Rattle.bank_store.proofs.{Causes.looks_then, Causes.still_clean, FoundBank.other_read}
 use Rattle.bank_store.proofs.FoundBank.{no_other_read, no_version, not_of_ours}

@@ -1,7 +1,8 @@
 -- What the row tells, as long as the store still answers; and why it is told to have failed.
 use Rattle.std.proofs.Common.{refl, sym, ◌∙◌, inl}
 use Rattle.sqlite.specs.Held.{state}
-use Rattle.store_rows.specs.{Probes.probe_of, declared.probes.BankTable.TheVariants.Meta}
+use Rattle.store_rows.specs.Probes.{probe_of}
+use Rattle.posting_rules.specs.declared.open_fault.BankTable.TheVariants.{Meta}
 use Rattle.bank_store.proofs.Causes.{fails_then, still_answers, still_clean}
 use Rattle.bank_store.proofs.{Probed.as_before, Probed.probed, Settled.back, Settled.read_only}
 use Rattle.bank_store.proofs.adoption.settled_meta.Goals as goal

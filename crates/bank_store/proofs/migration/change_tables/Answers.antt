@@ -38,7 +38,7 @@ returns-in-Ok-true-clause-says g c =
           let before = still_clean two.survives clean in
           let shows = one.leaves before live in
           let set = two.answers clean shows.mode in
-          moved c.args.from (s old) (s mid) (s new) (one.answers before live).0 (rw c.in-Ok-true.field-0-test at set)
+          moved c.args.from c.requires (s old) (s mid) (s new) (one.answers before live).0 (rw c.in-Ok-true.field-0-test at set)
           (two.leaves clean shows.mode).1;
       leaves = λ clean live.
           let shows = one.leaves (still_clean two.survives clean) live in
@@ -60,7 +60,7 @@ returns-in-Ok-false-clause-says g c =
           let before = still_clean two.survives clean in
           let shows = one.leaves before live in
           let set = two.answers clean shows.mode in
-          not_there c.args.from (s old) (s mid) (s new) (one.answers before live).0 (rw c.in-Ok-false.field-0-test at set);
+          not_there c.args.from c.requires (s old) (s mid) (s new) (one.answers before live).0 (rw c.in-Ok-false.field-0-test at set);
       leaves = λ clean live.
           let shows = one.leaves (still_clean two.survives clean) live in
           commits_nothing (s old) (s new)

@@ -1,18 +1,28 @@
 -- What is found of a bank of an earlier version.
-use Rattle.std.proofs.Common.{◌≡◌, ◌+◌, ℕ, List, ◌∷◌, map, take, drop, Err, rules, refl, sym, ◌∙◌, ap, subst}
-use Rattle.sqlite.specs.{Held.state, State.State}
+use Rattle.std.proofs.Common.{◌≡◌, ◌+◌, ℕ, List, ◌∷◌, map, take, drop, Ok, Err, Result, rules, refl, sym, ◌∙◌, ap, subst}
+use Rattle.sqlite.specs.{Held.state, Schema.Schema, State.State}
 use Rattle.posting_rules.specs.declared.open_fault.OpenFault.{OpenFault}
 use Rattle.posting_rules.specs.declared.open_fault.OpenFault.TheVariants.{Damaged}
 use Rattle.posting_rules.specs.declared.fault.Rule.TheVariants as rule
-use Rattle.store_rows.specs.{Probes.all_tables, Probes.probe_of, declared.probes.BankTable.BankTable}
-use Rattle.store_rows.specs.declared.probes.BankTable.TheVariants as table
+use Rattle.store_rows.specs.{Probes.all_tables, Probes.probe_of}
+use Rattle.posting_rules.specs.declared.open_fault.BankTable.{BankTable}
+use Rattle.posting_rules.specs.declared.open_fault.BankTable.TheVariants as table
 use Rattle.bank_store.specs.{Connections.IsAsBefore, TablePresence.IsPresent, declared.presence.Presence.Presence}
+use Rattle.bank_store.specs.TablePresence.{ChecksTables}
 use Rattle.bank_store.specs.declared.presence.Presence.TheVariants.{Whole}
 use Rattle.bank_store.specs.Migration.{MissesEarlier, SeeksEarlier, earlier_probes}
-use Rattle.bank_store.proofs.Causes.{count_known, looks_then, still_clean}
+use Rattle.bank_store.proofs.Causes.{count_known, looks_then, other_known, still_clean}
 use Rattle.bank_store.proofs.FoundBank.{missed}
-use Rattle.bank_store.proofs.FoundEarlier.{counted, meta_first, missing, some_lacking}
+use Rattle.bank_store.proofs.FoundEarlier.{counted, meta_first, missing, not_made, one_and, some_lacking}
 use Rattle.bank_store.proofs.migration.find_earlier.Goals as goal
+
+-- what was checked of them
+earlier_checks : (from : ℕ) (others : List BankTable) (schema : Schema) (r : Result (Unit {0}) OpenFault)
+    → others ≡ take (4 + from) (drop 1 all_tables) → ChecksTables schema (table.Meta ∷ others) r
+    → ChecksTables schema (take (5 + from) all_tables) r
+earlier_checks from others schema r is =
+    subst (λ tables. ChecksTables schema tables r)
+    (ap (λ others. table.Meta ∷ others) is ∙ ap (λ n. take n all_tables) (one_and from))
 
 -- how many there are of them
 of_earlier : (from : ℕ) (others : List BankTable) (old mid : State) (p q : Presence) → p ≡ q
@@ -61,6 +71,28 @@ returns-in_default g c =
       looks = record { cause = tt; mode = there.looks.mode; survives = there.looks.survives };
     }
 
+pub returns-in_err-check_tables : goal.returns-in_err-check_tables
+returns-in_err-check_tables g c =
+    let old = state g.S.Store c.args.conn.now in
+    let new = state g.S.Store c.count_tables.new.conn in
+    let seen = c.count_tables.ensures.looks in
+    let e = c.in_err-check_tables in
+    let is : c.from_residual-in_err-check_tables.result ≡ Err e.field-0.0 = search rules in
+    let checks = earlier_checks c.args.from c.after_meta-2.result.now new.now.schema (Err e.field-0.0)
+    c.after_meta-2.ensures e.ensures in
+    rw is (record {
+      answers = λ clean.
+          let there = of_earlier c.args.from c.after_meta.result.now old new _ Whole c.in-Whole.is c.after_meta.ensures
+          (c.in_ok-count_tables.ensures.answers clean) in
+          not_made c.args.from old new there.0 there.1 e.field-0.0 checks;
+      looks = record {
+        cause = other_known g.S.Store c.args.conn.now c.count_tables.new.conn new.now.schema
+            (table.Meta ∷ c.after_meta-2.result.now) e.field-0.0 e.ensures;
+        mode = seen.mode;
+        survives = seen.survives;
+      };
+    })
+
 pub returns-in_err-settled_meta : goal.returns-in_err-settled_meta
 returns-in_err-settled_meta g c =
     let old = state g.S.Store c.args.conn.now in
@@ -85,12 +117,14 @@ returns-in-None g c =
     let old = state g.S.Store c.args.conn.now in
     let mid = state g.S.Store c.count_tables.new.conn in
     let new = state g.S.Store c.settled_meta.new.conn in
+    let checked = earlier_checks c.args.from c.after_meta-2.result.now mid.now.schema (Ok c.in_ok-check_tables.field-0)
+    c.after_meta-2.ensures c.in_ok-check_tables.ensures in
     let read = c.in_ok-settled_meta.ensures in
     record {
       answers = λ clean.
           let there = of_earlier c.args.from c.after_meta.result.now old mid _ Whole c.in-Whole.is c.after_meta.ensures
           (c.in_ok-count_tables.ensures.answers (still_clean read.looks.survives clean)) in
-          missing c.args.from old mid new there.0 there.1 (read.same clean)
+          missing c.args.from old mid new there.0 there.1 checked (read.same clean)
           (λ rows has. sym c.in-None.is ∙ read.reads.answers clean rows has);
       looks =
           looks_then g.S.Store c.args.conn.now c.count_tables.new.conn c.settled_meta.new.conn c.settled_meta.result
@@ -102,13 +136,15 @@ returns-in-Some g c =
     let old = state g.S.Store c.args.conn.now in
     let mid = state g.S.Store c.count_tables.new.conn in
     let new = state g.S.Store c.settled_meta.new.conn in
+    let checked = earlier_checks c.args.from c.after_meta-2.result.now mid.now.schema (Ok c.in_ok-check_tables.field-0)
+    c.after_meta-2.ensures c.in_ok-check_tables.ensures in
     let read = c.in_ok-settled_meta.ensures in
     let meta = c.in-Some.meta in
     record {
       answers = λ clean.
           let there = of_earlier c.args.from c.after_meta.result.now old mid _ Whole c.in-Whole.is c.after_meta.ensures
           (c.in_ok-count_tables.ensures.answers (still_clean read.looks.survives clean)) in
-          counted c.args.from old mid new there.0 there.1 (read.same clean) meta
+          counted c.args.from old mid new there.0 there.1 checked (read.same clean) meta
           (λ rows has. sym c.in-Some.is ∙ read.reads.answers clean rows has) c.check_count.result c.check_count.ensures;
       looks =
           looks_then g.S.Store c.args.conn.now c.count_tables.new.conn c.settled_meta.new.conn c.settled_meta.result

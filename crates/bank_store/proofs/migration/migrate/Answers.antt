@@ -2,9 +2,17 @@
 use Rattle.std.proofs.Common.{Ok, sym, subst}
 use Rattle.sqlite.specs.{State.HasCleanDisk, State.Survives, Held.state}
 use Rattle.bank_store.specs.Migration.{HasCarriedOver, Migrates}
-use Rattle.bank_store.proofs.CarriedOver.{is_migrated, knows_migrated, knows_refused, leaves_bank}
+use Rattle.bank_store.proofs.CarriedOver.{has_tables, is_migrated, knows_migrated, knows_refused, leaves_bank}
 use Rattle.bank_store.proofs.Settled.{as_it_was, undone_if_open}
 use Rattle.bank_store.proofs.migration.migrate.Goals as goal
+
+pub over-requires : goal.over-requires
+over-requires g c = record {
+  idle = c.in-Ok.ensures.call.mode;
+  tables = λ clean is_open.
+      has_tables (state g.S.Store c.args.conn) (state g.S.Store c.find_or_move.new.conn) c.in-Ok.migrated
+      c.in-Ok.ensures.from (c.in-Ok.ensures.answers clean);
+}
 
 pub returns-in-Ok-clause-migrated : goal.returns-in-Ok-clause-migrated
 returns-in-Ok-clause-migrated g c =

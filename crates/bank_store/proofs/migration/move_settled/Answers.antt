@@ -2,7 +2,8 @@
 -- failed.
 use Rattle.std.proofs.Common.{Err, sym, ◌∙◌}
 use Rattle.sqlite.specs.Held.{state}
-use Rattle.store_rows.specs.{Probes.probe_of, declared.probes.BankTable.TheVariants.Meta}
+use Rattle.store_rows.specs.Probes.{probe_of}
+use Rattle.posting_rules.specs.declared.open_fault.BankTable.TheVariants.{Meta}
 use Rattle.bank_store.specs.Migration.{HasMoved}
 use Rattle.bank_store.proofs.Causes.{fails_then, still_answers, still_clean}
 use Rattle.bank_store.proofs.{Probed.as_before, Probed.probed, Settled.back, Settled.read_only}

@@ -6,8 +6,15 @@ use Rattle.sqlite.specs.{State.HasCleanDisk, State.Survives, Held.state}
 use Rattle.store_rows.specs.{Creation.HasNewBank, Probes.all_probes}
 use Rattle.bank_store.specs.{NewBank.BankIsMade, TablePresence.IsPresent}
 use Rattle.bank_store.specs.{declared.presence.Presence.TheVariants.Absent}
-use Rattle.bank_store.proofs.{FoundBank.no_bank, MadeTables.as_made, Unmade.not_taken, NewBank.stands_empty}
+use Rattle.bank_store.proofs.{FoundBank.no_bank, Unmade.not_taken, NewBank.stands_empty}
+use Rattle.store_rows.proofs.BankTables.{shown_tables}
 use Rattle.bank_store.proofs.new_bank.create.Goals as goal
+
+pub over-requires : goal.over-requires
+over-requires g c = record {
+  idle = c.in-Ok.ensures.makes.mode;
+  tables = λ clean is_open. shown_tables _ _ (c.in-Ok.ensures.makes.made clean).shows;
+}
 
 pub returns-in-Ok : goal.returns-in-Ok
 returns-in-Ok g c =
@@ -30,7 +37,6 @@ returns-in-Ok g c =
         blank = blank;
         new = λ clean t. no_bank old.now t (blank clean);
         up = up;
-        made = λ clean empty. as_made old.now new.now empty (made clean).alone (made clean).shows;
       };
       alloc = c.over.ensures.alloc;
       fault = tt;

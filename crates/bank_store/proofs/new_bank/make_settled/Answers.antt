@@ -3,7 +3,8 @@
 use Rattle.std.proofs.Common.{refl, sym, ◌∙◌, inl}
 use Rattle.sqlite.specs.Held.{state}
 use Rattle.sqlite.proofs.StateLemmas.{survives_then}
-use Rattle.store_rows.specs.{Creation.HasNewBank, Probes.probe_of, declared.probes.BankTable.TheVariants.Meta}
+use Rattle.store_rows.specs.{Creation.HasNewBank, Probes.probe_of}
+use Rattle.posting_rules.specs.declared.open_fault.BankTable.TheVariants.{Meta}
 use Rattle.bank_transactions.proofs.Blamed.{comes, same_moment}
 use Rattle.posting_rules.specs.declared.open_fault.OpenFault.TheVariants.{Store}
 use Rattle.bank_store.proofs.Causes.{known_within, probe_failed, still_clean, unmade_as_known, unmade_within}

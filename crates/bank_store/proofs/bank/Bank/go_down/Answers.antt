@@ -2,7 +2,7 @@
 use Rattle.std.proofs.Common.{◌∙◌, refl, sym, inl, inr}
 use Rattle.sqlite.specs.Held.{state}
 use Rattle.bank_transactions.proofs.Remembered.{blank}
-use Rattle.bank_store.proofs.{AsFound.idle_as_found, OtherTables.probe_unchanged, Settled.back, StepsKeep.untouched}
+use Rattle.bank_store.proofs.{AsFound.idle_as_found, FileTables.tables_read, OtherTables.probe_unchanged, Settled.back, StepsKeep.untouched}
 use Rattle.bank_store.proofs.bank.Bank.go_down.Goals as goal
 
 pub note_settled-requires : goal.note_settled-requires
@@ -45,16 +45,26 @@ pub invariant_of-self : goal.invariant_of-self
 invariant_of-self g c = record {
   idle = c.args.self.now.idle;
   remembers = blank g.S.Store c.args.self.now.conn c.forget.new.self c.forget.ensures.blank;
+  tables = c.args.self.now.tables;
 }
 
 pub invariant_of-self-in-Ok : goal.invariant_of-self-in-Ok
 invariant_of-self-in-Ok g c = record {
   idle = c.in-Ok.ensures.mode c.args.self.now.idle;
   remembers = blank g.S.Store c.probe_table.new.conn c.forget.new.self c.forget.ensures.blank;
+  tables = tables_read g.S.Store c.args.self.now.conn c.probe_table.new.conn c.in-Ok.ensures.survives
+      (λ clean still. (probe_unchanged (state g.S.Store c.args.self.now.conn) (state g.S.Store c.probe_table.new.conn) _ _
+      (c.in-Ok.ensures.answers clean)).0) c.args.self.now.tables;
 }
 
 pub invariant_of-self-in-Err : goal.invariant_of-self-in-Err
-invariant_of-self-in-Err g c = record {
+invariant_of-self-in-Err g c =
+    let old = state g.S.Store c.args.self.now.conn in
+    let idle = c.args.self.now.idle in
+    record {
   idle = c.in-Err.ensures.mode c.args.self.now.idle;
   remembers = blank g.S.Store c.probe_table.new.conn c.forget.new.self c.forget.ensures.blank;
+  tables = tables_read g.S.Store c.args.self.now.conn c.probe_table.new.conn c.in-Err.ensures.survives
+      (λ clean. back old old (state g.S.Store c.probe_table.new.conn) c.in-Err.e c.note_settled.ensures (untouched old)
+      (c.in-Err.ensures.mode idle ∙ sym idle) (c.in-Err.ensures.answers clean)) c.args.self.now.tables;
 }

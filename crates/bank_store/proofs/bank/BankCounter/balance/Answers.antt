@@ -8,6 +8,7 @@ use Rattle.bank_store.proofs.OtherTables.{spares_done, spares_down, spares_untou
 use Rattle.bank_store.proofs.Refusing.{committed_call, consult_refused, is_up, refused_call, untried_call, Refusal}
 use Rattle.bank_transactions.specs.Causes.{IsFirstBroken}
 use Rattle.bank_transactions.proofs.Remembered.{blank}
+use Rattle.bank_store.proofs.FileTables.{tables_kept}
 use Rattle.bank_store.proofs.bank.BankCounter.balance.Goals as goal
 
 -- what its refusal says
@@ -26,6 +27,8 @@ pub invariant_of-self : goal.invariant_of-self
 invariant_of-self g c = record {
   idle = c.read_balance.ensures.says.mode;
   remembers = blank g.S.Store c.read_balance.new.conn c.forget.new.self c.forget.ensures.blank;
+  tables = tables_kept g.S.Store c.args.self.now.conn c.read_balance.new.conn c.read_balance.result c.read_balance.ensures.says.spares
+      c.read_balance.ensures.undone c.args.self.now.tables;
 }
 
 pub returns-in-Ok : goal.returns-in-Ok

@@ -11,6 +11,7 @@ use Rattle.bank_store.proofs.Refusing.{committed_call, breaks_opening, is_up, re
 use Rattle.bank_store.proofs.{Either.either_after, Either.either_opened, Either.untried_opening}
 use Rattle.bank_store.proofs.Refusing.{untried_call, Refusal}
 use Rattle.bank_transactions.proofs.Remembered.{blank}
+use Rattle.bank_store.proofs.FileTables.{tables_kept}
 use Rattle.bank_transactions.specs.{believed.Additions.AddsBranch, believed.Causes.IsBrokenOrMet}
 use Rattle.bank_store.proofs.bank.BankCounter.open_branch.Goals as goal
 
@@ -43,6 +44,8 @@ pub invariant_of-self : goal.invariant_of-self
 invariant_of-self g c = record {
   idle = c.open_branch.ensures.transacts.mode;
   remembers = blank g.S.Store c.open_branch.new.conn c.forget.new.self c.forget.ensures.blank;
+  tables = tables_kept g.S.Store c.args.self.now.conn c.open_branch.new.conn c.open_branch.result c.open_branch.ensures.transacts.spares
+      c.open_branch.ensures.undone c.args.self.now.tables;
 }
 
 pub returns-in-Ok : goal.returns-in-Ok

@@ -15,6 +15,7 @@ use Rattle.bank_store.specs.believed.Seen.{bank_seen, database_of}
 use Rattle.posting_rules.proofs.{Calls.IsChange, Records.all_replies, Records.posts_all}
 use Rattle.posting_rules.proofs.TablesWithRecord.{malformed_shown}
 use Rattle.bank_store.proofs.{AsFound.down_keeps, AsFound.idle_keeps, Countered.of_logs, Countered.takes_untried}
+use Rattle.bank_store.proofs.FileTables.{tables_kept}
 use Rattle.bank_store.proofs.OtherTables.{spares_done, spares_down, spares_untouched}
 use Rattle.bank_store.proofs.ByTables.{leaves_malformed, leaves_request}
 use Rattle.bank_store.proofs.{Broke.breaks_shown, Either.either_after, Either.untried_records}
@@ -41,13 +42,25 @@ pub invariant_of-self : goal.invariant_of-self
 invariant_of-self g c =
     let read : request_of c.args.bytes.now ≡ Ok c.in-Ok.request = sym c.in-Ok.ensures.exact in
     let says = c.post_looked_up.ensures.says (c.args.bytes.now ∷ []) (c.of_one-batch.ensures c.args.bytes.now read) in
-    record { idle = says.mode; remembers = c.in-Ok-post_looked_up.ensures.remembers }
+    record {
+      idle = says.mode;
+      remembers = c.in-Ok-post_looked_up.ensures.remembers;
+      tables = tables_kept g.S.Store c.args.self.now.conn c.post_looked_up.new.conn _ says.spares
+          (c.post_looked_up.ensures.undone (c.args.bytes.now ∷ [])
+          (c.of_one-batch.ensures c.args.bytes.now read)) c.args.self.now.tables;
+    }
 
 pub invariant_of-self-in-Err-post_looked_up : goal.invariant_of-self-in-Err-post_looked_up
 invariant_of-self-in-Err-post_looked_up g c =
     let read : request_of c.args.bytes.now ≡ Ok c.in-Ok.request = sym c.in-Ok.ensures.exact in
     let says = c.post_looked_up.ensures.says (c.args.bytes.now ∷ []) (c.of_one-batch.ensures c.args.bytes.now read) in
-    record { idle = says.mode; remembers = blank g.S.Store c.post_looked_up.new.conn c.take-memory.new.self c.take-memory.ensures.blank }
+    record {
+      idle = says.mode;
+      remembers = blank g.S.Store c.post_looked_up.new.conn c.take-memory.new.self c.take-memory.ensures.blank;
+      tables = tables_kept g.S.Store c.args.self.now.conn c.post_looked_up.new.conn _ says.spares
+          (c.post_looked_up.ensures.undone (c.args.bytes.now ∷ [])
+          (c.of_one-batch.ensures c.args.bytes.now read)) c.args.self.now.tables;
+    }
 
 pub post_looked_up-requires : goal.post_looked_up-requires
 post_looked_up-requires g c = record {

@@ -19,6 +19,7 @@ use Rattle.bank_store.specs.Seen.{fault_of}
 use Rattle.bank_store.proofs.Refusing.{Refusal}
 use Rattle.bank_transactions.specs.believed.{Additions.AddsForRecords, Answered.AnswersAll, Causes.IsBrokenOrMet}
 use Rattle.bank_transactions.proofs.Remembered.{blank}
+use Rattle.bank_store.proofs.FileTables.{tables_kept}
 use Rattle.bank_store.proofs.bank.BankCounter.submit_all.Goals as goal
 
 pub new-requires : goal.new-requires
@@ -34,12 +35,18 @@ pub invariant_of-self : goal.invariant_of-self
 invariant_of-self g c = record {
   idle = (c.post_all.ensures.says c.args.records.now c.in_ok-batch.ensures.made).mode;
   remembers = c.in-Ok.ensures.remembers;
+  tables = tables_kept g.S.Store c.args.self.now.conn c.post_all.new.conn _
+      (c.post_all.ensures.says c.args.records.now c.in_ok-batch.ensures.made).spares
+      (c.post_all.ensures.undone c.args.records.now c.in_ok-batch.ensures.made) c.args.self.now.tables;
 }
 
 pub invariant_of-self-in-Err-1 : goal.invariant_of-self-in-Err-1
 invariant_of-self-in-Err-1 g c = record {
   idle = (c.post_all.ensures.says c.args.records.now c.in_ok-batch.ensures.made).mode;
   remembers = blank g.S.Store c.post_all.new.conn c.take-memory.new.self c.take-memory.ensures.blank;
+  tables = tables_kept g.S.Store c.args.self.now.conn c.post_all.new.conn _
+      (c.post_all.ensures.says c.args.records.now c.in_ok-batch.ensures.made).spares
+      (c.post_all.ensures.undone c.args.records.now c.in_ok-batch.ensures.made) c.args.self.now.tables;
 }
 
 pub put_replies-requires : goal.put_replies-requires

@@ -15,6 +15,7 @@ use Rattle.bank_store.proofs.Refusing.{answered_call, committed_call, consult_re
 use Rattle.bank_store.proofs.Refusing.{spared_call, untried_call}
 use Rattle.posting_rules.specs.declared.fault.Fault.TheVariants.{Down}
 use Rattle.bank_transactions.proofs.Remembered.{blank}
+use Rattle.bank_store.proofs.FileTables.{tables_kept}
 use Rattle.bank_store.proofs.EntriesGiven.{beyond_given, enough_given, fewer_given}
 use Rattle.bank_store.proofs.followed.BankFollowed.entries_after.Goals as goal
 
@@ -25,6 +26,8 @@ pub invariant_of-self : goal.invariant_of-self
 invariant_of-self g c = record {
   idle = c.read_log.ensures.says.mode;
   remembers = blank g.S.Store c.read_log.new.conn c.forget.new.self c.forget.ensures.blank;
+  tables = tables_kept g.S.Store c.args.self.now.conn c.read_log.new.conn c.read_log.result c.read_log.ensures.says.spares
+      c.read_log.ensures.undone c.args.self.now.tables;
 }
 
 pub read_log-requires : goal.read_log-requires

@@ -10,6 +10,7 @@ use Rattle.bank_store.proofs.{AsFound.idle_reads, AsFound.reads_done, AsFound.re
 use Rattle.bank_store.proofs.OtherTables.{spares_done, spares_down, spares_untouched}
 use Rattle.bank_store.proofs.Refusing.{committed_call, consult_refused, is_up, refused_call, untried_call}
 use Rattle.bank_transactions.proofs.Remembered.{blank}
+use Rattle.bank_store.proofs.FileTables.{tables_kept}
 use Rattle.bank_store.proofs.followed.BankFollowed.teller_balance.Goals as goal
 
 pub read_teller-requires : goal.read_teller-requires
@@ -19,6 +20,8 @@ pub invariant_of-self : goal.invariant_of-self
 invariant_of-self g c = record {
   idle = c.read_teller.ensures.says.mode;
   remembers = blank g.S.Store c.read_teller.new.conn c.forget.new.self c.forget.ensures.blank;
+  tables = tables_kept g.S.Store c.args.self.now.conn c.read_teller.new.conn c.read_teller.result c.read_teller.ensures.says.spares
+      c.read_teller.ensures.undone c.args.self.now.tables;
 }
 
 pub returns-in-Ok : goal.returns-in-Ok
