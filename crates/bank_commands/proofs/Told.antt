@@ -64,6 +64,7 @@ opening_not_write opening.NotBlank is = cc
 opening_not_write opening.Blank is = cc
 opening_not_write opening.Foreign is = cc
 opening_not_write (opening.Version n) is = cc
+opening_not_write (opening.OtherTable table) is = cc
 opening_not_write (opening.Damaged rule) is = cc
 
 pub opening_is_no_write : {Q : Type 0} (f : OpenFault) (end : Result Status CommandFault)
@@ -296,6 +297,7 @@ fault_ends (fault.Differs other) = inr (inr refl)
 fault_ends fault.AlreadyBank = inr (inl refl)
 fault_ends fault.NoBank = inr (inl refl)
 fault_ends fault.Foreign = inr (inl refl)
+fault_ends (fault.OtherTable table) = inr (inl refl)
 fault_ends (fault.Version version) = inr (inl refl)
 fault_ends fault.NoBranches = inr (inl refl)
 fault_ends (fault.NoAccount account) = inr (inl refl)
@@ -356,8 +358,6 @@ replayed_is_not_usage : (found : Result Replay Fault) (w w' : Option (List ℕ))
 replayed_is_not_usage (Ok (replays.Agrees d)) w w' status end =
     ended_is_not_usage Done status end.0 (done_is_not_usage Done refl) end.2
 replayed_is_not_usage (Ok (replays.Differs d)) w w' status end =
-    ended_is_not_usage Differs status end.0 differs_is_not_usage end.2
-replayed_is_not_usage (Ok (replays.Otherwise table)) w w' status end =
     ended_is_not_usage Differs status end.0 differs_is_not_usage end.2
 replayed_is_not_usage (Err cause) w w' status end = not_a_fault status _ end.0
 

@@ -14,7 +14,7 @@ use Rattle.sql_meanings.specs.believed.Entries.{Entry}
 use Rattle.store_rows.specs.believed.BankTables.{branch as branch_table, floor as floor_table}
 use Rattle.walked_rows.specs.KeptRows.{HasKept, KeptItem}
 use Rattle.walked_rows.specs.Rows.{HasStoredRows}
-use Rattle.bank_store.specs.believed.Seen.{bank_seen, database_of}
+use Rattle.bank_store.specs.believed.Seen.{bank_seen, database_of, file_of}
 use Rattle.bank_store.specs.declared.bank.Bank.{Bank}
 use Rattle.bank_replays.specs.{Damaged.TellsWhy, Damaged.fault_in, DifferenceText.difference_text}
 use Rattle.bank_replays.specs.Differences.{DiffersFrom, table_of}
@@ -22,11 +22,11 @@ use Rattle.posting_core.specs.believed.LogEntries.{answered_after}
 use Rattle.bank_replays.specs.Digests.{DigestsFirst, DigestsRows}
 use Rattle.bank_replays.specs.FileTables.{IsKept}
 use Rattle.bank_replays.specs.Reading.{IsOnlyRead}
-use Rattle.bank_replays.specs.Replays.{AreDigestsIn, OnAgrees, OnDiffers, Replays, TellsTables, other_text}
+use Rattle.bank_replays.specs.Replays.{AreDigestsIn, OnAgrees, OnDiffers, Replays}
 use Rattle.bank_replays.specs.Writing.{ExportsRows, LeavesWriter, WritesSound, WritesText, plan_text, records_of}
 use Rattle.bank_replays.specs.declared.chain.Digest.{Digest}
 use Rattle.bank_replays.specs.declared.difference.Replay.{Replay}
-use Rattle.bank_replays.specs.declared.difference.Replay.TheVariants.{Agrees, Differs, Otherwise}
+use Rattle.bank_replays.specs.declared.difference.Replay.TheVariants.{Agrees, Differs}
 use Rattle.bank_replays.specs.declared.fault.ReplayFault.{ReplayFault}
 use Rattle.bank_replays.specs.declared.fault.ReplayFault.TheVariants as written
 use Rattle.command_line.specs.CommandFaults.{fault_of_bank}
@@ -56,22 +56,19 @@ TellsFault fault w w' end = (end ≡ Err fault) × Keeps w w'
 
 -- ---- a replay
 
--- the digests and the verdict were printed; or the line of the difference or of the table, and the verdict
+-- the digests and the verdict were printed; or the line of the difference, and the verdict
 abbrev pub PrintsReplay : Result Replay Fault → (w w' : Option (List ℕ)) → (t t' : Option (List WriteCall))
     → Result Status CommandFault → Type 0
 PrintsReplay (Ok (Agrees a)) w w' t t' end =
     TellsText statuses.Done (agreeing_lines a.digest.requests a.digest.sha256 a.plan) w w' t t' end
 PrintsReplay (Ok (Differs d)) w w' t t' end =
     TellsText statuses.Differs (differing_lines (difference_text d)) w w' t t' end
-PrintsReplay (Ok (Otherwise table)) w w' t t' end =
-    TellsText statuses.Differs (differing_lines (other_text table)) w w' t t' end
 PrintsReplay (Err fault) w w' t t' end = TellsFault (fault_of_bank fault) w w' end
 
 -- a bank was replayed, whatever rows its file has
 pub record ReplaysBank {S : Type 0} (g : Ghosts S) (found : Result Replay Fault) (old new : Bank S g)
     : Type 0 where
-  pub tables : TellsTables (database_of g old).schema found
-  pub agrees : (bank_seen g new).honest → IsKept (database_of g old)
+  pub agrees : (bank_seen g new).honest → IsKept (file_of old)
       → OnAgrees found (λ d. (log : List Command) × ShowsLog (bank_seen g old) log)
   pub digest : (bank_seen g new).honest → OnAgrees found (AreDigestsIn (database_of g old))
   pub differs : (bank_seen g new).honest → OnDiffers found (λ d. (rows : List Entry)

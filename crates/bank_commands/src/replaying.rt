@@ -5,7 +5,7 @@ ghost use Rattle.bank_commands.specs.Replaying.{ReplaysOver, ended_by_writing, e
 
 use crate::ended::{Ended, find};
 use bank_replays::{
-    Digest, OtherTable, Replay, ReplayFault, Watch, digest, export, replay, write_plan,
+    Digest, Replay, ReplayFault, Watch, digest, export, replay, write_plan,
 };
 use command_line::{CommandFault, Status, print_agreeing, print_differing, print_digest};
 use posting_core::{Fault, Sink};
@@ -132,12 +132,6 @@ fn print_replay<W: Sink>(
         }
         Replay::Differs(difference) => {
             ended(Status::Differs, print_differing(alloc, difference, output))
-        }
-        Replay::Otherwise(table) => {
-            ended(
-                Status::Differs,
-                print_differing(alloc, OtherTable(table), output),
-            )
         }
     }
 }

@@ -15,7 +15,7 @@ use Rattle.bank_store.specs.KeptEntries.{answered_in}
 use Rattle.bank_store.proofs.LogRows.{has_kept, kept_answered, kept_of}
 use Rattle.bank_replays.specs.Replays.{AreDigestsIn, AreDigestsOf, OnAgrees}
 use Rattle.bank_replays.specs.{declared.chain.Digest.Digest, declared.difference.Replay.Replay}
-use Rattle.bank_replays.specs.declared.difference.Replay.TheVariants.{Agrees, Differs, Otherwise}
+use Rattle.bank_replays.specs.declared.difference.Replay.TheVariants.{Agrees, Differs}
 
 module _ (count : ℕ) (all : List KeptItem) (d : Digest) (is : IsDigestIn (take count all) d) where
   pub rows_fewer : d.requests < count → length all < count
@@ -46,7 +46,6 @@ module _ (db : Database) (log : List Command) (t : Tables) (in_file : Shows db t
         (has_branches db t in_file);
   }
   agrees_log (Ok (Differs d)) are = tt
-  agrees_log (Ok (Otherwise table)) are = tt
   agrees_log (Err fault) are = tt
 
 -- a log's are never told to be damaged

@@ -2,7 +2,6 @@
 pub mod Read
 pub mod Exits
 pub mod Tables
-pub mod AskedFirst
 mod AnyRows
 pub mod AllKept
 pub mod AllTables

@@ -1,9 +1,10 @@
 -- The rows of all eight tables of a file.
-use Rattle.std.specs.Prelude.{◌≡◌, ℤ, List, [], ◌∷◌, map, nat_abs, pos, true}
+use Rattle.std.specs.Prelude.{◌≡◌, IsTrue, ℤ, List, [], ◌∷◌, map, nat_abs, pos, true}
 use Rattle.std.specs.List.{AllByRecursion}
 use Rattle.std.specs.Ordering.{int_cmp, is_ge}
 use Rattle.sqlite.specs.Effect.{Database, IsDatabase}
 use Rattle.sqlite.specs.Order.{Row}
+use Rattle.sqlite.specs.State.{State}
 use Rattle.sqlite.specs.declared.types.Value.{Value}
 use Rattle.sqlite.specs.declared.types.Value.TheVariants.{Int}
 use Rattle.sqlite_trees.specs.Tree.{rowid}
@@ -68,7 +69,8 @@ pub record IsTreeOfRows (rows : List Row) : Type 0 where
   pub shaped : IsShaped Shaped rows
   pub least : AllByRecursion (λ r. IsFromLeast (rowid r)) rows
 
--- the database is sound, and so are the rows of each table of a bank, whatever their numbers are
-pub record IsKept (db : Database) : Type 0 where
-  pub sound : IsDatabase db
-  pub rows : AllByRecursion (λ t. IsTreeOfRows (db.trees (tree_of db.schema (made t).name))) all_tables
+-- the file is open, its database is sound, and so are the rows of each table of a bank, whatever their numbers are
+pub record IsKept (s : State) : Type 0 where
+  pub is_open : IsTrue s.is_open
+  pub sound : IsDatabase s.now
+  pub rows : AllByRecursion (λ t. IsTreeOfRows (s.now.trees (tree_of s.now.schema (made t).name))) all_tables

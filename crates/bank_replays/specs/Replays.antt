@@ -1,7 +1,7 @@
 -- What a replay says.
-use Rattle.std.specs.Prelude.{◌≡◌, ◌++◌, ℕ, List, codes, Some, None, Result, Ok, Err, ⊤}
+use Rattle.std.specs.Prelude.{◌≡◌, List, Result, Ok, Err, ⊤}
 use Rattle.sha2.specs.Sha256.{sha256}
-use Rattle.sqlite.specs.{Effect.Database, Schema.Schema}
+use Rattle.sqlite.specs.Effect.{Database}
 use Rattle.posting_rules.specs.believed.Commands.{Command}
 use Rattle.posting_rules.specs.believed.Counter.{Seen, ShowsLog}
 use Rattle.posting_rules.specs.believed.Tables.{Tables}
@@ -15,41 +15,19 @@ use Rattle.bank_replays.specs.PlanDigests.{IsPlanDigestIn, plan_of}
 use Rattle.bank_replays.specs.declared.difference.Agreed.{Agreed}
 use Rattle.bank_replays.specs.declared.difference.Difference.{Difference}
 use Rattle.bank_replays.specs.declared.difference.Replay.{Replay}
-use Rattle.bank_replays.specs.declared.difference.Replay.TheVariants.{Agrees, Differs, Otherwise}
-use Rattle.store_rows.specs.Definitions.{IsOtherTable, made}
-use Rattle.store_rows.specs.declared.probes.BankTable.{BankTable}
+use Rattle.bank_replays.specs.declared.difference.Replay.TheVariants.{Agrees, Differs}
 
 -- if it agrees, this holds of the digests
 abbrev pub OnAgrees : Result Replay Fault → (Agreed → Type 0) → Type 0
 OnAgrees (Ok (Agrees a)) P = P a
 OnAgrees (Ok (Differs d)) P = ⊤
-OnAgrees (Ok (Otherwise table)) P = ⊤
 OnAgrees (Err fault) P = ⊤
 
 -- if it differs, this holds of the difference
 abbrev pub OnDiffers : Result Replay Fault → (Difference → Type 0) → Type 0
 OnDiffers (Ok (Agrees a)) P = ⊤
 OnDiffers (Ok (Differs d)) P = P d
-OnDiffers (Ok (Otherwise table)) P = ⊤
 OnDiffers (Err fault) P = ⊤
-
--- rows were compared
-abbrev pub HasLookedAtRows : Result Replay Fault → Type 0
-HasLookedAtRows (Ok (Agrees a)) = ⊤
-HasLookedAtRows (Ok (Differs d)) = ⊤
-HasLookedAtRows (Ok (Otherwise table)) = ⊥
-HasLookedAtRows (Err fault) = ⊤
-
--- Rows are compared only where each table is defined as a bank's is made; else this is the first that isn't.
-abbrev pub TellsTables : Schema → Result Replay Fault → Type 0
-TellsTables schema (Ok (Agrees a)) = IsOtherTable schema None
-TellsTables schema (Ok (Differs d)) = IsOtherTable schema None
-TellsTables schema (Ok (Otherwise table)) = IsOtherTable schema (Some table)
-TellsTables schema (Err fault) = ⊤
-
--- the line of such a table
-abbrev pub other_text : BankTable → List ℕ
-other_text table = codes "table " ++ ((made table).name ++ codes " is defined otherwise")
 
 -- the digests of a file's kept requests, and of its plan
 pub record AreDigestsIn (db : Database) (a : Agreed) : Type 0 where

@@ -1,7 +1,5 @@
 //! What a replay says: where the rows of two banks differ.
 use crate::chain::Digest;
-use bank_store::BankTable;
-use std::fmt;
 use walked_rows::{
     StoredAccount, StoredBranch, StoredFloor, StoredMeta, StoredPosting, StoredReference,
     StoredRequest, StoredTeller,
@@ -27,22 +25,6 @@ pub enum Difference {
     Reference(Sides<StoredReference>),
 }
 
-/// A table that a file defines otherwise than a bank's is made, as a line shows it.
-#[derive(Clone, Copy, Drop)]
-pub struct OtherTable(pub BankTable);
-
-impl fmt::Display for OtherTable {
-    ghost use Rattle.std.specs.Prelude.{Some};
-    ghost use Rattle.bank_replays.specs.Replays.{other_text};
-
-    ghost output = { λ it. Some (other_text it.0) };
-
-    fn fmt<W: fmt::Write>(&self, f: &mut fmt::Formatter<W>) -> fmt::Result {
-        let name = self.0.name();
-        write!(f, "table {name} is defined otherwise")
-    }
-}
-
 /// What can be written down of a bank that agrees: the digest of its requests, and SHA-256 of the plan of its branches
 /// ([`write_plan`](crate::write_plan)).
 #[derive(Clone, Copy)]
@@ -58,6 +40,4 @@ pub enum Replay {
     Agrees(Agreed),
     /// They aren't. This is the first difference.
     Differs(Difference),
-    /// Its file defines this table otherwise than a bank's is made, and the rows weren't looked at.
-    Otherwise(BankTable),
 }

@@ -15,7 +15,7 @@
 //! pub fn first_replay<S: Alter>(bank: &mut Bank<S>) -> Result<bool, Fail> {
 //!     match replay(bank, Unwatched)? {
 //!         Replay::Agrees(_) => Ok(true),
-//!         Replay::Differs(_) | Replay::Otherwise(_) => Ok(false),
+//!         Replay::Differs(_) => Ok(false),
 //!     }
 //! }
 //! ```
@@ -30,9 +30,6 @@
 //! was written down. [`export`] writes the kept requests as the records that they came as, [`write_log`] as entries of a
 //! log with their replies and moments, and [`write_plan`] the open branches as a plan, so that another bank can be given
 //! them. A [`Difference`] is shown as a line, as `account 2 stands 0 due -100`.
-//!
-//! It asks first whether the file defines its tables as a bank's are made: where it defines one otherwise, its rows may
-//! be read otherwise, and [`Replay::Otherwise`] names it.
 #![tactic(auto)]
 
 mod chain;
@@ -56,7 +53,7 @@ mod watch;
 mod writes;
 
 pub use chain::Digest;
-pub use difference::{Agreed, Difference, OtherTable, Replay, Sides};
+pub use difference::{Agreed, Difference, Replay, Sides};
 pub use digests::digest;
 pub use exports::export;
 pub use fault::ReplayFault;

@@ -13,8 +13,7 @@ ghost use Rattle.bank_replays.specs.Differences.{DiffersFrom, table_of};
 ghost use Rattle.bank_replays.specs.FileTables.{FileTables, HasTables, IsKept};
 ghost use Rattle.bank_replays.specs.Reading.{IsOnlyRead, ReadsBank};
 ghost use Rattle.bank_replays.specs.Refilling.{IsNeverInDoubt, IsUnplanned, ShowsSameRows, ShowsSome};
-ghost use Rattle.bank_replays.specs.Replays.{AreDigestsIn, HasLookedAtRows, IsOfNoLog, OnAgrees, OnDiffers, Replays};
-ghost use Rattle.bank_replays.specs.Replays.{TellsTables};
+ghost use Rattle.bank_replays.specs.Replays.{AreDigestsIn, IsOfNoLog, OnAgrees, OnDiffers, Replays};
 
 use crate::comparing::compare_all;
 use crate::difference::{Agreed, Replay};
@@ -108,7 +107,6 @@ fn replay_over<S: Alter, T: Alter + Drop, W: Watch + Drop>(
     requires new { IsNew conn }
     ensures bank { ReadsBank S.Store bank.old bank.new result }
     ensures why { TellsWhy S.Store (λ fault. fault) bank.old bank.new result }
-    ensures compared { HasLookedAtRows result }
     ensures agrees { HasCleanDisk (file_of bank.new) → (f : FileTables)
         → HasTables (database_of S.Store bank.old) f
         → OnAgrees result (λ d. (log : List Command) × ShowsLog (bank_seen S.Store bank.old) log) }
@@ -148,7 +146,7 @@ fn memory_pages(alloc: Global) -> Result<Connection<FileStore<Ram>>, Fault>
     }
 }
 
-/// Replays a bank whose file defines its tables as a bank's are made: a second bank is made in memory and given what
+/// Replays a bank: a second bank is made in memory and given what
 /// the file's rows say, and all tables of the two are compared. Where they agree, the requests and the plan are digested. `watch`
 /// is told how far it is.
 ///
@@ -163,9 +161,8 @@ fn memory_pages(alloc: Global) -> Result<Connection<FileStore<Ram>>, Fault>
 /// | [`Fault::Down`] | the bank was down, and nothing was read |
 /// | [`Fault::Damaged`] | a row can't be read: a number of it is out of its column's range, or a reference is none |
 pub fn replay<S: Alter, W: Watch + Drop>(bank: &mut Bank<S>, watch: W) -> Result<Replay, Fault>
-    ensures agrees { TellsTables (database_of S.Store bank.old).schema result
-        × ((bank_seen S.Store bank.new).honest → IsKept (database_of S.Store bank.old)
-        → OnAgrees result (λ d. (log : List Command) × ShowsLog (bank_seen S.Store bank.old) log)) }
+    ensures agrees { (bank_seen S.Store bank.new).honest → IsKept (file_of bank.old)
+        → OnAgrees result (λ d. (log : List Command) × ShowsLog (bank_seen S.Store bank.old) log) }
     ensures digest { (bank_seen S.Store bank.new).honest
         → OnAgrees result (AreDigestsIn (database_of S.Store bank.old)) }
     ensures differs { (bank_seen S.Store bank.new).honest → OnDiffers result (λ d. (rows : List Entry)
@@ -178,9 +175,7 @@ pub fn replay<S: Alter, W: Watch + Drop>(bank: &mut Bank<S>, watch: W) -> Result
     if bank.is_down() {
         return Err(Fault::Down);
     }
-    if let Some(table) = bank.other_table() {
-        return Ok(Replay::Otherwise(table));
-    }
+    bank.tables_law();
     let pages = memory_pages(bank.alloc())?;
     replay_over(bank, pages, watch)
 }

@@ -1,5 +1,5 @@
 //! What the replay of a bank in tables says.
-use bank_replays::{Agreed, OtherTable, Replay, Unwatched, replay};
+use bank_replays::{Agreed, Replay, Unwatched, replay};
 use bank_store::Bank;
 use posting_core::Fault;
 use sqlite::Alter;
@@ -32,7 +32,6 @@ pub fn replayed<S: Alter>(alloc: Global, bank: &mut Bank<S>) -> Result<String, A
     match replay_of(bank) {
         Ok(Replay::Agrees(found)) => agreed(alloc, &found),
         Ok(Replay::Differs(difference)) => difference.to_string(alloc),
-        Ok(Replay::Otherwise(table)) => OtherTable(table).to_string(alloc),
         Err(fault) => fault.to_string(alloc),
     }
 }

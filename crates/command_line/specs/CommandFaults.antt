@@ -1,7 +1,7 @@
 -- The faults of commands: what each is made of, its text, and the status after it.
 use Rattle.std.specs.Prelude.{ℕ, List, ◌++◌, codes, ⊤}
 use Rattle.std.specs.Fmt.{decimal, signed_decimal}
-use Rattle.posting_rules.specs.FaultTexts.{number_of_rule}
+use Rattle.posting_rules.specs.FaultTexts.{number_of_rule, open_text}
 use Rattle.posting_rules.specs.declared.fault.Fault.{Fault}
 use Rattle.posting_rules.specs.declared.fault.Fault.TheVariants as bank
 use Rattle.posting_core.specs.declared.stream.StreamFault.{StreamFault}
@@ -49,6 +49,7 @@ status_of (fault.Differs other) = Differs
 status_of fault.AlreadyBank = Input
 status_of fault.NoBank = Input
 status_of fault.Foreign = Input
+status_of (fault.OtherTable table) = Input
 status_of (fault.Version version) = Input
 status_of fault.NoBranches = Input
 status_of (fault.NoAccount account) = Input
@@ -75,6 +76,7 @@ fault_text (fault.Differs other) = other_text other
 fault_text fault.AlreadyBank = codes "already a bank"
 fault_text fault.NoBank = codes "no bank"
 fault_text fault.Foreign = codes "foreign tables"
+fault_text (fault.OtherTable table) = open_text (opening.OtherTable table)
 fault_text (fault.Version version) = codes "version " ++ signed_decimal version
 fault_text fault.NoBranches = codes "no branches"
 fault_text (fault.NoAccount account) = codes "no account " ++ decimal account
@@ -89,6 +91,7 @@ fault_of_opening opening.NotBlank = fault.AlreadyBank
 fault_of_opening opening.Blank = fault.NoBank
 fault_of_opening opening.Foreign = fault.Foreign
 fault_of_opening (opening.Version version) = fault.Version version
+fault_of_opening (opening.OtherTable table) = fault.OtherTable table
 fault_of_opening (opening.Damaged rule) = fault.Damaged rule
 
 -- why a bank refused a call; one that is down is a failed store to the command
@@ -153,5 +156,6 @@ fault_of_serving (listen.Bank cause) = fault_of_bank cause
 abbrev pub IsOfFile : CommandFault → Type 0
 IsOfFile fault.NoBank = ⊤
 IsOfFile fault.Foreign = ⊤
+IsOfFile (fault.OtherTable table) = ⊤
 IsOfFile (fault.Version version) = ⊤
 IsOfFile _ = ⊥

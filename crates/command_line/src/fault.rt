@@ -13,7 +13,7 @@ use branch_loader::{FollowFault, OtherReply, PlanFault};
 use counter_http::ListenFault;
 use load_driver::DriveFault;
 use message_records::{Account, BadReply};
-use posting_core::{Count, Fault, OpenFault, Rule, StreamFault};
+use posting_core::{BankTable, Count, Fault, OpenFault, Rule, StreamFault};
 use posting_sheets::{RepliesFault, SheetFault};
 use std::fmt;
 use std::io::{self, ErrorKind};
@@ -61,6 +61,8 @@ pub enum CommandFault {
     NoBank,
     /// Status 4. The file has some tables with the names of a bank's, and not all.
     Foreign,
+    /// Status 4. This table of the file is defined otherwise than a bank makes it.
+    OtherTable(BankTable),
     /// Status 4. The file has a bank of this version, which isn't the program's.
     Version(i64),
     /// Status 4. The bank has no open branch to draw records over.
@@ -134,6 +136,7 @@ impl CommandFault {
             | CommandFault::AlreadyBank
             | CommandFault::NoBank
             | CommandFault::Foreign
+            | CommandFault::OtherTable(_)
             | CommandFault::Version(_)
             | CommandFault::NoBranches
             | CommandFault::NoAccount(_)
@@ -172,6 +175,10 @@ impl fmt::Display for CommandFault {
             CommandFault::AlreadyBank => "already a bank",
             CommandFault::NoBank => "no bank",
             CommandFault::Foreign => "foreign tables",
+            CommandFault::OtherTable(table) => {
+                let fault = OpenFault::OtherTable(*table);
+                return write!(f, "{fault}");
+            }
             CommandFault::Version(version) => return write!(f, "version {version}"),
             CommandFault::NoBranches => "no branches",
             CommandFault::NoAccount(account) => return write!(f, "no account {account}"),
@@ -196,6 +203,7 @@ impl From<OpenFault> for CommandFault {
             OpenFault::Blank => CommandFault::NoBank,
             OpenFault::Foreign => CommandFault::Foreign,
             OpenFault::Version(version) => CommandFault::Version(version),
+            OpenFault::OtherTable(table) => CommandFault::OtherTable(table),
             OpenFault::Damaged(rule) => CommandFault::Damaged(rule),
         }
     }

@@ -22,7 +22,8 @@ standard error
   3  no memory: the machine refused memory
   3  write failed: standard output failed
   3  damaged rule N: FILE has rows that no history could produce
-  4  no bank, foreign tables, version N: FILE is no bank: see `bank help faults`",
+  4  no bank, foreign tables, a table defined otherwise, version N: FILE is no
+     bank: see `bank help faults`",
 };
 
 pub const STATEMENT: CommandTexts = CommandTexts {
@@ -59,7 +60,8 @@ Statuses: 0 done, 2 no command, and with a line on standard error
      2026-11-28, from 1970 to 9999, or as +01:00
   4  --to is before --from
   4  no reference in --reference: it has 1 to 20 bytes of printable ASCII
-  4  no bank, foreign tables, version N: FILE is no bank: see `bank help faults`",
+  4  no bank, foreign tables, a table defined otherwise, version N: FILE is no
+     bank: see `bank help faults`",
 };
 
 pub const STATEMENT_EXAMPLE: &str = "\
@@ -96,7 +98,8 @@ Statuses: 0 done, 2 no command, and with a line on standard error
      2026-11-28, from 1970 to 9999, or as +01:00
   4  --to is before --from
   4  no reference in --reference: it has 1 to 20 bytes of printable ASCII
-  4  no bank, foreign tables, version N: FILE is no bank: see `bank help faults`",
+  4  no bank, foreign tables, a table defined otherwise, version N: FILE is no
+     bank: see `bank help faults`",
 };
 
 pub const REPLAY: CommandTexts = CommandTexts {
@@ -127,7 +130,8 @@ error
   3  no memory: the machine refused memory, such as for the new bank
   3  write failed: standard output failed
   3  damaged rule N: FILE has a value that no row of a bank can have
-  4  no bank, foreign tables, version N: FILE is no bank: see `bank help faults`",
+  4  no bank, foreign tables, a table defined otherwise, version N: FILE is no
+     bank: see `bank help faults`",
 };
 
 pub const DIGEST: CommandTexts = CommandTexts {
@@ -154,7 +158,8 @@ Statuses: 0 done, 2 no command, and with a line on standard error
   3  write failed: standard output failed
   3  damaged rule N: FILE has a value that no row of a bank can have
   4  no request N: FILE keeps fewer than N requests
-  4  no bank, foreign tables, version N: FILE is no bank: see `bank help faults`",
+  4  no bank, foreign tables, a table defined otherwise, version N: FILE is no
+     bank: see `bank help faults`",
 };
 
 pub const EXPORT: CommandTexts = CommandTexts {
@@ -179,7 +184,8 @@ Statuses: 0 done, 2 no command, and with a line on standard error
      `bank help faults`
   3  write failed: standard output failed, or its reader has gone
   3  damaged rule N: FILE has a value that no row of a bank can have
-  4  no bank, foreign tables, version N: FILE is no bank: see `bank help faults`",
+  4  no bank, foreign tables, a table defined otherwise, version N: FILE is no
+     bank: see `bank help faults`",
 };
 
 pub const LOG: CommandTexts = CommandTexts {
@@ -203,7 +209,8 @@ Statuses: 0 done, 2 no command, and with a line on standard error
   3  write failed: standard output failed, or its reader has gone
   3  damaged rule N: FILE has a value that no row of a bank can have
   4  no request N: FILE keeps fewer than N requests
-  4  no bank, foreign tables, version N: FILE is no bank: see `bank help faults`",
+  4  no bank, foreign tables, a table defined otherwise, version N: FILE is no
+     bank: see `bank help faults`",
 };
 
 pub const FOLLOW: CommandTexts = CommandTexts {
@@ -234,7 +241,8 @@ Statuses: 0 done, 2 no command, and with a line on standard error
      are posted
   4  no entry after N: what follows the first N is no entry; those N are posted
   4  plan ..: CSV is no plan: see `bank help load`
-  4  no bank, foreign tables, version N: FILE is no bank: see `bank help faults`
+  4  no bank, foreign tables, a table defined otherwise, version N: FILE is no
+     bank: see `bank help faults`
   5  entry N stands .. due ..: the reply that the Nth entry got, and its own;
      up to 63 entries after it may be posted with it",
 };
@@ -254,7 +262,8 @@ Statuses: 0 done, 2 no command, and with a line on standard error
   3  no memory: the machine refused memory
   3  write failed: standard output failed, or its reader has gone
   3  damaged rule N: FILE has a value that no row of a bank can have
-  4  no bank, foreign tables, version N: FILE is no bank: see `bank help faults`",
+  4  no bank, foreign tables, a table defined otherwise, version N: FILE is no
+     bank: see `bank help faults`",
 };
 
 pub const MIGRATE: CommandTexts = CommandTexts {
@@ -286,7 +295,8 @@ Statuses: 0 done, 2 no command, and with a line on standard error
   3  damaged rule N: FILE has rows that no history could produce
   4  version N: a version that this program doesn't know, such as a later one
   4  no bank, foreign tables: FILE is no bank; anything that already has the
-     name of a table to be made counts as a foreign table",
+     name of a table to be made counts as a foreign table
+  4  table T is defined otherwise: another program made that table anew",
 };
 
 pub const WHY: CommandTexts = CommandTexts {
@@ -333,5 +343,8 @@ command:
   no bank (4): there is no FILE, or it has no bank
   foreign tables (4): another table has the name of a bank's; or one of a
     bank's tables has an index with WHERE or of an expression, or a trigger
+  table T is defined otherwise (4): another program made that table anew, so
+    that its rows may mean something else: docs/USING.md says how to put the
+    rows into a new FILE
   version N (4): the bank is of another version: see `bank help migrate`",
 };

@@ -58,7 +58,8 @@ standard error
   4  plan row N columns, branch, accounts, floor: that is wrong in row N, where
      row 1 comes after the header; a line of commas alone is a row
   4  plan row N twice: an earlier row has the branch
-  4  no bank, foreign tables, version N: FILE is no bank: see `bank help faults`",
+  4  no bank, foreign tables, a table defined otherwise, version N: FILE is no
+     bank: see `bank help faults`",
 };
 
 pub const POST: CommandTexts = CommandTexts {
@@ -98,7 +99,8 @@ line on standard error
                                 the first are MALFORMED: take line ends out
        lines end in CR LF       take out both, as `tr` does above
        spaces were cut off      a record has all its 100 bytes: fill it again
-  4  no bank, foreign tables, version N: FILE is no bank: see `bank help faults`
+  4  no bank, foreign tables, a table defined otherwise, version N: FILE is no
+     bank: see `bank help faults`
 What got no reply may have been posted: resend it, and it is posted once.",
 };
 
@@ -128,7 +130,8 @@ Statuses: 0 done, 2 no command, and with a line on standard error
   3  write failed: standard output failed
   3  damaged rule N: FILE has rows that no history could produce
   4  no branches: none is open
-  4  no bank, foreign tables, version N: FILE is no bank: see `bank help faults`",
+  4  no bank, foreign tables, a table defined otherwise, version N: FILE is no
+     bank: see `bank help faults`",
 };
 
 pub const SERVE: CommandTexts = CommandTexts {
@@ -172,7 +175,8 @@ error
   3  no memory: the machine refused memory
   3  write failed: standard output failed
   3  damaged rule N: FILE has rows that no history could produce
-  4  no bank, foreign tables, version N: FILE is no bank: see `bank help faults`",
+  4  no bank, foreign tables, a table defined otherwise, version N: FILE is no
+     bank: see `bank help faults`",
 };
 
 pub const ENCODE: CommandTexts = CommandTexts {

@@ -7,6 +7,6 @@ use std::test::Fail;
 pub fn first_replay<S: Alter>(bank: &mut Bank<S>) -> Result<bool, Fail> {
     match replay(bank, Unwatched)? {
         Replay::Agrees(_) => Ok(true),
-        Replay::Differs(_) | Replay::Otherwise(_) => Ok(false),
+        Replay::Differs(_) => Ok(false),
     }
 }

@@ -20,11 +20,5 @@ returns-in-Differs g c =
       c.ended-in-Differs.ensures,
     )
 
-pub returns-in-Otherwise : goal.returns-in-Otherwise
-returns-in-Otherwise g c =
-    let it = c.print_differing-in-Otherwise.ensures in
-    rw (c.in-Ok.is, c.in-Otherwise.is)
-    (c.print_differing-in-Otherwise.result, rw it.1 at it.2, c.ended-in-Otherwise.ensures)
-
 pub returns-in-Err : goal.returns-in-Err
 returns-in-Err g c = rw c.in-Err.is (ap Err c.from.ensures, Keeps-refl (g.W.Sink.contents c.args.output.now))

@@ -20,8 +20,7 @@ returns g c =
         c.replay.result,
         c.print_replay-end.ensures,
         record {
-          tables = it.agrees.0;
-          agrees = it.agrees.1;
+          agrees = it.agrees;
           digest = it.digest;
           differs = it.differs;
           why = it.why;

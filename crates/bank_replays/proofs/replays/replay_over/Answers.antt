@@ -20,7 +20,6 @@ returns-in_err-empty g c =
     record {
       bank = none_read _ _;
       why = rw same (why_memory c.in_err-empty.field-0.0 c.in_err-empty.ensures.memory);
-      compared = rw same tt;
       agrees = λ clean f has. rw same tt;
       digest = λ clean. rw same tt;
       differs = λ clean. rw same tt;
@@ -33,7 +32,6 @@ returns-in_err-due g c =
     record {
       bank = rw same (read_fails c.in_err-due.field-0.0 c.in_err-due.ensures.bank);
       why = rw same (why_err c.in_err-due.field-0.0 c.in_err-due.field-0.0 refl c.in_err-due.ensures.why);
-      compared = rw same tt;
       agrees = λ clean f has. rw same tt;
       digest = λ clean. rw same tt;
       differs = λ clean. rw same tt;
@@ -48,7 +46,6 @@ returns-in_err-difference g c =
       bank = rw same (read_fails fault (read_then c.in_ok-due.ensures.bank c.in_err-difference.ensures.bank));
       why = rw same (why_err fault fault refl
           (why_then c.in_ok-due.ensures.bank c.in_err-difference.ensures.bank c.in_err-difference.ensures.why));
-      compared = rw same tt;
       agrees = λ clean f has. rw same tt;
       digest = λ clean. rw same tt;
       differs = λ clean. rw same tt;
@@ -63,7 +60,6 @@ returns-in-Some g c =
     record {
       bank = read_any (read_then filled.bank compared.bank) _;
       why = why_none _;
-      compared = tt;
       agrees = λ clean f has. tt;
       digest = λ clean. tt;
       differs = λ clean rows has.
@@ -111,7 +107,6 @@ returns-in_err-digest_both g c =
       why = rw same (why_err fault fault refl
           (why_then (read_then c.in_ok-due.ensures.bank c.in_ok-difference.ensures.bank) c.in_err-digest_both.ensures.bank
           c.in_err-digest_both.ensures.why));
-      compared = rw same tt;
       agrees = λ clean f has. rw same tt;
       digest = λ clean. rw same tt;
       differs = λ clean. rw same tt;
@@ -128,7 +123,6 @@ returns g c =
     record {
       bank = read_any (read_then both digested.bank) _;
       why = why_none _;
-      compared = tt;
       agrees = λ clean f has.
           let before = clean_before digested.bank clean in
           let earlier = clean_before compared.bank before in
