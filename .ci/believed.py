@@ -31,6 +31,7 @@ CALLS = PROMISE + [
     ("bank_store", "submit", []),
     ("bank_store", "submit_all", []),
     ("bank_store", "open_branch", []),
+    ("bank_store", "tables_law", []),
 ]
 CLAIMS = CALLS + [
     ("bank_lives", "replayed_law", []),

@@ -182,13 +182,14 @@ def tables_of(file):
 
 
 def definition(conn, table):
-    """What SQLite says of a table: its columns, its indexes, what refers to others, and the words of its other rules."""
+    """What SQLite says of a table: its columns, the indexes of its rules, what refers to others, and the words of its
+    other rules."""
     text = conn.execute("SELECT sql FROM sqlite_master WHERE type = 'table' AND name = ?", (table,)).fetchone()
     indexes = conn.execute(f"PRAGMA index_list({table})").fetchall()
     plain = "".join(re.sub(r"/\*.*?\*/|--[^\n]*", " ", text[0], flags=re.DOTALL).upper().split()) if text else ""
     return (re.findall(r"STRICT|CHECK\(.*?\)|AUTOINCREMENT|COLLATE\w+", plain),
             conn.execute(f"PRAGMA table_xinfo({table})").fetchall(),
-            sorted((row[2:], conn.execute(f"PRAGMA index_xinfo({row[1]})").fetchall()) for row in indexes),
+            sorted((row[2:], conn.execute(f"PRAGMA index_xinfo({row[1]})").fetchall()) for row in indexes if row[3] != "c"),
             conn.execute(f"PRAGMA foreign_key_list({table})").fetchall(),
             conn.execute("SELECT name FROM sqlite_master WHERE type = 'trigger' AND tbl_name = ?", (table,)).fetchall())
 
@@ -310,12 +311,12 @@ def replay(file):
     finally:
         if conn is not file:
             conn.close()
-    if len(meta) != 1:
-        return ["bank: damaged rule 1"], 3
-    if meta[0][0] != VERSION:
+    if len(meta) == 1 and meta[0][0] != VERSION:
         return [f"bank: version {meta[0][0]}"], 4
     if other_table(file):
-        return [f"table {other_table(file)} is defined otherwise", "DIFFERS"], 5
+        return [f"bank: table {other_table(file)} is defined otherwise"], 4
+    if len(meta) != 1:
+        return ["bank: damaged rule 1"], 3
     tables = tables_of(file)
     for table in ("branch", "branch_floor", "request", "history", "request_reference"):
         for key, row in sorted(tables[table].items()):

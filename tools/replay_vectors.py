@@ -19,7 +19,7 @@ import oracle
 
 TRIALS = Path(__file__).resolve().parent.parent / "crates" / "bank_trials"
 CALLS, RUNS = ("open", "post", "batch", "balance"), ("mixed", "steady", "drive")
-FAULT = re.compile(r"store fault|down|damaged rule \d")
+FAULT = re.compile(r"store fault|down|damaged rule \d|table \w+ is defined otherwise")
 
 
 def record_of(text):

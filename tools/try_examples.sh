@@ -159,6 +159,18 @@ for it in audit export plan; do
 done
 echo "recovery"
 
+# A table that another hand defined anew is refused, and its rows are put into a new file as docs/USING.md says.
+cp my.db odd.db
+if [ -e my.db-wal ]; then cp my.db-wal odd.db-wal; fi
+sqlite3 odd.db "CREATE TABLE made AS SELECT * FROM request; DROP TABLE request; ALTER TABLE made RENAME TO request"
+status=0
+"$bank" audit odd.db 2>said || status=$?
+same "$status $(cat said)" "4 bank: table request is defined otherwise" "a table of another hand"
+sed -n '/^## Is this file/,/^## Is this the/s/^    //p' "$top/docs/USING.md" | sed -n '/^bank init fresh/,/fresh.db$/p' >odd.sh
+PATH="$top/crates/bank/out:$PATH" bash -e odd.sh >said 2>&1 || fail "the rows of another hand's tables: $(cat said)"
+cmp <(grep -v '^created' said) <("$bank" replay my.db) || fail "another bank than the one before: $(cat said)"
+echo "a table that is defined otherwise"
+
 "$bank" init curl.db >/dev/null
 "$bank" load curl.db "$top/examples/plan.csv" >/dev/null
 # A bank that follows, the evening of its machine, and a leader that has less.
