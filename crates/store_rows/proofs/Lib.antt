@@ -20,7 +20,7 @@ pub mod LyingRows
 pub mod MadeSoFar
 pub mod MetaRow
 pub mod NewRequests
-pub mod NextBranch
+pub mod NextRows
 pub mod OtherValue
 pub mod Probing
 pub mod Puts

@@ -3,16 +3,19 @@ use Rattle.std.proofs.Common.{ℕ, pos, List, [], ◌∷◌, find, refl, subst}
 use Rattle.sqlite.specs.{Order.Row, Order.column, Term.Term, Term.col, declared.types.Value.TheVariants.Int}
 use Rattle.sql_meanings.specs.{believed.Entries.Entry, believed.Entries.has_two, Entries.is_above}
 use Rattle.sql_meanings.specs.StatementAnswers.{TellsRow}
-use Rattle.sql_meanings.proofs.{ReadRows.reads_next, ReadRows.reads_two, Texts.only_reads}
+use Rattle.sql_meanings.proofs.{ReadRows.reads_next, ReadRows.reads_two, Texts.columns_of, Texts.only_reads}
 use Rattle.store_rows.specs.{Holders.entry_under, believed.Rules.row_under, believed.SeveralRows.given}
 use Rattle.store_rows.specs.declared.holders.Member.TheVariants.{Account, Teller}
 use Rattle.store_rows.specs.declared.texts.TheConstants.{GET_ACCOUNT, GET_BRANCH, GET_FLOOR, GET_REQUEST, GET_TELLER}
-use Rattle.store_rows.specs.declared.texts.TheConstants.{GET_REFERENCE, NEXT_BRANCH}
+use Rattle.store_rows.specs.declared.texts.TheConstants.{GET_REFERENCE, NEXT_BRANCH, NEXT_POSTING, NEXT_REFERENCE}
+use Rattle.store_rows.specs.declared.texts.TheConstants.{NEXT_REQUEST}
+use Rattle.store_rows.specs.{Beyond.beyond, declared.beyond.Numbered.TheVariants.Postings}
+use Rattle.store_rows.specs.declared.beyond.Numbered.TheVariants.{References, Requests}
 use Rattle.store_rows.specs.believed.BankTables as bank
 use Rattle.store_rows.proofs.{Getting.gets, ShownValues.all_columns, Telling.Seeks}
 use Rattle.store_rows.proofs.StoredRows.{holds_list, shown_as, stored_under}
 use Rattle.store_rows.proofs.GetRequest as request
-use Rattle.store_rows.proofs.NextBranch as next
+use Rattle.store_rows.proofs.NextRows as next
 
 -- ---- a balance under a key
 
@@ -70,13 +73,47 @@ seeks_reference k = record {
 pub seeks_next : (k : ℕ) → Seeks NEXT_BRANCH.now (Int (pos k) ∷ []) 1 given
     (λ rows. find (is_above (pos k)) rows.branches)
 seeks_next k = record {
-  only = next.only;
+  only = only_reads next.is_branch;
   answers = λ old new rows has r h.
       let holds = holds_list old.now rows has 1 bank.branch rows.branches refl refl in
       subst (λ o. TellsRow old new o r)
       (shown_as (2, 0) _ given (all_columns 2 0) (is_above (pos k)) rows.branches holds.rows.wide)
-      (reads_next old new bank.branch refl has.sound rows.branches holds NEXT_BRANCH.now next.project (pos k)
-      (next.reads (pos k)) r h);
+      (reads_next old new bank.branch refl has.sound rows.branches holds NEXT_BRANCH.now (columns_of bank.branch) (pos k)
+      (next.next_branch (pos k)) r h);
+}
+
+-- the rows with the least ordinals above one
+pub seeks_beyond_requests : (k : ℕ) → Seeks NEXT_REQUEST.now (Int (pos k) ∷ []) 1 given (beyond Requests k)
+seeks_beyond_requests k = record {
+  only = only_reads next.is_request;
+  answers = λ old new rows has r h.
+      let holds = holds_list old.now rows has 5 bank.request rows.requests refl refl in
+      subst (λ o. TellsRow old new o r)
+      (shown_as (7, 0) _ given (all_columns 7 0) (is_above (pos k)) rows.requests holds.rows.wide)
+      (reads_next old new bank.request refl has.sound rows.requests holds NEXT_REQUEST.now (columns_of bank.request)
+      (pos k) (next.next_request (pos k)) r h);
+}
+
+pub seeks_beyond_postings : (k : ℕ) → Seeks NEXT_POSTING.now (Int (pos k) ∷ []) 1 given (beyond Postings k)
+seeks_beyond_postings k = record {
+  only = only_reads next.is_posting;
+  answers = λ old new rows has r h.
+      let holds = holds_list old.now rows has 4 bank.history rows.history refl refl in
+      subst (λ o. TellsRow old new o r)
+      (shown_as (5, 0) _ given (all_columns 5 0) (is_above (pos k)) rows.history holds.rows.wide)
+      (reads_next old new bank.history refl has.sound rows.history holds NEXT_POSTING.now (columns_of bank.history)
+      (pos k) (next.next_posting (pos k)) r h);
+}
+
+pub seeks_beyond_references : (k : ℕ) → Seeks NEXT_REFERENCE.now (Int (pos k) ∷ []) 1 given (beyond References k)
+seeks_beyond_references k = record {
+  only = only_reads next.is_reference;
+  answers = λ old new rows has r h.
+      let holds = holds_list old.now rows has 7 bank.reference rows.references refl refl in
+      subst (λ o. TellsRow old new o r)
+      (shown_as (0, 1) _ given (all_columns 0 1) (is_above (pos k)) rows.references holds.rows.wide)
+      (reads_next old new bank.reference refl has.sound rows.references holds NEXT_REFERENCE.now
+      (columns_of bank.reference) (pos k) (next.next_reference (pos k)) r h);
 }
 
 -- the request of a teller under its number

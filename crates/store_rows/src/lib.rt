@@ -46,6 +46,7 @@
 //! `specs/Calls`, what each function finds or leaves. The crate `bank_transactions` is a caller.
 #![tactic(auto)]
 
+mod beyond;
 mod branches;
 mod columns;
 mod commits;
@@ -65,6 +66,7 @@ mod requests;
 mod statements;
 mod texts;
 
+pub use beyond::{Numbered, find_beyond};
 pub use branches::{add_branch, find_branch, next_branch};
 pub use commits::commit;
 pub use creation::{create, create_tables};

@@ -134,6 +134,18 @@ pub(crate) const GET_REFERENCE: &str =
 pub(crate) const ADD_REFERENCE: &str =
     "INSERT INTO request_reference (ordinal, reference) VALUES (?1, ?2)";
 
+/// The request with the least ordinal above one.
+pub(crate) const NEXT_REQUEST: &str = "SELECT ordinal, tid, number, aid, bid, delta, outcome, \
+    balance FROM request WHERE ordinal > ?1 ORDER BY ordinal LIMIT 1";
+
+/// The posting with the least ordinal above one.
+pub(crate) const NEXT_POSTING: &str = "SELECT ordinal, aid, tid, bid, delta, moment FROM history \
+    WHERE ordinal > ?1 ORDER BY ordinal LIMIT 1";
+
+/// The reference with the least ordinal above one.
+pub(crate) const NEXT_REFERENCE: &str = "SELECT ordinal, reference FROM request_reference \
+    WHERE ordinal > ?1 ORDER BY ordinal LIMIT 1";
+
 /// Names every column of `meta`.
 pub(crate) const PROBE_META: &str = "SELECT id, version, decided FROM meta";
 
