@@ -10,14 +10,14 @@ use Rattle.posting_rules.specs.believed.Tables.{Tables}
 use Rattle.bank_transactions.specs.believed.Batches.{HasRoomFor}
 use Rattle.sql_meanings.specs.Calls.{Inside, Says}
 use Rattle.sql_meanings.proofs.Saying.{clean_between, says_then}
-use Rattle.store_rows.specs.believed.{Made.WritesOnly, Rules.IsBroken}
+use Rattle.store_rows.specs.believed.Made.{WritesOnly}
 use Rattle.store_rows.specs.believed.View.{Shows}
 use Rattle.store_rows.specs.declared.fault.TableFault.{TableFault}
 use Rattle.bank_transactions.specs.believed.{Additions.AddsForRecords, Batches.DecidesNone}
 use Rattle.bank_transactions.specs.{Doing.Acts, Doing.ReadsWhere, Tries.answer_of, Tries.replies_of}
 use Rattle.bank_transactions.specs.{believed.Answered.AnswersAll, declared.first_try.Tried.Tried}
 use Rattle.bank_transactions.proofs.{Blamed.blames_since, Blamed.comes, Chained.keeps_then, Chained.of_bad, Chained.still_in}
-use Rattle.bank_transactions.specs.Causes.{IsFirstBroken}
+use Rattle.bank_transactions.specs.{Causes.IsFirstDamaged, believed.Stray.IsDamage}
 
 module _ {S X : Type 0} {g : Ghosts S} {old mid new : Transaction S} {So : Tables → Type 0} {w : Tables → X} {x : X}
     (look : ReadsWhere g old mid So w (Ok x)) where
@@ -29,8 +29,8 @@ module _ {S X : Type 0} {g : Ghosts S} {old mid new : Transaction S} {So : Table
   acts_since {after = after} {wanted = wanted} {r = r} records acts = record {
     says = says_then g old mid new look.says acts.says
         (λ answers leaves answers' live t shows so.
-        of_bad (IsFirstBroken g mid.conn.now new.conn.now) (IsFirstBroken g old.conn.now new.conn.now)
-        (state g new.conn.now) (after t) (wanted t) r (λ rule. subst (IsBroken rule) leaves.0.now)
+        of_bad (IsFirstDamaged g mid.conn.now new.conn.now) (IsFirstDamaged g old.conn.now new.conn.now)
+        (state g new.conn.now) (after t) (wanted t) r (λ rule. subst (IsDamage rule) leaves.0.now)
         (answers' (still_in (state g old.conn.now) (state g mid.conn.now) leaves.0.goes_on live) t
         (subst (λ (db : Database). Shows db t) (sym leaves.0.now) shows) so))
         (λ leaves leaves' live.

@@ -4,7 +4,8 @@ use Rattle.std.specs.Prelude.{IsTrue}
 use Rattle.sqlite.specs.{State.State, State.Fails, State.Survives, Steps.FailsToCommit, Held.Held, Held.state}
 use Rattle.sqlite.specs.{Effect.Database, Order.Row, Tree.Trees, declared.error.Error.Error}
 use Rattle.sqlite_trees.specs.declared.store.Store.{Ghosts}
-use Rattle.store_rows.specs.believed.{Failures.Additions, Failures.HasFailed, Failures.HasMet, Rules.IsBroken}
+use Rattle.store_rows.specs.believed.{Failures.Additions, Failures.HasFailed, Failures.HasMet}
+use Rattle.bank_transactions.specs.believed.Stray.{IsDamage}
 use Rattle.store_rows.specs.Failures.{Puts}
 use Rattle.store_rows.specs.declared.fault.TableFault.{TableFault, TheVariants.Sqlite, TheVariants.Damaged}
 use Rattle.posting_rules.specs.declared.fault.Rule.{Rule}
@@ -160,7 +161,7 @@ broken_or_met Met g old new (Err (Damaged rule)) weaker it = weaker rule it
 since : {S : Type 0} (Adds : Database → Additions) (g : Ghosts S) (old mid new : Held S)
     → IsBefore (state g old) (state g mid) → (state g mid).now ≡ (state g old).now → (rule : Rule)
     → IsBrokenOrMet g (Adds (state g mid).now) mid new rule → IsBrokenOrMet g (Adds (state g old).now) old new rule
-since Adds g old mid new before same rule (inl broken) = inl (subst (IsBroken rule) same broken)
+since Adds g old mid new before same rule (inl broken) = inl (subst (IsDamage rule) same broken)
 since Adds g old mid new before same rule (inr met) = inr (met_within g old mid new new rule before
     (same_moment (state g new)) (subst (λ (db : Database). HasMetBetween g (Adds db) mid new rule) same met))
 

@@ -38,7 +38,7 @@ broken_by : (rule : Rule) (db : Database) → OfRows (λ rows. ¬ EachKeeps rule
 broken_by Key db of = of
 broken_by rule db of = λ rows has keeps. of rows has keeps.0
 
-find_broken : {X : Type 0} (db : Database) (stored : StoredRows → Option Entry) (read : Entry → Result X Rule)
+pub find_broken : {X : Type 0} (db : Database) (stored : StoredRows → Option Entry) (read : Entry → Result X Rule)
     → ((rule : Rule) (rows : StoredRows) → EachKeeps rule rows → (r : Entry) → stored rows ≡ Some r
     → read r ≢ Err rule) → (fault : TableFault)
     → OfRows (λ rows. FindsStored (stored rows) read (Err fault)) db → IsOf db fault

@@ -8,7 +8,7 @@ use Rattle.posting_rules.specs.{believed.Tables.Tables, declared.fault.Rule.Rule
 use Rattle.sql_meanings.proofs.{Saying.says_then, Sparing.spares_itself, Sparing.spares_then}
 use Rattle.store_rows.specs.believed.{Failures.Additions, Sparing.bank_names, View.Shows}
 use Rattle.store_rows.specs.declared.fault.TableFault.{TableFault, TheVariants.Sqlite, TheVariants.Damaged}
-use Rattle.bank_transactions.specs.{believed.Causes.Damage, believed.Causes.IsBrokenOrMet, Causes.IsFirstBroken}
+use Rattle.bank_transactions.specs.{believed.Causes.Damage, believed.Causes.IsBrokenOrMet, Causes.IsFirstDamaged}
 use Rattle.bank_transactions.specs.Doing.{Acts, CommitsNothing, Does, DoesBy, GoesOnUncommitted, LeavesAndAnswers, Looks}
 use Rattle.bank_transactions.proofs.Blamed.{blames_also, broken_or_met, comes, met_after}
 use Rattle.bank_transactions.proofs.Wrote.{writes_also, writes_none, writes_then}
@@ -218,14 +218,14 @@ module _ {S X Y : Type 0} {g : Ghosts S} {Adds : Additions} {old mid new : Trans
 
 acts_as : {S X : Type 0} {Bad Met : Damage S} {g : Ghosts S} {Adds : Additions} {old new : Transaction S}
     {So : Tables → Type 0} {after : Tables → Tables} {w : Tables → X} {r : Result X TableFault}
-    → ((rule : Rule) → Bad old.conn.now new.conn.now rule → IsFirstBroken g old.conn.now new.conn.now rule)
+    → ((rule : Rule) → Bad old.conn.now new.conn.now rule → IsFirstDamaged g old.conn.now new.conn.now rule)
     → ((rule : Rule) → Met old.conn.now new.conn.now rule → IsBrokenOrMet g Adds old.conn.now new.conn.now rule)
     → DoesBy Bad Met Adds g old new So after w r → Acts g Adds old new So after w r
 acts_as {S} {X} {Bad} {Met} {g} {Adds} {old} {new} {So} {after} {w} {r} worse weaker part = record {
   says = record {
     same_reference = part.says.same_reference;
     answers = λ clean live t shows so.
-        of_bad (Bad old.conn.now new.conn.now) (IsFirstBroken g old.conn.now new.conn.now) (state g new.conn.now)
+        of_bad (Bad old.conn.now new.conn.now) (IsFirstDamaged g old.conn.now new.conn.now) (state g new.conn.now)
         (after t) (w t) r worse (part.says.answers clean live t shows so);
     leaves = λ clean live.
         let it = part.says.leaves clean live in
@@ -239,7 +239,7 @@ pub acts_read : {S X : Type 0} {g : Ghosts S} {Adds : Additions} {old new : Tran
     {after : Tables → Tables} {w : Tables → X}
     {r : Result X TableFault} → Looks g Adds old new So after w r
     → Acts g Adds old new So after w r
-acts_read part = acts_as (λ rule it. it) (λ rule it. inl it) part
+acts_read part = acts_as (λ rule it. it) (λ rule it. inl (inl it)) part
 
 -- it wrote
 pub acts_wrote : {S X : Type 0} {g : Ghosts S} {Adds : Additions} {old new : Transaction S} {So : Tables → Type 0}

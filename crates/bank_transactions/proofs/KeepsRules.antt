@@ -66,14 +66,14 @@ module _ (t : Tables) (sound : IsUndamaged t) where
       ap (row_under (map entry rows)) (same_number n m is) ∙ found_row key entry keyed n rows
 
   -- the branch under a number
-  under_is : (n : ℕ) → branch_under (stored_rows t) n
+  pub under_is : (n : ℕ) → branch_under (stored_rows t) n
       ≡ option_map branch_entry (row_at branch_key t.branches n)
   under_is n =
       under_number branch_key branch_entry (λ _. refl) t.branches (λ k. no_branch_beyond t k sound) n
       (whole_within 1 MAX_BRANCH n) refl
 
   -- its floor
-  floor_is : (n : ℕ) → floor_under (stored_rows t) n ≡ option_map floor_entry (row_at floor_key t.floors n)
+  pub floor_is : (n : ℕ) → floor_under (stored_rows t) n ≡ option_map floor_entry (row_at floor_key t.floors n)
   floor_is n =
       under_number floor_key floor_entry (λ _. refl) t.floors (λ k. no_floor_beyond t k sound) n
       (whole_within 1 MAX_BRANCH n) refl

@@ -7,6 +7,8 @@ pub mod FittingAccounts
 pub mod HeldRows
 pub mod HeldSlots
 pub mod KeepsRules
+pub mod Above
+pub mod NoStrays
 pub mod NextRow
 pub mod OpeningRows
 pub mod ReadsInTurn

@@ -337,7 +337,7 @@ shown_terms db t b low high terms shows held =
 
     of_terms : (terms : Option Terms) → HoldsTerms (stored_rows t) b terms → terms ≡ terms_in t b
     of_terms None none = sym (ap (option_map (terms_of_branch (floor_in t b)))
-        (no_row (row_at branch_key t.branches b) (sym none ∙ branch_is_at)))
+        (no_row (row_at branch_key t.branches b) (sym none.0 ∙ branch_is_at)))
     of_terms (Some terms) holds = with_count (row_at branch_key t.branches b) terms
         (part_if branch_entry count_of_branch read_branch (λ r. r.accounts) count_same
         (row_at branch_key t.branches b) _ branch_is_at (Some terms.accounts) holds.0)

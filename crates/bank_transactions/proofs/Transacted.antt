@@ -6,12 +6,13 @@ use Rattle.sqlite.specs.{Effect.Database, Held.Held, Held.state, Tree.Trees, dec
 use Rattle.sqlite_trees.specs.declared.store.Store.{Ghosts}
 use Rattle.sqlite.proofs.{Callers.survives_begin, StateLemmas.survives_then}
 use Rattle.posting_rules.specs.{believed.Tables.Tables, Sound.AreSound, declared.fault.Rule.Rule}
-use Rattle.store_rows.specs.believed.{Rules.IsBroken, Sparing.SparesOthers, View.Shows, View.ShowsTrees}
+use Rattle.store_rows.specs.believed.{Sparing.SparesOthers, View.Shows, View.ShowsTrees}
+use Rattle.bank_transactions.specs.believed.Stray.{IsDamage}
 use Rattle.store_rows.specs.believed.{Failures.Additions, Failures.Committing, Made.WritesOnly}
 use Rattle.store_rows.specs.declared.fault.TableFault.{TableFault, TheVariants.Sqlite, TheVariants.Damaged}
 use Rattle.bank_transactions.specs.believed.Doing.{LeavesOthers, LeavesSo}
 use Rattle.bank_transactions.specs.believed.Causes.{Damage, IsBefore, IsBrokenOrMet}
-use Rattle.bank_transactions.specs.Causes.{Blames, IsFirstBroken}
+use Rattle.bank_transactions.specs.Causes.{Blames, IsFirstBroken, IsFirstDamaged}
 use Rattle.bank_transactions.specs.Doing.{Acts, ChangesNothing, LeavesAndAnswers, Completes, DoesBy, Ends, EndsBy}
 use Rattle.bank_transactions.specs.Doing.{CommitsNothing}
 use Rattle.bank_transactions.specs.Doing.{MayLeaveAfter, MayCommit, Reads, Undoes, Consults, SparesTheirs, Transacts}
@@ -27,7 +28,7 @@ use Rattle.bank_transactions.proofs.LookUps.{does_read}
 
 -- damage is of the rows that this database has
 abbrev IsOf : Database → Rule → Type 0
-IsOf db rule = IsBroken rule db
+IsOf db rule = IsDamage rule db
 
 not_done : {X : Type 0} (old last new : State) (after : Tables) (wanted : X) (fault : TableFault)
     → LeavesAndAnswers (IsOf old.now) last after wanted (Err fault) → Completes old new after wanted (Err fault)
@@ -140,7 +141,7 @@ module _ {S X : Type 0} {Met : Damage S} {Adds : Additions} {So : Tables → Typ
     (new : Held S)
     (is : begun.conn.now ≡ record old { in_transaction = true })
     (settled : IsTrue (state g old).is_open → (state g old).now ≡ (state g old).committed)
-    (does : DoesBy (IsFirstBroken g) Met Adds g begun last So after w answer) (ends : Ends g last.conn.now new answer result)
+    (does : DoesBy (IsFirstDamaged g) Met Adds g begun last So after w answer) (ends : Ends g last.conn.now new answer result)
   where
     abbrev start : Held S
     start = record old { in_transaction = true }
@@ -341,7 +342,7 @@ pub undoes : {S X : Type 0} {Met : Damage S} {Adds : Additions} {So : Tables →
     (end new : Held S)
     → begun.conn.now ≡ record old { in_transaction = true }
     → (IsTrue (state g old).is_open → (state g old).now ≡ (state g old).committed)
-    → DoesBy (IsFirstBroken g) Met Adds g begun last So after w answer → Ends g last.conn.now end answer result
+    → DoesBy (IsFirstDamaged g) Met Adds g begun last So after w answer → Ends g last.conn.now end answer result
     → end ≡ new
     → UndoesFaults g old new result
 undoes {result = result} g old begun last end new is settled does ends same =

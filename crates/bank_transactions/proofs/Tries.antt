@@ -14,7 +14,8 @@ use Rattle.bank_transactions.specs.believed.Batches.{HasRoomFor}
 use Rattle.sql_meanings.specs.Calls.{Inside, Says}
 use Rattle.sql_meanings.proofs.Saying.{survives_both}
 use Rattle.store_rows.specs.believed.Failures.{Additions, Committing}
-use Rattle.store_rows.specs.believed.{Made.WritesOnly, Rules.IsBroken, Sparing.SparesOthers, View.Shows}
+use Rattle.store_rows.specs.believed.{Made.WritesOnly, Sparing.SparesOthers, View.Shows}
+use Rattle.bank_transactions.specs.believed.Stray.{IsDamage}
 use Rattle.store_rows.specs.declared.fault.TableFault.{TableFault}
 use Rattle.store_rows.specs.declared.fault.TableFault.TheVariants.{Sqlite, Damaged}
 use Rattle.bank_transactions.specs.believed.{Additions.AddsForRecords, Batches.DecidesNone}
@@ -38,7 +39,7 @@ completes_again : {X : Type 0} (old mid new : State) (after : Tables) (wanted : 
     → mid.now ≡ old.now → Completes mid new after wanted r → Completes old new after wanted r
 completes_again old mid new after wanted (Ok x) same answers = answers
 completes_again old mid new after wanted (Err (Sqlite e)) same answers = tt
-completes_again old mid new after wanted (Err (Damaged rule)) same answers = subst (IsBroken rule) same answers
+completes_again old mid new after wanted (Err (Damaged rule)) same answers = subst (IsDamage rule) same answers
 
 module _ {S : Type 0} (g : Ghosts S) (old mid new : Held S) (before : IsAsBefore g old mid) where
   module _ {X : Type 0} {So : Tables → Type 0} {after : Tables → Tables} {w : Tables → X}

@@ -5,11 +5,15 @@ use Rattle.sqlite_trees.specs.declared.store.Store.{Ghosts}
 use Rattle.store_rows.specs.believed.Rules.{IsBroken}
 use Rattle.store_rows.specs.declared.fault.TableFault.{TableFault}
 use Rattle.store_rows.specs.declared.fault.TableFault.TheVariants.{Sqlite, Damaged}
-use Rattle.bank_transactions.specs.believed.Causes.{Damage, HasFailedBetween}
+use Rattle.bank_transactions.specs.believed.{Causes.Damage, Causes.HasFailedBetween, Stray.IsDamage}
 
 -- the rows that the file held at first break the rule
 abbrev pub IsFirstBroken : {S : Type 0} → Ghosts S → Damage S
 IsFirstBroken g old new rule = IsBroken rule (state g old).now
+
+-- or one of them is stray
+abbrev pub IsFirstDamaged : {S : Type 0} → Ghosts S → Damage S
+IsFirstDamaged g old new rule = IsDamage rule (state g old).now
 
 -- an error of `sqlite` is one with which a call of it failed, and damage says this
 abbrev pub IsFault : {S : Type 0} → Damage S → Ghosts S → Held S → Held S → TableFault → Type 0

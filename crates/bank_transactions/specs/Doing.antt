@@ -12,14 +12,14 @@ use Rattle.posting_rules.specs.believed.Tables.{Tables}
 use Rattle.posting_rules.specs.declared.fault.Rule.{Rule}
 use Rattle.sql_meanings.specs.Calls.{Says, Inside}
 use Rattle.store_rows.specs.Calls.{OfTables}
-use Rattle.store_rows.specs.believed.{Failures.Additions, Made.WritesOnly, Rules.IsBroken}
+use Rattle.store_rows.specs.believed.{Failures.Additions, Made.WritesOnly}
 use Rattle.store_rows.specs.believed.Sparing.{SparesOthers}
 use Rattle.store_rows.specs.believed.View.{Shows, ShowsTrees}
 use Rattle.store_rows.specs.declared.fault.TableFault.{TableFault}
 use Rattle.store_rows.specs.declared.fault.TableFault.TheVariants.{Sqlite, Damaged}
 use Rattle.bank_transactions.specs.believed.Causes.{HasMetBetween, Damage, IsBrokenOrMet}
-use Rattle.bank_transactions.specs.Causes.{IsFirstBroken, Blames}
-use Rattle.bank_transactions.specs.believed.Doing.{LeavesOthers}
+use Rattle.bank_transactions.specs.Causes.{Blames, IsFirstBroken, IsFirstDamaged}
+use Rattle.bank_transactions.specs.believed.{Doing.LeavesOthers, Stray.IsDamage}
 
 -- the transaction goes on, nothing is committed, and the tables of other products are as they were
 pub record GoesOnUncommitted (old new : State) : Type 0 where
@@ -41,13 +41,18 @@ ChangesNothing old new (Ok x) = Stays old new
 ChangesNothing old new (Err fault) = KeepsCommit old new
 
 -- In tables that are so, the answer is what was looked for. Whatever the rows, nothing has changed after `Ok`, and
--- damage is of the rows that were there: where they break no rule, none is told.
-pub record ReadsWhere {S X : Type 0} (g : Ghosts S) (old new : Transaction S) (So : Tables → Type 0)
+-- damage says this.
+pub record ReadsBy {S X : Type 0} (Met : Damage S) (g : Ghosts S) (old new : Transaction S) (So : Tables → Type 0)
     (wanted : Tables → X) (result : Result X TableFault) : Type 0 where
   pub says : Says g old new
       (OfTables (λ before now tables. So tables → IfOk result (λ found. found ≡ wanted tables)))
       (λ before now. ChangesNothing before now result
-      × Blames (IsFirstBroken g) g old.conn.now new.conn.now result)
+      × Blames Met g old.conn.now new.conn.now result)
+
+-- it is of the rows that were there: where they break no rule, none is told
+abbrev pub ReadsWhere : {S X : Type 0} → Ghosts S → Transaction S → Transaction S → (Tables → Type 0) → (Tables → X)
+    → Result X TableFault → Type 0
+ReadsWhere g = ReadsBy (IsFirstBroken g) g
 
 -- in undamaged tables
 abbrev pub Reads : {S X : Type 0} → Ghosts S → Transaction S → Transaction S → (Tables → X)
@@ -105,12 +110,12 @@ Does g Adds = DoesBy (λ old new rule. ⊥) (HasMetBetween g Adds) Adds g
 -- there; on any rows it is, or it was met as it wrote
 abbrev pub Looks : {S X : Type 0} → Ghosts S → Additions → Transaction S → Transaction S → (Tables → Type 0)
     → (Tables → Tables) → (Tables → X) → Result X TableFault → Type 0
-Looks g Adds = DoesBy (IsFirstBroken g) (IsFirstBroken g) Adds g
+Looks g Adds = DoesBy (IsFirstDamaged g) (IsFirstBroken g) Adds g
 
 abbrev pub Acts : {S X : Type 0} → Ghosts S → Additions → Transaction S → Transaction S → (Tables → Type 0)
     → (Tables → Tables) → (Tables → X)
     → Result X TableFault → Type 0
-Acts g Adds = DoesBy (IsFirstBroken g) (IsBrokenOrMet g Adds) Adds g
+Acts g Adds = DoesBy (IsFirstDamaged g) (IsBrokenOrMet g Adds) Adds g
 
 -- ---- how a transaction ends
 
@@ -144,7 +149,7 @@ abbrev pub Completes : {X : Type 0} → State → State → Tables → X → Res
 Completes old new after wanted (Ok x) = (x ≡ wanted) × Shows new.now after
     × ((left : Trees) → new.may_leave left → ShowsTrees left after)
 Completes old new after wanted (Err (Sqlite e)) = ⊤
-Completes old new after wanted (Err (Damaged rule)) = IsBroken rule old.now
+Completes old new after wanted (Err (Damaged rule)) = IsDamage rule old.now
 
 -- what was met is reported as damaged: as long as the store is open, everything is as it was
 abbrev pub Undoes : {X : Type 0} → State → State → Result X TableFault → Type 0

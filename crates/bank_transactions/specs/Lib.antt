@@ -6,6 +6,7 @@ pub mod Undone
 pub mod NewRows
 pub mod NextBranch
 pub mod Stored
+pub mod Stray
 pub mod Filling
 pub mod Floors
 pub mod Writing

@@ -2,6 +2,7 @@ pub mod Causes
 pub mod Doing
 pub mod Openings
 pub mod Stored
+pub mod Stray
 pub mod Additions
 pub mod Ran
 pub mod Answered

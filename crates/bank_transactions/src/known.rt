@@ -7,24 +7,29 @@ ghost use Rattle.store_rows.specs.Holders.{entry_under, holder_of};
 ghost use Rattle.store_rows.specs.Lying.{holder_key};
 ghost use Rattle.store_rows.specs.believed.Readings.{read_balance, read_branch, read_floor};
 ghost use Rattle.store_rows.specs.believed.Rules.{OfRows, row_under};
-ghost use Rattle.bank_transactions.specs.Doing.{Reads};
+ghost use Rattle.posting_rules.specs.believed.Damage.{IsUndamaged};
+ghost use Rattle.bank_transactions.specs.Causes.{IsFirstDamaged};
+ghost use Rattle.bank_transactions.specs.Doing.{ReadsBy};
 ghost use Rattle.bank_transactions.specs.Memory.{AsksOnce, Recalls, Remembers, balances_of};
 ghost use Rattle.bank_transactions.specs.believed.Stored.{HoldsDecided};
 
-use crate::{Memory, decided};
+use crate::Memory;
+use crate::strays::last_decided;
 use message_records::{Branch, Cents};
 use posting_rules::{BranchRow, FloorRow, MAX_DECIDED};
 use sqlite::{Alter, Transaction};
 use store_rows::{Member, TableFault, balance_of, find_branch, find_floor};
 
-/// How many requests are decided, which is asked of the tables where it isn't remembered.
+/// How many requests are decided, which is asked of the tables where it isn't remembered. So is whether a row is beyond
+/// them.
 pub(crate) fn known_decided<S: Alter>(
     tx: &mut Transaction<'_, S>,
     memory: &mut Memory,
 ) -> Result<u64, TableFault>
     requires { ∥ Remembers S.Store tx.old.conn.now memory.old ∥₁ }
     ensures within { IfOk result (λ decided. decided ≤ MAX_DECIDED) }
-    ensures says { Reads S.Store tx.old tx.new (λ tables. tables.decided) result }
+    ensures says { ReadsBy (IsFirstDamaged S.Store) S.Store tx.old tx.new IsUndamaged (λ tables. tables.decided)
+        result }
     ensures stored { IfOk result (λ decided. HasCleanDisk (state S.Store tx.new.conn.now)
         → OfRows (λ rows. HoldsDecided rows decided) (state S.Store tx.old.conn.now).now) }
     ensures once { AsksOnce tx.old tx.new memory.old.decided result }
@@ -34,7 +39,7 @@ pub(crate) fn known_decided<S: Alter>(
     if let Some(decided) = memory.decided {
         return Ok(decided);
     }
-    let decided = decided(tx)?;
+    let decided = last_decided(tx)?;
     memory.note(decided);
     Ok(decided)
 }

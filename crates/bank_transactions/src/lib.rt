@@ -59,6 +59,7 @@ mod memory;
 mod new_branch;
 mod next_branch;
 mod slots;
+mod strays;
 mod transactions;
 
 pub use balances::{write_balance, write_decided};

@@ -9,7 +9,9 @@ ghost use Rattle.posting_rules.specs.believed.Counter.{opening_for};
 ghost use Rattle.posting_rules.specs.believed.LookUps.{terms_in};
 ghost use Rattle.posting_rules.specs.believed.Tables.{row_at, branch_key, floor_key};
 ghost use Rattle.bank_transactions.specs.believed.Additions.{AddsBranch, AddsFloor, AddsOne, AddsRange};
-ghost use Rattle.bank_transactions.specs.Doing.{Acts, Leaves, Reads};
+ghost use Rattle.posting_rules.specs.believed.Damage.{IsUndamaged};
+ghost use Rattle.bank_transactions.specs.Causes.{IsFirstDamaged};
+ghost use Rattle.bank_transactions.specs.Doing.{Acts, Leaves, ReadsBy};
 ghost use Rattle.bank_transactions.specs.Running.{Writes};
 ghost use Rattle.bank_transactions.specs.believed.Answered.{OpensAll};
 ghost use Rattle.bank_transactions.specs.believed.Openings.{HasRoomToOpen, IsReadyToOpen};
@@ -18,6 +20,7 @@ ghost use Rattle.bank_transactions.specs.believed.Stored.{AnswersStored};
 
 use crate::floors::floor_at;
 use crate::look_ups::branch_at;
+use crate::strays::none_floored;
 use message_records::{Account, Branch, Cents, Teller};
 use posting_rules::{
     BranchRow, FloorRow, LAST_BRANCH, MAX_ACCOUNTS, Opening, TELLERS_PER_BRANCH, first_account,
@@ -152,20 +155,21 @@ fn opened_again(row: BranchRow, first: Option<Cents>, count: u32, floor: &Option
     }
 }
 
-// What opening the branch comes to, by what it was opened with, if it was.
+// What opening the branch comes to, by what it was opened with, if it was. One that wasn't has no floor yet.
 fn opening_of<S: Alter>(
     tx: &mut Transaction<'_, S>,
     branch: Branch,
     count: u32,
     floor: &Option<Cents>,
 ) -> Result<Opening, TableFault>
-    ensures says { Reads S.Store tx.old tx.new
+    ensures says { ReadsBy (IsFirstDamaged S.Store) S.Store tx.old tx.new IsUndamaged
         (λ tables. opening_for (terms_in tables branch) (opened_with count floor.now)) result }
     ensures above { 1 ≤ branch }
     ensures stored { IfOk result (λ opening. HasCleanDisk (state S.Store tx.new.conn.now)
         → AnswersStored (state S.Store tx.old.conn.now).now branch (opened_with count floor.now) opening) }
 {
     let Some(row) = branch_at(tx, branch.get())? else {
+        none_floored(tx, branch)?;
         return Ok(Opening::Opened);
     };
     let first = floor_at(tx, branch.get())?;

@@ -14,7 +14,8 @@ ghost use Rattle.posting_batch.specs.declared.slots.FloorSlot.{FloorSlot};
 ghost use Rattle.posting_batch.specs.Batch.{HasHomes, filled};
 ghost use Rattle.bank_transactions.specs.Filling.{known};
 ghost use Rattle.posting_batch.specs.View.{view};
-ghost use Rattle.bank_transactions.specs.Doing.{Reads, ReadsWhere};
+ghost use Rattle.bank_transactions.specs.Causes.{IsFirstDamaged};
+ghost use Rattle.bank_transactions.specs.Doing.{Reads, ReadsBy, ReadsWhere};
 ghost use Rattle.store_rows.specs.believed.Rules.{OfRows, StoredRows};
 ghost use Rattle.bank_transactions.specs.Filling.{handing, HasBranch, HoldsBranch, TellsBranch};
 ghost use Rattle.bank_transactions.specs.Filling.{AreHeld, AreKnown, AreShown, HasOwnRow, TellsFloor, TellsStored};
@@ -337,7 +338,7 @@ pub(crate) fn fill_known<S: Alter>(
     ensures new_rows { (overlay.new.history ≡ overlay.old.history)
         × (overlay.new.requests ≡ overlay.old.requests)
         × (overlay.new.references ≡ overlay.old.references) × (overlay.new.kept ≡ overlay.old.kept) }
-    ensures says { ReadsWhere S.Store tx.old tx.new
+    ensures says { ReadsBy (IsFirstDamaged S.Store) S.Store tx.old tx.new
         (λ tables. IsUndamaged tables × HasHomes (view overlay.old))
         (λ tables. known tables (view overlay.old)) (handing (view overlay.new) result) }
     ensures same { OnOk result (emptied (view overlay.new) ≡ emptied (view overlay.old)) }
@@ -372,7 +373,7 @@ pub fn fill<S: Alter>(
     ensures new_rows { (overlay.new.history ≡ overlay.old.history)
         × (overlay.new.requests ≡ overlay.old.requests)
         × (overlay.new.references ≡ overlay.old.references) }
-    ensures says { ReadsWhere S.Store tx.old tx.new
+    ensures says { ReadsBy (IsFirstDamaged S.Store) S.Store tx.old tx.new
         (λ tables. IsUndamaged tables × HasHomes (view overlay.old))
         (λ tables. filled tables (view overlay.old)) (handing (view overlay.new) result) }
     ensures same { OnOk result (emptied (view overlay.new) ≡ emptied (view overlay.old)) }

@@ -6,7 +6,7 @@ use Rattle.sqlite.specs.declared.error.Error.{Error}
 use Rattle.sqlite_trees.specs.declared.store.Store.{Ghosts}
 use Rattle.posting_rules.specs.declared.fault.Rule.{Rule}
 use Rattle.store_rows.specs.believed.Failures.{Additions, HasFailed, HasMet}
-use Rattle.store_rows.specs.believed.Rules.{IsBroken}
+use Rattle.bank_transactions.specs.believed.Stray.{IsDamage}
 
 -- the second state came after the first: no fault of the disk was forgotten, and the limit on steps is the
 -- same
@@ -40,4 +40,4 @@ Damage S = Held S → Held S → Rule → Type 0
 
 -- they do, or a statement met it as it wrote: the key of such a row is taken, or a row is missing
 abbrev pub IsBrokenOrMet : {S : Type 0} → Ghosts S → Additions → Damage S
-IsBrokenOrMet g Adds old new rule = IsBroken rule (state g old).now ⊎ HasMetBetween g Adds old new rule
+IsBrokenOrMet g Adds old new rule = IsDamage rule (state g old).now ⊎ HasMetBetween g Adds old new rule

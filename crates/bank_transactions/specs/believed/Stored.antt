@@ -117,14 +117,14 @@ pub record RepliesToStored (old new : Database) (r : RequestFields) (reply : Lis
 
 -- ---- an opening
 
--- what the rows of a branch and of its floor say that it was opened with, none where the branch has no row
+-- what the rows of a branch and of its floor say that it was opened with, none where neither has a row
 abbrev pub HoldsTerms : StoredRows → ℕ → Option Terms → Type 0
-HoldsTerms rows branch None = branch_under rows branch ≡ None
+HoldsTerms rows branch None = (branch_under rows branch ≡ None) × (floor_under rows branch ≡ None)
 HoldsTerms rows branch (Some terms) =
     HoldsPart (branch_under rows branch) read_branch (λ r. r.accounts) (Some terms.accounts)
     × HoldsFloor rows branch terms.floor
 
--- The answer is `Opened` where the branch has no row, `Already` where the rows have these terms, and `Differs`
+-- The answer is `Opened` where the branch and its floor have no row, `Already` where the rows have these terms, and `Differs`
 -- where they have others.
 pub record AnswersStored (db : Database) (branch : ℕ) (terms : Terms) (opening : Opening) : Type 0 where
   pub first : Option Terms

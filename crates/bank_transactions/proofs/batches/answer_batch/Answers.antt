@@ -3,10 +3,10 @@ use Rattle.std.proofs.Common.{◌∙◌, arith, length, refl, inl, inr}
 use Rattle.std.proofs.Math.Logic.{∥∥₁_map}
 use Rattle.sqlite.specs.{State.HasCleanDisk, Held.state}
 use Rattle.posting_batch.specs.View.{view}
-use Rattle.bank_transactions.proofs.Chained.{acts_read, does_adds, still_in}
+use Rattle.bank_transactions.proofs.Chained.{does_adds, still_in}
 use Rattle.bank_transactions.proofs.{Added.adds_records, HeldBatch.homes_made, HeldBatch.in_turn_looked_up}
 use Rattle.bank_transactions.proofs.{HeldBatch.answers_all, Running.ran_since}
-use Rattle.bank_transactions.proofs.{LookUps.does_fail, LookUps.does_look, Remembered.keeps_followed}
+use Rattle.bank_transactions.proofs.{LookUps.acts_stray, LookUps.does_look, LookUps.reads_ok, Remembered.keeps_followed}
 use Rattle.bank_transactions.proofs.JudgedSlots.{answered_idle, answered_not, answered_written, counts_none}
 use Rattle.bank_transactions.proofs.JudgedSlots.{fills, judging_all}
 use Rattle.bank_transactions.proofs.batches.answer_batch.Goals.{then-judged-before+in_ok-write, else-judged-before}
@@ -21,7 +21,7 @@ returns-in_err-fill g c =
     let failed = c.in_err-fill.ensures.says in
     rw (handed_on c.from_residual.result c.from_residual.ensures.1) (record {
       same_reference = failed.says.same_reference;
-      says = λ records made. acts_read (does_fail failed);
+      says = λ records made. acts_stray failed;
       count = tt;
       idle = tt;
       stored = tt;
@@ -41,7 +41,7 @@ returns-in_err-write g c =
           c.args.moment (view c.judge-judged.result.overlay) c.judge-judged.result.replies.items made refl
           j.judged j.rising j.idle in
           answered_not so (does_look (fills (length records) (view c.fill.new.overlay) (view c.args.batch.overlay)
-          fill.says fill.same (λ clean. fill.stored clean (homes_made c.args.batch records made)))) (does_adds (λ clean.
+          (reads_ok fill.says) fill.same (λ clean. fill.stored clean (homes_made c.args.batch records made)))) (does_adds (λ clean.
           let before = clean_at failed.says.survives clean in
           adds_records c.args.batch records (view c.fill.new.overlay) (view c.judge-judged.result.overlay) _ made
           fill.same
@@ -88,7 +88,7 @@ returns-clause-says g c records made =
     c.args.moment (view c.judge-judged.result.overlay) c.judge-judged.result.replies.items made refl
     j.judged j.rising j.idle in
     let fill = c.in_ok-fill.ensures in
-    let reads = fills (length records) (view c.fill.new.overlay) (view c.args.batch.overlay) fill.says fill.same (λ clean.
+    let reads = fills (length records) (view c.fill.new.overlay) (view c.args.batch.overlay) (reads_ok fill.says) fill.same (λ clean.
     fill.stored clean (homes_made c.args.batch records made)) in
     rw c.into_replies.ensures (elim c.if-judged-before.branch [
       | then-judged-before+in_ok-write w ↦
@@ -110,7 +110,7 @@ returns-clause-idle g c clean records made t shows so none =
     let it = judging_all c.args.batch _ records
     c.args.moment (view c.judge-judged.result.overlay) c.judge-judged.result.replies.items made refl
     j.judged j.rising j.idle in
-    let reads = fills (length records) (view c.fill.new.overlay) (view c.args.batch.overlay) fill.says fill.same (λ clean.
+    let reads = fills (length records) (view c.fill.new.overlay) (view c.args.batch.overlay) (reads_ok fill.says) fill.same (λ clean.
     fill.stored clean (homes_made c.args.batch records made)) in
     let first = does_look {Adds = λ text values. ⊥} reads in
     elim c.if-judged-before.branch [
@@ -160,7 +160,7 @@ pub returns-clause-remembers : goal.returns-clause-remembers
 returns-clause-remembers g c =
     elim c.if-judged-before.branch [
       | then-judged-before+in_ok-write w ↦
-          rw (w.tx-is, w.memory-is) (keeps_followed c.fill.new.memory w.write.new.memory c.in_ok-fill.ensures.says
+          rw (w.tx-is, w.memory-is) (keeps_followed c.fill.new.memory w.write.new.memory (reads_ok c.in_ok-fill.ensures.says)
           w.in_ok-write.ensures.does w.in_ok-write.ensures.follows c.in_ok-fill.ensures.remembers)
       | else-judged-before w ↦ rw (w.tx-is, w.memory-is) (∥∥₁_map c.in_ok-fill.ensures.remembers (λ it live. it))
     ]

@@ -3,12 +3,13 @@ use Rattle.store_rows.specs.believed.BankTables as bank
 use Rattle.store_rows.specs.Lying.{CountLies}
 use Rattle.store_rows.specs.believed.Inserts.{meta_key}
 use Rattle.bank_transactions.proofs.{Fitting.leaves_same, Remembered.known_stored, Remembered.noted, Remembered.reads_known}
-use Rattle.bank_transactions.proofs.Exits.{clean_at, handed_on, reads_fail, survives_itself}
+use Rattle.bank_transactions.proofs.LookUps.{reads_wider, strays_fail}
+use Rattle.bank_transactions.proofs.Exits.{clean_at, handed_on, survives_itself}
 use Rattle.bank_transactions.proofs.known.known_decided.Goals as goal
 
 pub returns-in-Some-clause-says : goal.returns-in-Some-clause-says
 returns-in-Some-clause-says g c =
-    reads_known c.args.memory.now c.in-Some.decided (survives_itself _) c.in-Some.is c.requires
+    reads_wider (reads_known c.args.memory.now c.in-Some.decided (survives_itself _) c.in-Some.is c.requires)
 
 pub returns-in-Some-clause-stored : goal.returns-in-Some-clause-stored
 returns-in-Some-clause-stored g c =
@@ -17,13 +18,13 @@ returns-in-Some-clause-stored g c =
 pub returns-clause-remembers : goal.returns-clause-remembers
 returns-clause-remembers g c =
     let it = c.in_ok-decided.ensures in
-    noted g.S.Store c.args.tx.now.conn.now c.decided.new.tx.conn.now c.args.memory.now c.note.new.self c.in_ok-decided.decided CountLies
+    noted g.S.Store c.args.tx.now.conn.now c.last_decided.new.tx.conn.now c.args.memory.now c.note.new.self c.in_ok-decided.decided CountLies
     (clean_at it.says.says.survives) (λ clean. (it.says.says.leaves clean).0.now) it.lies
     (λ db file lies. c.note.ensures.fits db db (leaves_same bank.meta meta_key db file) lies) c.requires
 
 pub returns-in_err-decided-clause-says : goal.returns-in_err-decided-clause-says
 returns-in_err-decided-clause-says g c =
-    rw (handed_on c.from_residual.result c.from_residual.ensures.1) (reads_fail c.in_err-decided.ensures.says)
+    rw (handed_on c.from_residual.result c.from_residual.ensures.1) (strays_fail c.in_err-decided.ensures.says)
 
 pub returns-in_err-decided-clause-within : goal.returns-in_err-decided-clause-within
 returns-in_err-decided-clause-within g c = rw (handed_on c.from_residual.result c.from_residual.ensures.1) tt
@@ -47,7 +48,7 @@ pub returns-clause-says : goal.returns-clause-says
 returns-clause-says g c = c.in_ok-decided.ensures.says
 
 pub returns-clause-stored : goal.returns-clause-stored
-returns-clause-stored g c = c.in_ok-decided.ensures.stored
+returns-clause-stored g c clean rows has = (c.in_ok-decided.ensures.stored clean rows has).0
 
 pub returns-clause-within : goal.returns-clause-within
 returns-clause-within g c = c.in_ok-decided.ensures.within

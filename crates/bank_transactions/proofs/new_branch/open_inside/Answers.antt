@@ -7,7 +7,8 @@ use Rattle.posting_rules.specs.{declared.counter.Opening.TheVariants.Opened, dec
 use Rattle.posting_rules.specs.believed.Tables.{Tables, row_at, branch_key}
 use Rattle.std.specs.Option.{option_map}
 use Rattle.bank_transactions.proofs.Chained.{acts_read, acts_wrote, does_both, does_but, does_tell, still_in}
-use Rattle.bank_transactions.proofs.{LookUps.does_fail, LookUps.does_look, LookUps.finds_so, ShownSlots.shown_terms}
+use Rattle.bank_transactions.proofs.{LookUps.acts_stray, LookUps.does_look, LookUps.finds_so, LookUps.reads_ok}
+use Rattle.bank_transactions.proofs.ShownSlots.{shown_terms}
 use Rattle.bank_transactions.specs.believed.{Openings.IsReadyToOpen, Stored.AnswersStored}
 use Rattle.bank_transactions.specs.Doing.{ReadsWhere}
 use Rattle.message_records.specs.declared.limits.TheConstants.{MAX_BRANCH}
@@ -52,7 +53,7 @@ pub returns-in_err-opening : goal.returns-in_err-opening
 returns-in_err-opening g c =
     let same = handed_on c.from_residual.result c.from_residual.ensures.1 in
     rw same (record {
-      acts = acts_read (does_fail c.in_err-opening.ensures.says);
+      acts = acts_stray c.in_err-opening.ensures.says;
       stored = tt;
     })
 
@@ -60,7 +61,7 @@ pub returns-in_default-clause-acts : goal.returns-in_default-clause-acts
 returns-in_default-clause-acts g c =
     let b = c.args.branch in
     let terms = opened_with c.args.count c.args.floor in
-    acts_read (does_tell (does_look (looked b terms _ c.in_ok-opening.ensures.above (omega arith) c.in_ok-opening.ensures.says
+    acts_read (does_tell (does_look (looked b terms _ c.in_ok-opening.ensures.above (omega arith) (reads_ok c.in_ok-opening.ensures.says)
     c.in_ok-opening.ensures.stored))
     (λ t ready. (
       ready,
@@ -79,7 +80,7 @@ returns-in_err-add_whole_branch-in-Opened g c =
     ≡ Err c.in_err-add_whole_branch-in-Opened.field-0.0 = search rules in
     rw same (record {
       acts = acts_wrote (does_but (does_look (looked b terms _ c.in_ok-opening.ensures.above (omega arith)
-          c.in_ok-opening.ensures.says
+          (reads_ok c.in_ok-opening.ensures.says)
           c.in_ok-opening.ensures.stored))
           c.in_err-add_whole_branch-in-Opened.ensures.writes.does
           (λ t ready found.
@@ -92,7 +93,7 @@ pub returns-in_ok-add_whole_branch-in-Opened-clause-acts : goal.returns-in_ok-ad
 returns-in_ok-add_whole_branch-in-Opened-clause-acts g c =
     let b = c.args.branch in
     let terms = opened_with c.args.count c.args.floor in
-    acts_wrote (does_both (does_look (looked b terms _ c.in_ok-opening.ensures.above (omega arith) c.in_ok-opening.ensures.says
+    acts_wrote (does_both (does_look (looked b terms _ c.in_ok-opening.ensures.above (omega arith) (reads_ok c.in_ok-opening.ensures.says)
     c.in_ok-opening.ensures.stored))
     c.in_ok-add_whole_branch-in-Opened.ensures.writes.does
     (λ t ready found.

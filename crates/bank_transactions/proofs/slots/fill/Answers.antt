@@ -8,7 +8,7 @@ use Rattle.posting_batch.specs.{declared.slots.RequestSlot.RequestSlot, View.vie
 use Rattle.store_rows.specs.believed.Rules.{HoldsBank}
 use Rattle.bank_transactions.specs.Filling.{RequestHeld, RequestShown, emptied_request}
 use Rattle.bank_transactions.proofs.HeldSlots.{put_back}
-use Rattle.bank_transactions.proofs.LookUps.{reads_so}
+use Rattle.bank_transactions.proofs.LookUps.{reads_ok, reads_so, reads_wider}
 use Rattle.bank_transactions.proofs.FilledBatch.{emptied_kept, handed_last, kept_after, nothing_asked, with_kept}
 use Rattle.bank_transactions.proofs.Exits.{clean_at, handed_on}
 use Rattle.bank_transactions.proofs.slots.fill.Goals as goal
@@ -37,9 +37,10 @@ returns-clause-says g c =
     let kept = ap (λ (v : SmallVec RequestSlot). v.items) c.in_ok-fill_known.ensures.new_rows.3 in
     let held = ap (λ (slots : List RequestSlot). with_kept slots p)
     (put_back kv _ c.fill_all.new.slots c.deref_mut.ensures.value c.fill_all.auto.slots) in
-    handed_last c.fill_all.result c.in_ok-fill_known.ensures.says c.fill_all.ensures.says (λ last.
-    reads_so (kept_after c.in_ok-fill_known.ensures.says (c.deref_mut.ensures.value ∙ kept) last)
-    (λ t so. (so, λ e. held ∙ e)))
+    let known = reads_ok c.in_ok-fill_known.ensures.says in
+    reads_wider (handed_last c.fill_all.result known c.fill_all.ensures.says (λ last.
+    reads_so (kept_after known (c.deref_mut.ensures.value ∙ kept) last)
+    (λ t so. (so, λ e. held ∙ e))))
 
 -- ---- of whatever rows a file holds
 

@@ -12,10 +12,10 @@ use Rattle.bank_transactions.specs.Filling.{HasOwnRow, emptied_branch, emptied_f
 use Rattle.bank_transactions.proofs.HeldSlots.{know_branches, know_floors, put_back}
 use Rattle.smallvec.specs.SmallVec.{with_items}
 use Rattle.sqlite_trees.proofs.ListLemmas.{all_both}
-use Rattle.bank_transactions.proofs.{LookUps.reads_but, LookUps.reads_so}
+use Rattle.bank_transactions.proofs.LookUps.{reads_but, reads_ok, reads_so, reads_wider, strays_fail}
 use Rattle.bank_transactions.proofs.FilledBatch.{accounts_in, branches_in, count_in, floors_in, nothing_asked}
 use Rattle.bank_transactions.proofs.FilledBatch.{emptied_known, handed_last, same_known, tellers_in}
-use Rattle.bank_transactions.proofs.Exits.{clean_at, handed_on, reads_fail}
+use Rattle.bank_transactions.proofs.Exits.{clean_at, handed_on}
 use Rattle.bank_transactions.proofs.slots.fill_known.Goals as goal
 
 pub known_decided-requires : goal.known_decided-requires
@@ -36,7 +36,7 @@ fill_all-requires-4 g c = c.in_ok-fill_all-3.ensures.remembers
 pub returns-in_err-overlay : goal.returns-in_err-overlay
 returns-in_err-overlay g c = rw (handed_on c.from_residual.result c.from_residual.ensures.1) (record {
   new_rows = (refl, refl, refl, refl);
-  says = reads_fail c.in_err-overlay.ensures.says;
+  says = strays_fail c.in_err-overlay.ensures.says;
   same = tt;
   stored = tt;
   own = tt;
@@ -45,10 +45,10 @@ returns-in_err-overlay g c = rw (handed_on c.from_residual.result c.from_residua
 
 pub returns-in_err-fill_all : goal.returns-in_err-fill_all
 returns-in_err-fill_all g c =
-    let s1 = count_in {g = g.S.Store} (view c.args.overlay.now) _ c.in_ok-overlay.ensures.says in
+    let s1 = count_in {g = g.S.Store} (view c.args.overlay.now) _ (reads_ok c.in_ok-overlay.ensures.says) in
     rw (handed_on c.from_residual-in_err-fill_all.result c.from_residual-in_err-fill_all.ensures.1) (record {
       new_rows = (refl, refl, refl, refl);
-      says = reads_but s1 c.in_err-fill_all.ensures.says;
+      says = reads_wider (reads_but s1 c.in_err-fill_all.ensures.says);
       same = tt;
       stored = tt;
       own = tt;
@@ -57,11 +57,11 @@ returns-in_err-fill_all g c =
 
 pub returns-in_err-fill_all-2 : goal.returns-in_err-fill_all-2
 returns-in_err-fill_all-2 g c =
-    let s1 = count_in {g = g.S.Store} (view c.args.overlay.now) _ c.in_ok-overlay.ensures.says in
+    let s1 = count_in {g = g.S.Store} (view c.args.overlay.now) _ (reads_ok c.in_ok-overlay.ensures.says) in
     let s2 = branches_in s1 c.deref_mut.ensures.value c.in_ok-fill_all.ensures.says in
     rw (handed_on c.from_residual-in_err-fill_all-2.result c.from_residual-in_err-fill_all-2.ensures.1) (record {
       new_rows = (refl, refl, refl, refl);
-      says = reads_but s2 c.in_err-fill_all-2.ensures.says;
+      says = reads_wider (reads_but s2 c.in_err-fill_all-2.ensures.says);
       same = tt;
       stored = tt;
       own = tt;
@@ -70,12 +70,12 @@ returns-in_err-fill_all-2 g c =
 
 pub returns-in_err-fill_all-3 : goal.returns-in_err-fill_all-3
 returns-in_err-fill_all-3 g c =
-    let s1 = count_in {g = g.S.Store} (view c.args.overlay.now) _ c.in_ok-overlay.ensures.says in
+    let s1 = count_in {g = g.S.Store} (view c.args.overlay.now) _ (reads_ok c.in_ok-overlay.ensures.says) in
     let s2 = branches_in s1 c.deref_mut.ensures.value c.in_ok-fill_all.ensures.says in
     let s3 = floors_in s2 c.deref_mut-2.ensures.value c.in_ok-fill_all-2.ensures.says in
     rw (handed_on c.from_residual-in_err-fill_all-3.result c.from_residual-in_err-fill_all-3.ensures.1) (record {
       new_rows = (refl, refl, refl, refl);
-      says = reads_but s3 c.in_err-fill_all-3.ensures.says;
+      says = reads_wider (reads_but s3 c.in_err-fill_all-3.ensures.says);
       same = tt;
       stored = tt;
       own = tt;
@@ -90,7 +90,7 @@ returns-clause-says g c =
     let tv = c.args.overlay.now.tellers in
     let av = c.args.overlay.now.accounts in
     let bs = put_back bv _ c.fill_all.new.slots c.deref_mut.ensures.value c.fill_all.auto.slots in
-    let s1 = count_in {g = g.S.Store} o _ c.in_ok-overlay.ensures.says in
+    let s1 = count_in {g = g.S.Store} o _ (reads_ok c.in_ok-overlay.ensures.says) in
     let s2 = branches_in s1 c.deref_mut.ensures.value c.in_ok-fill_all.ensures.says in
     let s3 = floors_in s2 c.deref_mut-2.ensures.value c.in_ok-fill_all-2.ensures.says in
     let s4 = tellers_in s3
@@ -103,9 +103,9 @@ returns-clause-says g c =
     bs (put_back fv _ c.fill_all-2.new.slots c.deref_mut-2.ensures.value c.fill_all-2.auto.slots)
     (put_back tv _ c.fill_all-3.new.slots c.deref_mut-3.ensures.value c.fill_all-3.auto.slots)
     (put_back av _ c.fill_all-4.new.slots c.deref_mut-4.ensures.value c.fill_all-4.auto.slots) in
-    handed_last c.fill_all-4.result s4 c.fill_all-4.ensures.says (λ last.
+    reads_wider (handed_last c.fill_all-4.result s4 c.fill_all-4.ensures.says (λ last.
     reads_so (accounts_in s4 (c.deref-2.ensures ∙ bs) c.deref_mut-4.ensures.value last)
-    (λ t so. (so, λ e. held ∙ e)))
+    (λ t so. (so, λ e. held ∙ e))))
 
 pub returns-clause-new_rows : goal.returns-clause-new_rows
 returns-clause-new_rows g c = (refl, refl, refl, refl)
