@@ -3,7 +3,8 @@ use Rattle.std.proofs.Common.{Option, Err, sym, subst, arith, inl, inr}
 use Rattle.sqlite.specs.{Effect.Database, State.HasCleanDisk, State.Survives, Held.Held, Held.state}
 use Rattle.sqlite_trees.specs.declared.store.Store.{Ghosts}
 use Rattle.posting_rules.specs.{declared.fault.Fault.Fault, declared.fault.Rule.Rule, believed.Tables.Tables}
-use Rattle.store_rows.specs.believed.{Failures.Additions, Rules.IsBroken, View.Shows}
+use Rattle.store_rows.specs.believed.{Failures.Additions, View.Shows}
+use Rattle.bank_transactions.specs.believed.Stray.{IsDamage}
 use Rattle.store_rows.specs.declared.fault.TableFault.{TableFault, TheVariants.Sqlite, TheVariants.Damaged}
 use Rattle.bank_transactions.specs.believed.Causes.{Damage, IsBrokenOrMet}
 use Rattle.bank_transactions.specs.{Causes.IsFirstBroken, Doing.Transacts, Doing.TransactsBy}
@@ -12,7 +13,7 @@ use Rattle.bank_store.specs.{believed.Down.OfDamage, Down.GoesDown}
 
 -- on an honest disk tables that are so break the rule, where the database shows them
 abbrev pub BreaksShown : (Tables → Type 0) → Database → Type 0 → Rule → Type 0
-BreaksShown So db Clean rule = Clean → (t : Tables) → Shows db t → So t → IsBroken rule db
+BreaksShown So db Clean rule = Clean → (t : Tables) → Shows db t → So t → IsDamage rule db
 
 module _ {S X : Type 0} {So : Tables → Type 0} {after : Tables → Tables} {wanted : Tables → X} (g : Ghosts S)
     (old mid new : Held S)

@@ -22,12 +22,12 @@ use Rattle.posting_batch.specs.believed.Batch.{AreReadyFor}
 use Rattle.posting_batch.proofs.FreeOrdinals.{free_shown}
 use Rattle.store_rows.specs.{believed.View.Shows, declared.fault.TableFault.TableFault, believed.Failures.Committing}
 use Rattle.store_rows.specs.believed.Failures.{Additions}
-use Rattle.store_rows.specs.believed.Rules.{IsBroken}
+use Rattle.bank_transactions.specs.believed.Stray.{IsDamage}
 use Rattle.store_rows.specs.declared.fault.TableFault.TheVariants.{Sqlite, Damaged}
 use Rattle.bank_transactions.specs.{believed.Causes.Damage, believed.Causes.HasFailedBetween, Doing.MayLeaveAfter}
 use Rattle.bank_transactions.specs.{Doing.TransactsBy}
 use Rattle.bank_transactions.specs.believed.Batches.{HasRoomFor}
-use Rattle.bank_transactions.proofs.{KeepsRules.unbroken, SoundRows.no_branch_beyond, SoundRows.no_floor_beyond}
+use Rattle.bank_transactions.proofs.{NoStrays.no_damage, SoundRows.no_branch_beyond, SoundRows.no_floor_beyond}
 use Rattle.bank_transactions.proofs.Blamed.{comes, failed_within, same_moment}
 use Rattle.bank_store.specs.{Down.GoesDown, believed.NoneOrAll.LeavesNoneOrAll, believed.Seen.error_in}
 use Rattle.bank_store.specs.{believed.Seen.seen_in}
@@ -178,10 +178,11 @@ takes_untried seen cs is are = record {
 
 -- the rows that it has break a rule
 pub is_damaged : (Sound : Tables → Type 0) (holds : HoldsOfLogs Sound) (old new : State) (D E : Type 0) (rule : Rule) → E
-    → (HasCleanDisk new → (t : Tables) → Shows old.now t → Sound t → IsBroken rule old.now)
+    → (HasCleanDisk new → (t : Tables) → Shows old.now t → Sound t → IsDamage rule old.now)
     → (HasCleanDisk new → new.now ≡ old.now) → IsDamaged (seen_in old D) (seen_in new E)
 is_damaged Sound holds old new D E rule down broken same = record {
-  never_shown = λ clean log s. unbroken old.now s.tables s.are (undamaged s.tables log s.commands s.shows) rule
+  never_shown = λ clean log s. no_damage s.tables (undamaged s.tables log s.commands s.shows)
+      (λ count. free_shown s.tables log count s.shows) old.now s.are rule
       (broken clean s.tables s.are (holds s.tables log s.commands s.shows));
   down = down;
   tables = λ clean t shows. subst (λ (db : Database). Shows db t) (sym (same clean)) shows;

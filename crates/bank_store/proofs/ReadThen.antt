@@ -8,6 +8,7 @@ use Rattle.sqlite_trees.specs.declared.store.Store.{Ghosts}
 use Rattle.posting_rules.specs.{believed.Tables.Tables}
 use Rattle.store_rows.specs.believed.{Failures.Additions, Made.WritesOnly, Rules.IsBroken, Sparing.SparesOthers, View.Shows}
 use Rattle.store_rows.specs.declared.fault.TableFault.{TableFault, TheVariants.Sqlite, TheVariants.Damaged}
+use Rattle.bank_transactions.specs.believed.Stray.{IsDamage}
 use Rattle.bank_transactions.specs.{Causes.IsFault, Causes.IsFirstBroken, Doing.Completes, Doing.MayLeaveAfter}
 use Rattle.bank_transactions.specs.{Doing.TransactsBy, Doing.Undoes, Undone.IsUndone, believed.Doing.LeavesOthers}
 use Rattle.bank_transactions.proofs.Blamed.{blames_after, comes}
@@ -54,7 +55,7 @@ module _ {S X : Type 0} {So : Tables → Type 0} {wanted : Tables → X} (g : Gh
       completes : (f : TableFault) → IsFault (IsFirstBroken g) g old new f → (t : Tables)
           → Completes {X = X} (state g old) (state g new) t (wanted t) (Err f)
       completes (Sqlite e) is t = tt
-      completes (Damaged rule) is t = is
+      completes (Damaged rule) is t = inl is
 
       undoes : (f : TableFault) → IsUndone (state g old) (state g new)
           → Undoes {X = X} (state g old) (state g new) (Err f)
@@ -75,7 +76,7 @@ module _ {S X : Type 0} {So : Tables → Type 0} {wanted : Tables → X} (g : Gh
         → Completes (state g mid) (state g new) t (wanted t) q → Completes (state g old) (state g new) t (wanted t) q
     completes_since clean t (Ok x) is = is
     completes_since clean t (Err (Sqlite e)) is = tt
-    completes_since clean t (Err (Damaged rule)) is = subst (IsBroken rule) (same clean) is
+    completes_since clean t (Err (Damaged rule)) is = subst (IsDamage rule) (same clean) is
 
     undoes_since : HasCleanDisk (state g new) → (q : Result X TableFault) → Undoes (state g mid) (state g new) q
         → Undoes (state g old) (state g new) q

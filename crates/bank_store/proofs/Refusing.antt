@@ -15,7 +15,7 @@ use Rattle.bank_transactions.specs.{Doing.Transacts, Doing.TransactsBy}
 use Rattle.bank_transactions.specs.believed.{Additions.AddsBranch, Additions.AddsForRecords, Additions.AnyRow}
 use Rattle.bank_transactions.specs.believed.{Batches.HasRoomFor, Openings.IsReadyToOpen}
 use Rattle.bank_transactions.specs.{believed.Causes.Damage, believed.Causes.IsBrokenOrMet, Causes.IsFirstBroken}
-use Rattle.bank_transactions.proofs.{Blamed.between_also, KeepsRules.unbroken}
+use Rattle.bank_transactions.proofs.{Blamed.between_also, NoStrays.no_damage}
 use Rattle.bank_store.specs.believed.Down.{BreaksOpening, BreaksRule, IsBankCall, KeepsCause, OfDamage}
 use Rattle.bank_store.specs.believed.Down.{WasBrokenOrMet, bank_reason}
 use Rattle.bank_transactions.specs.Undone.{IsUndone}
@@ -133,8 +133,8 @@ breaks g records old new Down met broken = tt
 breaks g records old new (Broken rule) met broken = record {
   met = met;
   broken = broken;
-  unfit = λ clean t shows ready. unbroken (database_of g old) t shows ready.0 rule
-      (broken clean t shows (has_room (length records) t ready));
+  unfit = λ clean t shows ready. no_damage t (ready 0).0 (λ count. (ready count).1) (database_of g old) shows rule
+      (broken clean t shows (has_room (length records) t (ready (length records))));
 }
 
 -- of an opening
@@ -193,7 +193,7 @@ module _ {S X : Type 0} {So : Tables → Type 0} {after : Tables → Tables} {wa
       → TransactsBy {X = X} (IsFirstBroken g) Adds g (connection_of old) mid So after wanted (Err e)
       → Refusal g old new cs (IsFirstBroken g) refused
   consult_refused does =
-      refusal (IsFirstBroken g) (λ rule it. inl it) does
+      refusal (IsFirstBroken g) (λ rule it. inl (inl it)) does
       (consulted g (connection_of old) mid (connection_of new) (fault_of new) refused quiet e does down)
 
   -- of a call that writes

@@ -11,7 +11,7 @@ use Rattle.posting_rules.specs.believed.Tables.{Tables}
 use Rattle.posting_rules.specs.declared.fault.Rule.{Rule}
 use Rattle.posting_batch.specs.believed.Batch.{AreReadyFor}
 use Rattle.store_rows.specs.believed.Failures.{Additions}
-use Rattle.store_rows.specs.believed.Rules.{IsBroken}
+use Rattle.bank_transactions.specs.believed.Stray.{IsDamage}
 use Rattle.bank_transactions.specs.believed.Additions.{AddsBranch, AddsForRecords, AnyRow}
 use Rattle.bank_transactions.specs.believed.Batches.{HasRoomFor}
 use Rattle.bank_transactions.specs.believed.Openings.{IsReadyToOpen}
@@ -45,16 +45,16 @@ pub record BreaksRule {S : Type 0} (g : Ghosts S) (records : List (List ℕ)) (o
     : Type 0 where
   pub met : WasBrokenOrMet g (AddsForRecords (database_of g old) records) old new rule
   pub broken : HasCleanDisk (file_of new) → (t : Tables) → (bank_seen g old).tables t
-      → HasRoomFor (length records) t → IsBroken rule (database_of g old)
+      → HasRoomFor (length records) t → IsDamage rule (database_of g old)
   pub unfit : HasCleanDisk (file_of new) → (t : Tables) → (bank_seen g old).tables t
-      → AreReadyFor (length records) t → ⊥
+      → ((count : ℕ) → AreReadyFor count t) → ⊥
 
 -- so of an opening: they do, where tables were shown in which the branch is open, or none of its keys was taken
 pub record BreaksOpening {S : Type 0} (g : Ghosts S) (branch : ℕ) (terms : Terms) (old new : Bank S g) (rule : Rule)
     : Type 0 where
   pub met : WasBrokenOrMet g (AddsBranch branch terms) old new rule
   pub broken : HasCleanDisk (file_of new) → (t : Tables) → (bank_seen g old).tables t
-      → IsReadyToOpen branch terms t → IsBroken rule (database_of g old)
+      → IsReadyToOpen branch terms t → IsDamage rule (database_of g old)
 
 -- ---- a call
 
