@@ -142,7 +142,7 @@ fn opened<S: Start>(
 {
     match open(rt, file, start) {
         Ok(conn) => Some(conn),
-        Err(error) => {
+        Err((error, _)) => {
             is_full.set(error == Error::SqliteFailure(ErrorCode::DiskFull));
             None
         }

@@ -205,7 +205,7 @@ fn error_of<D: Disk + Drop>(alloc: Global, files: Files<D>) -> Option<Error>
 {
     match open_over(alloc, files, 0) {
         Ok(_) => None,
-        Err(error) => Some(error),
+        Err((error, _)) => Some(error),
     }
 }
 

@@ -1,6 +1,5 @@
 -- What an open finds, by what the files held.
 use Rattle.std.proofs.Common.{◌≤◌, arith, inl, inr}
-use Rattle.std.specs.Prelude.{Result, Ok, Err, IfOk}
 use Rattle.sqlite.specs.{Files.HoldsDatabase, Start.FindsIn, State.State, State.Opens}
 use Rattle.sqlite_pool.proofs.ProbeLemmas.{not_blank}
 use Rattle.sqlite_pool.specs.{Opening.IsBlankFile, Stored.reserved}
@@ -27,8 +26,3 @@ made_on image s blank made = record {
 -- a database that was found in files
 pub found_on : (image : Image) (s : State) → Opens s → FindsIn image s → IsOpenedOn image s
 found_on image s opens found = record { opens = opens; holds = found.holds; reads = inl found.reads }
-
-pub both_ok : {X E : Type 0} {P Q R : X → Type 0} (r : Result X E) → IfOk r P → IfOk r Q
-    → ((x : X) → P x → Q x → R x) → IfOk r R
-both_ok (Ok x) p q go = go x p q
-both_ok (Err e) p q go = tt

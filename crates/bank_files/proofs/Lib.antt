@@ -1,1 +1,2 @@
 mod FoundFiles
+mod Leftovers

@@ -30,17 +30,20 @@
 //! }
 //!
 //! pub fn first_file(rt: &HostRuntime, path: &str) -> Result<i64, Error> {
-//!     let conn = open(rt, path, Unknown)?;
-//!     ask(
-//!         conn,
-//!         "CREATE TABLE note (title TEXT NOT NULL) STRICT; INSERT INTO note VALUES ('mine')",
-//!         "SELECT count(*) FROM note",
-//!     )
+//!     match open(rt, path, Unknown) {
+//!         Ok(conn) => ask(
+//!             conn,
+//!             "CREATE TABLE note (title TEXT NOT NULL) STRICT; INSERT INTO note VALUES ('mine')",
+//!             "SELECT count(*) FROM note",
+//!         ),
+//!         Err((error, _)) => Err(error),
+//!     }
 //! }
 //! ```
 //!
-//! An error is one of the kinds that an open of `sqlite` has. [`open_over`] is the same for files that are
-//! open. Read next: `specs/Opening`, what an open finds. The crate `bank_commands` is a caller.
+//! An error is one of the kinds that an open of `sqlite` has, and comes with what is left of the files: a bank that they
+//! held is still in them. [`open_over`] is the same for files that are open. Read next: `specs/Opening`, what an open
+//! finds, and `specs/Leftover`, what one that failed leaves. The crate `bank_commands` is a caller.
 #![tactic(auto)]
 
 mod new_files;

@@ -1,16 +1,18 @@
 //! A connection over a bank's files.
-ghost use Rattle.std.specs.Prelude.{◌<◌, true, false, IsTrue, IfErr, IfOk};
-ghost use Rattle.sqlite.specs.Files.{file_state, image_of};
+ghost use Rattle.std.specs.Prelude.{◌<◌, ◌≤◌, true, false, IsTrue, IfErr, IfOk, IfSome};
+ghost use Rattle.sqlite.specs.Files.{IsCleanLeft, faults_of, file_state, image_of};
 ghost use Rattle.sqlite.specs.Held.{IsNew};
 ghost use Rattle.sqlite.specs.Opening.{is_open_error};
 ghost use Rattle.sqlite.specs.State.{HasCleanDisk};
+ghost use Rattle.sqlite_pool.specs.Opening.{IsBlankFile};
 ghost use Rattle.sqlite_std_file.specs.File.{file_is_usable, IsFresh};
 ghost use Rattle.sqlite_wal.specs.Files.{image_at};
 ghost use Rattle.sqlite_wal.specs.Reads.{AreClean, OnlyReads};
-ghost use Rattle.bank_files.specs.Opening.{IsMadeOver, IsOpenedOn};
+ghost use Rattle.bank_files.specs.Leftover.{FailsToOpen};
+ghost use Rattle.bank_files.specs.Opening.{IsOpenedOn};
 
-use crate::new_files::{NO_MEMORY, PAGE_BYTES, are_blank, make_store};
-use sqlite::{Connection, Error, ErrorCode, FileFrom, FileStore, Files, Options, Start};
+use crate::new_files::{PAGE_BYTES, are_blank, make_store};
+use sqlite::{Connection, Error, ErrorCode, FileFrom, FileStore, Files, Leftover, Options, Start};
 use sqlite_disk::Disk;
 use sqlite_std_file::OpenError;
 use sqlite_wal::probe_page_size;
@@ -43,6 +45,7 @@ fn options_for<D: Disk>(files: &mut Files<D>, seed: u64) -> Options
     requires db { IsTrue (D.Disk.is_usable files.old.db) }
     ensures log { OnlyReads D.Disk files.old.log files.new.log }
     ensures db { OnlyReads D.Disk files.old.db files.new.db }
+    ensures counts { faults_of D.Disk files.old ≤ faults_of D.Disk files.new }
 {
     match probe_page_size(files) {
         Ok(Some(size)) => options(size.bytes(), seed),
@@ -55,44 +58,48 @@ fn make_over<D: Disk + Drop>(
     alloc: Global,
     files: Files<D>,
     options: Options,
-) -> Result<Connection<FileStore<D>>, Error>
+) -> Result<Connection<FileStore<D>>, (Error, Leftover<D>)>
     requires log { IsTrue (D.Disk.is_usable files.log) }
     requires db { IsTrue (D.Disk.is_usable files.db) }
+    requires blank { AreClean D.Disk files.log files.db → IsBlankFile PAGE_BYTES (image_of D.Disk files) }
     ensures fresh { IfOk result IsNew }
-    ensures honest { IfOk result (λ conn. HasCleanDisk (file_state conn)
-        → AreClean D.Disk files.log files.db) }
-    ensures made { IfOk result (λ conn. HasCleanDisk (file_state conn) → IsMadeOver (file_state conn)) }
-    ensures named { IfErr result (λ e. IsTrue (is_open_error e)) }
+    ensures opened { IfOk result (λ conn. HasCleanDisk (file_state conn)
+        → IsOpenedOn (image_of D.Disk files) (file_state conn)) }
+    ensures failed { IfErr result (λ e. IsCleanLeft e.1 → FailsToOpen files e) }
+    ensures named { IfErr result (λ e. IsTrue (is_open_error e.0)) }
 {
     let store = make_store(alloc, files, options)?;
     match Connection::over(alloc, store) {
         Ok(conn) => Ok(conn),
-        Err((error, _)) => Err(error),
+        Err((error, store)) => Err((error, Leftover::Store(store))),
     }
 }
 
 /// Opens the files. Where they hold nothing yet, or what an open left that was cut short, they get a database
-/// with no table and with pages of `PAGE_BYTES`.
+/// with no table and with pages of `PAGE_BYTES`. An error comes with what is left of the files: they hold what they
+/// held.
 pub fn open_over<D: Disk + Drop>(
     alloc: Global,
     mut files: Files<D>,
     seed: u64,
-) -> Result<Connection<FileStore<D>>, Error>
+) -> Result<Connection<FileStore<D>>, (Error, Leftover<D>)>
     requires log { IsTrue (D.Disk.is_usable files.log) }
     requires db { IsTrue (D.Disk.is_usable files.db) }
     ensures fresh { IfOk result IsNew }
     ensures opened { IfOk result (λ conn. HasCleanDisk (file_state conn)
         → IsOpenedOn (image_of D.Disk files) (file_state conn)) }
+    // A crash leaves what it could before, or the same database; and why it failed.
+    ensures failed { IfErr result (λ e. IsCleanLeft e.1 → FailsToOpen files e) }
     // An error is one of the kinds that an open of `sqlite` has.
-    ensures named { IfErr result (λ e. IsTrue (is_open_error e)) }
+    ensures named { IfErr result (λ e. IsTrue (is_open_error e.0)) }
 {
-    if are_blank(alloc, &mut files)? {
+    if are_blank(alloc, &mut files) {
         return make_over(alloc, files, options(PAGE_BYTES, seed));
     }
     let options = options_for(&mut files, seed);
     match Connection::open_files(alloc, files, options) {
         Ok(conn) => Ok(conn),
-        Err((error, _)) => Err(error),
+        Err((error, left)) => Err((error, left)),
     }
 }
 
@@ -108,26 +115,35 @@ fn files_at<S: Start>(rt: &HostRuntime, path: &str, start: S) -> Result<Files<Fi
     }
     match sqlite_std_file::open(rt, path, start) {
         Ok(files) => Ok(files),
-        Err(OpenError::OutOfMemory) => Err(NO_MEMORY),
+        Err(OpenError::OutOfMemory) => Err(Error::SqliteFailure(ErrorCode::OutOfMemory)),
         Err(_) => Err(CANNOT_OPEN),
     }
 }
 
 /// Opens the file at a path, or makes it, as `open_over` does. `S` stands for what the files hold. The
-/// connection has no clock, as no statement of a bank asks for the time.
+/// connection has no clock, as no statement of a bank asks for the time. An error comes with what is left of the files,
+/// once they were opened.
 pub fn open<S: Start>(
     rt: &HostRuntime,
     path: &str,
     start: S,
-) -> Result<Connection<FileStore<FileFrom<S>>>, Error>
+) -> Result<Connection<FileStore<FileFrom<S>>>, (Error, Option<Leftover<FileFrom<S>>>)>
     ensures fresh { IfOk result IsNew }
     ensures opened { IfOk result (λ conn. HasCleanDisk (file_state conn)
         → IsOpenedOn (image_at S.Start) (file_state conn)) }
-    ensures named { IfErr result (λ e. IsTrue (is_open_error e)) }
+    ensures failed { IfErr result (λ e. IfSome e.1 (λ left. (files : _) × IsFresh true files.log
+        × IsFresh false files.db × (IsCleanLeft left → FailsToOpen files (e.0, left)))) }
+    ensures named { IfErr result (λ e. IsTrue (is_open_error e.0)) }
 {
-    let files = files_at(rt, path, start)?;
     let Ok(random) = RandomState::new(rt) else {
-        return Err(CANNOT_OPEN);
+        return Err((CANNOT_OPEN, None));
     };
-    open_over(rt.alloc(), files, random.hash_one(&0u8))
+    let files = match files_at(rt, path, start) {
+        Ok(files) => files,
+        Err(error) => return Err((error, None)),
+    };
+    match open_over(rt.alloc(), files, random.hash_one(&0u8)) {
+        Ok(conn) => Ok(conn),
+        Err((error, left)) => Err((error, Some(left))),
+    }
 }

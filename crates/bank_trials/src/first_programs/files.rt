@@ -23,10 +23,12 @@ pub fn ask<D: Disk + Drop>(
 }
 
 pub fn first_file(rt: &HostRuntime, path: &str) -> Result<i64, Error> {
-    let conn = open(rt, path, Unknown)?;
-    ask(
-        conn,
-        "CREATE TABLE note (title TEXT NOT NULL) STRICT; INSERT INTO note VALUES ('mine')",
-        "SELECT count(*) FROM note",
-    )
+    match open(rt, path, Unknown) {
+        Ok(conn) => ask(
+            conn,
+            "CREATE TABLE note (title TEXT NOT NULL) STRICT; INSERT INTO note VALUES ('mine')",
+            "SELECT count(*) FROM note",
+        ),
+        Err((error, _)) => Err(error),
+    }
 }

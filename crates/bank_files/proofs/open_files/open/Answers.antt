@@ -1,6 +1,5 @@
 -- The files are as they were when the path was opened.
 use Rattle.std.proofs.Common.{ℕ, Bool, cond, List, ap₂, subst}
-use Rattle.std.proofs.lemmas.Result.{IfOk-weaker}
 use Rattle.sqlite.specs.Files.{file_state}
 use Rattle.sqlite_disk.specs.Events.{Event, replay}
 use Rattle.sqlite_wal.specs.Recovery.{Image}
@@ -13,11 +12,9 @@ image log db = record { log = log; db = db }
 abbrev seen : List ℕ → List ℕ → Bool → List Event → List ℕ
 seen log db is_log history = (replay (cond is_log log db) history).seen
 
-pub returns-clause-opened : goal.returns-clause-opened
-returns-clause-opened g c =
-    let (log, db) = c.in_ok-files.ensures.fresh in
+pub returns-in-Ok-open_over-clause-opened : goal.returns-in-Ok-open_over-clause-opened
+returns-in-Ok-open_over-clause-opened g c clean =
+    let (log, db) = c.in-Ok-files_at.ensures.fresh in
     let held = seen g.S.Start.log g.S.Start.db in
     let same = ap₂ image (ap₂ held log.0 log.1) (ap₂ held db.0 db.1) in
-    IfOk-weaker c.open_over.result _ _
-    (λ conn opened clean. subst (λ i. IsOpenedOn i (file_state conn)) same (opened clean))
-    c.open_over.ensures.opened
+    subst (λ i. IsOpenedOn i (file_state c.in-Ok-open_over.conn)) same (c.in-Ok-open_over.ensures.opened clean)
