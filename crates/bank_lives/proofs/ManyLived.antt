@@ -7,7 +7,7 @@ use Rattle.posting_rules.specs.believed.Counter.{Seen, StandsAt, LeavesOnly, Sho
 use Rattle.posting_rules.proofs.{Remaining.leaves_weaker, Requests.are_new, Requests.none_shares}
 use Rattle.bank_lives.specs.believed.Lives.{EndsLife, Life}
 use Rattle.bank_lives.specs.believed.ManyLives.{Given, IsOpenedOn, Outlasts, LeavesShown, Lives, ShowsAfter}
-use Rattle.bank_lives.specs.believed.ManyLives.{found, released, replayed, stopped, unopened}
+use Rattle.bank_lives.specs.believed.ManyLives.{found, released, replayed, stopped}
 use Rattle.bank_lives.proofs.Lived.{end_leaves, life_down, life_given, life_honest, life_lives}
 
 -- each request is posted once, whatever led to a log
@@ -79,8 +79,6 @@ module _ {M : Type 0} (seen : M → Seen) where
         | inl stands ↦ stands
         | inr cut ↦ absurd (up cut.0)
       ]
-  before_life start first lives (unopened begun it others some) h =
-      (it, some, h, λ log stood. begins_whole (seen it) log [] 0 (omega arith) stood)
   before_life start first lives (released begun before it life others some lived up) h = (
     before,
     some,

@@ -11,7 +11,8 @@ pub record Given : Type 0 where
   pub commands : List Command
   pub least : ℕ
 
--- it was opened on something that a crash leaves, and stands at whatever log that shows
+-- It was opened on something that a crash leaves, and stands at whatever log that shows. Opens that failed before it, in
+-- any number, left what they found: `open_over` of `bank_files` (`failed`).
 pub record IsOpenedOn (last first : Seen) : Type 0 where
   pub remains : last.Remains
   pub left : last.left remains
@@ -21,10 +22,6 @@ pub record IsOpenedOn (last first : Seen) : Type 0 where
 -- all that a crash may leave has the tables that it shows, as of a connection that was just opened
 abbrev pub LeavesShown : Seen → Type 0
 LeavesShown seen = (t : Tables) → seen.tables t → LeavesOnly seen (λ left. left ≡ t)
-
--- a life that was given nothing
-abbrev pub given_nothing : Given
-given_nothing = record { commands = []; least = 0 }
 
 -- The log that the first life began at, the moment at which a life begins, and what the lives before it were
 -- given, the last of them first.
@@ -38,9 +35,6 @@ pub data Lives {M : Type 0} (seen : M → Seen) : List Command → M → List Gi
   replayed : (opened first : M) (log : List Command) → LeavesShown (seen opened)
       → ((seen first).honest → ShowsLog (seen opened) log)
       → Life seen opened first [] 0 → ((seen first).is_down → ⊥) → Lives seen log first []
-  -- before this moment the files couldn't be opened, which is a life that was given nothing
-  unopened : (start : List Command) (first : M) (lives : List Given) → Lives seen start first lives
-      → Lives seen start first (given_nothing ∷ lives)
   -- the life before ended at this moment, with a release: it wasn't down
   released : (start : List Command) (before first : M) (life : Given) (lives : List Given)
       → Lives seen start before lives → Life seen before first life.commands life.least
