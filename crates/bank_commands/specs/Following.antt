@@ -1,19 +1,22 @@
 -- What the commands that write a log, and that follow one, do over the connection conn, which they hand back as back,
 -- and how they end: end is the status or the fault. r and r' are the known bytes of the input before and after, and w
 -- and w' those of the output; what the calls of these are known to have returned is q and q', and t and t'.
-use Rattle.std.specs.Prelude.{◌≡◌, ◌≢◌, ◌++◌, ℕ, List, length, Option, Result, Ok, Err, IfOk, OnOk, if◌then◌else◌, nat_lt}
+use Rattle.std.specs.Prelude.{◌≡◌, ◌≢◌, ◌++◌, ℕ, ℤ, pos, List, [], ◌∷◌, length, Option, Result, Ok, Err, IfOk, OnOk, if◌then◌else◌, nat_lt}
 use Rattle.std.specs.Io.KnownBytes.{Appends, Keeps}
 use Rattle.sqlite.specs.Held.{Held}
 use Rattle.sqlite_trees.specs.declared.store.Store.{Ghosts}
 use Rattle.posting_rules.specs.believed.Commands.{Command}
 use Rattle.posting_rules.specs.believed.Counter.{ShowsLog}
 use Rattle.posting_rules.specs.declared.fault.Fault.{Fault}
-use Rattle.posting_rules.specs.declared.fault.Fault.TheVariants.{Damaged}
+use Rattle.posting_rules.specs.declared.fault.Fault.TheVariants.{Damaged, Memory}
 use Rattle.posting_rules.specs.declared.fault.Rule.{Rule}
 use Rattle.posting_core.specs.believed.LogEntries.{log_entries}
 use Rattle.posting_core.specs.EndCalls.{WriteCall}
 use Rattle.posting_core.specs.believed.EndCalls.{ReadCall}
+use Rattle.store_rows.specs.believed.BankTables.{meta as meta_table}
 use Rattle.walked_rows.specs.KeptRows.{HasKept, KeptItem}
+use Rattle.walked_rows.specs.OnlyMeta.{bank_entry}
+use Rattle.walked_rows.specs.Rows.{HasStoredRows}
 use Rattle.bank_store.specs.believed.Down.{bank_reason}
 use Rattle.bank_store.specs.believed.Seen.{bank_seen, database_of}
 use Rattle.bank_store.specs.believed.BankSparing.{SparesOtherTables}
@@ -64,11 +67,16 @@ LogsOver g conn back after w w' t t' end =
 
 -- the requests of a bank were counted
 pub record CountsBank {S : Type 0} (g : Ghosts S) (counted : Result ℕ Fault) (old new : Bank S g) : Type 0 where
+  -- of any file it is the count of `meta`
+  pub rows : (bank_seen g new).honest → (version decided : ℤ)
+      → HasStoredRows (database_of g old) meta_table (bank_entry version decided ∷ [])
+      → IfOk counted (λ count. pos count ≡ decided)
   pub log : (bank_seen g new).honest → (log : List Command) → ShowsLog (bank_seen g old) log
       → IfOk counted (λ count. count ≡ length (log_entries log))
   pub sound : (bank_seen g new).honest → (log : List Command) → ShowsLog (bank_seen g old) log → (rule : Rule)
       → counted ≢ Err (Damaged rule)
   pub why : TellsCount g old new counted
+  pub frugal : counted ≢ Err Memory
   pub reads : IsOnlyRead g old new counted
   pub same : (bank_seen g new).honest → OnOk counted (database_of g new ≡ database_of g old)
 

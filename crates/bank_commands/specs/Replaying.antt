@@ -23,7 +23,7 @@ use Rattle.bank_replays.specs.Digests.{DigestsFirst, DigestsRows}
 use Rattle.bank_replays.specs.FileTables.{IsKept}
 use Rattle.bank_replays.specs.Reading.{IsOnlyRead}
 use Rattle.bank_replays.specs.Replays.{AreDigestsIn, OnAgrees, OnDiffers, Replays}
-use Rattle.bank_replays.specs.Writing.{ExportsRows, LeavesWriter, WritesSound, WritesText, plan_text, records_of}
+use Rattle.bank_replays.specs.Writing.{ExportsRows, LeavesWriter, WritesPlan, WritesSound, records_of}
 use Rattle.bank_replays.specs.declared.chain.Digest.{Digest}
 use Rattle.bank_replays.specs.declared.difference.Replay.{Replay}
 use Rattle.bank_replays.specs.declared.difference.Replay.TheVariants.{Agrees, Differs}
@@ -140,7 +140,7 @@ pub record PlansBank {S : Type 0} (g : Ghosts S) (w w' : Option (List ℕ)) (t t
     (ends : Result (Unit {0}) ReplayFault) (old new : Bank S g) : Type 0 where
   pub rows : (bank_seen g new).honest → (floors branches : List Entry)
       → HasStoredRows (database_of g old) floor_table floors
-      → HasStoredRows (database_of g old) branch_table branches → WritesText (plan_text floors branches) w w' ends
+      → HasStoredRows (database_of g old) branch_table branches → WritesPlan floors branches w w' ends
   pub sound : (bank_seen g new).honest → (log : List Command) → ShowsLog (bank_seen g old) log → (rule : Rule)
       → ends ≢ Err (written.Bank (Damaged rule))
   pub writer : LeavesWriter t t' ends

@@ -14,14 +14,13 @@ use Rattle.posting_core.specs.believed.LogEntries.{answered_after}
 use Rattle.posting_core.specs.believed.LogEntries.{AnsweredRequest}
 use Rattle.bank_replays.specs.{declared.fault.ReplayFault.ReplayFault}
 use Rattle.bank_replays.specs.declared.fault.ReplayFault.TheVariants.{Bank, Write}
-use Rattle.bank_replays.specs.Writing.{ExportsRows, WritesSound, is_after, records_after, records_of}
+use Rattle.bank_replays.specs.Writing.{is_after, record_of, records_of, texts_after}
 use Rattle.report_contents.specs.Written.{AppendsPart}
 use Rattle.report_contents.proofs.Written.{same_all, same_part, whole_part}
 use Rattle.std.proofs.lemmas.List.Folds.{flat_map-map}
 use Rattle.bank_store.specs.KeptEntries.{answered_in}
 use Rattle.bank_store.proofs.LogEntries.{answered_since}
 use Rattle.bank_replays.proofs.Logged.{tells_after}
-use Rattle.bank_replays.proofs.{Exported.record_of, TextsAfter.texts_part}
 use Rattle.bank_store.proofs.LogRows.{kept_of}
 
 -- the record of a request
@@ -31,32 +30,8 @@ spelled a = request_spelling a.request
 each_record : (ks : List KeptItem) → flat_map record_of ks ≡ flat_map spelled (map answered_in ks)
 each_record ks = sym (flat_map-map spelled answered_in ks)
 
-module _ (db : Database) (t : Tables) (log : List Command) (in_file : Shows db t) (shows : AreTablesOf t log)
-    (after : ℕ) where
-  records_log : records_after after (kept_of db t log in_file shows) ≡ records_of after (answered_after log)
-  records_log =
-      each_record (filter (is_after after) (kept_of db t log in_file shows))
-      ∙ ap (flat_map spelled)
-      (answered_since after (int_lt (pos after)) (tells_after after) db t log in_file shows)
-
-  module _ (old new : Option (List ℕ)) where
-    part_log : (given rest : List KeptItem) → given ++ rest ≡ kept_of db t log in_file shows
-        → AppendsPart old new (records_after after given) → AppendsPart old new (records_of after (answered_after log))
-    part_log given rest are part =
-        same_part old new records_log
-        (texts_part record_of after old new given rest (kept_of db t log in_file shows) are part)
-
-    -- a log's are never cut short by damage
-    pub writes_log : (result : Result (Unit {0}) ReplayFault)
-        → ExportsRows after (kept_of db t log in_file shows) old new result
-        → ((rule : Rule) → result ≡ Err (Bank (Damaged rule)) → ⊥)
-        → WritesSound (records_of after (answered_after log)) old new result
-    writes_log (Ok done) it sound =
-        same_all old new
-        (ap (records_after after) (sym (append-nil it.given) ∙ ap (λ (l : List KeptItem). it.given ++ l) (sym it.why) ∙ it.are)
-        ∙ records_log) it.wrote
-    writes_log (Err Write) it sound = part_log it.given it.rest it.are it.wrote
-    writes_log (Err (Bank (Damaged rule))) it sound = absurd (sound rule refl)
-    writes_log (Err (Bank Memory)) it sound = part_log it.given it.rest it.are (whole_part old new _ it.wrote)
-    writes_log (Err (Bank Store)) it sound = part_log it.given it.rest it.are (whole_part old new _ it.wrote)
-    writes_log (Err (Bank Down)) it sound = part_log it.given it.rest it.are (whole_part old new _ it.wrote)
+pub records_log : (db : Database) (t : Tables) (log : List Command) (in_file : Shows db t) (shows : AreTablesOf t log)
+    (after : ℕ) → texts_after record_of after (kept_of db t log in_file shows) ≡ records_of after (answered_after log)
+records_log db t log in_file shows after =
+    each_record (filter (is_after after) (kept_of db t log in_file shows))
+    ∙ ap (flat_map spelled) (answered_since after (int_lt (pos after)) (tells_after after) db t log in_file shows)

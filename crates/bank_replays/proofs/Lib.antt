@@ -21,7 +21,7 @@ pub mod Digested
 pub mod InMemory
 pub mod Leaves
 pub mod TextsAfter
-pub mod Exported
+pub mod WrittenRows
 pub mod ExportedLog
 pub mod Logged
 pub mod Planned

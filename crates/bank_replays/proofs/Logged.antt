@@ -1,7 +1,8 @@
 -- Entries of kept rows, and those of a log.
 use Rattle.std.proofs.Common.{◌≡◌, ◌⊎◌, ◌<◌, ◌≤◌, ◌++◌, ℕ, inl, inr, true, false, List, [], ◌∷◌, length, map, filter}
-use Rattle.std.proofs.Common.{drop, Option, Result, Ok, Err, refl, sym, ap, subst, ◌∙◌, arith}
+use Rattle.std.proofs.Common.{append_assoc, drop, take, Option, Result, Ok, Err, refl, sym, ap, subst, ◌∙◌, arith}
 use Rattle.std.specs.Prelude.{ℤ, pos, int_lt, nat_abs, get_or, IfOk}
+use Rattle.std.proofs.lemmas.List.{take-append-drop}
 use Rattle.std.proofs.lemmas.{Int.ints, List.Folds.flat_map-map, Result.IfOk-weaker}
 use Rattle.sqlite.specs.Effect.{Database}
 use Rattle.posting_rules.specs.believed.{Commands.Command, Entries.decided}
@@ -23,11 +24,11 @@ use Rattle.walked_rows.specs.{OnlyMeta.bank_entry, Rows.HasStoredRows, StoredBes
 use Rattle.walked_rows.specs.declared.metas.StoredMeta.{StoredMeta}
 use Rattle.bank_replays.specs.{declared.fault.ReplayFault.ReplayFault}
 use Rattle.bank_replays.specs.declared.fault.ReplayFault.TheVariants.{Bank, Write}
-use Rattle.bank_replays.specs.Logs.{LogsEntries, LogsRows, decided_in, entries_after}
-use Rattle.bank_replays.specs.Logs.{without_count}
-use Rattle.bank_replays.specs.Writing.{WritesSound, WritesText, is_after}
+use Rattle.bank_replays.specs.Logs.{LogsEntries, LogsRows, decided_in, without_count}
+use Rattle.bank_replays.specs.Writing.{is_after, texts_after}
 use Rattle.bank_store.specs.KeptEntries.{entry_in}
 use Rattle.bank_store.proofs.LogRows.{kept_of}
+use Rattle.bank_replays.proofs.WrittenRows.{writes_sound}
 use Rattle.bank_store.proofs.LogEntries.{TellsAfter, entries_length, entries_since, kept_length}
 
 -- ---- of a log
@@ -38,16 +39,10 @@ above m n is = grind (arith, ints)
 not_above : (m n : ℕ) → int_lt (pos m) (pos n) ≡ false → n ≤ m
 not_above m n is = grind (arith, ints)
 
--- without damage
-sound_text : (text : List ℕ) (w w' : Option (List ℕ)) (result : Result ℕ ReplayFault)
-    → WritesText text w w' (without_count result) → ((rule : Rule) → result ≡ Err (Bank (Damaged rule)) → ⊥)
-    → WritesSound text w w' (without_count result)
-sound_text text w w' (Ok count) wrote sound = wrote
-sound_text text w w' (Err Write) wrote sound = wrote
-sound_text text w w' (Err (Bank (Damaged rule))) wrote sound = absurd (sound rule refl)
-sound_text text w w' (Err (Bank Memory)) wrote sound = wrote
-sound_text text w w' (Err (Bank Store)) wrote sound = wrote
-sound_text text w w' (Err (Bank Down)) wrote sound = wrote
+-- how it ended, but for the count, is how it ended
+ended : (result : Result ℕ ReplayFault) (fault : ReplayFault) → without_count result ≡ Err fault → result ≡ Err fault
+ended (Ok count) fault is = cc
+ended (Err other) fault is = cc
 
 -- which rows are written
 pub tells_after : (after : ℕ) → TellsAfter after (int_lt (pos after))
@@ -55,7 +50,7 @@ tells_after after = record { above = above after; below = not_above after }
 
 module _ (db : Database) (t : Tables) (log : List Command) (in_file : Shows db t) (shows : AreTablesOf t log)
     (after : ℕ) where
-  entries_log : entries_after after (kept_of db t log in_file shows) ≡ joined (drop after (log_entries log))
+  entries_log : texts_after entry_in after (kept_of db t log in_file shows) ≡ joined (drop after (log_entries log))
   entries_log =
       sym (flat_map-map (λ (text : List ℕ). text) entry_in (filter (is_after after) (kept_of db t log in_file shows)))
       ∙ ap joined (entries_since after (int_lt (pos after)) (tells_after after) db t log in_file shows)
@@ -65,8 +60,8 @@ module _ (db : Database) (t : Tables) (log : List Command) (in_file : Shows db t
       → LogsRows after (kept_of db t log in_file shows) w w' result
       → ((rule : Rule) → result ≡ Err (Bank (Damaged rule)) → ⊥) → LogsEntries after (log_entries log) w w' result
   logs_log w w' result it sound = record {
-    text = sound_text _ w w' result
-        (subst (λ (text : List ℕ). WritesText text w w' (without_count result)) entries_log it.text) sound;
+    text = writes_sound after (kept_of db t log in_file shows) w w' _ entries_log (without_count result) it.rows
+        (λ rule is. sound rule (ended result _ is));
     kept = IfOk-weaker result _ _ (λ count is. is ∙ kept_length db t log in_file shows) it.kept;
   }
 
@@ -103,10 +98,21 @@ below_zero n (m ∷ more) below = inr (from m more (below_zero m.decided more be
       later.4,
     )
 
-pub one_below : (rows : List StoredMeta) (all : List Entry) (last : ℤ) → last ≡ decided_in (pos 0) rows
-    → map meta_entry rows ≡ all → int_lt last (pos 0) ≡ true → HasBroken CountsBelowZero all
-one_below rows all last is are below =
-    subst (HasBroken CountsBelowZero) are (never (below_zero (pos 0) rows (subst (λ z. int_lt z (pos 0) ≡ true) is below)))
+-- those among the first are among all
+first_broken : {P : Entry → Type 0} (most : ℕ) (all : List Entry) → HasBroken P (take most all) → HasBroken P all
+first_broken most all h = (
+  h.0,
+  h.1,
+  h.2 ++ drop most all,
+  sym (take-append-drop most all) ∙ ap (λ l. l ++ drop most all) h.3
+      ∙ append_assoc h.0 (h.1 ∷ h.2) (drop most all),
+  h.4,
+)
+
+pub one_below : (rows : List StoredMeta) (most : ℕ) (all : List Entry) (last : ℤ) → last ≡ decided_in (pos 0) rows
+    → map meta_entry rows ≡ take most all → int_lt last (pos 0) ≡ true → HasBroken CountsBelowZero all
+one_below rows most all last is are below =
+    first_broken most all (subst (HasBroken CountsBelowZero) are (never (below_zero (pos 0) rows (subst (λ z. int_lt z (pos 0) ≡ true) is below))))
   where
     never : {P : Type 0} → (int_lt (pos 0) (pos 0) ≡ true) ⊎ P → P
     never (inl below) = absurd cc

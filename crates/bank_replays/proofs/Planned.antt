@@ -1,6 +1,6 @@
 -- The lines of a plan, one branch more, and the whole text.
 use Rattle.std.proofs.Common.{◌≡◌, ◌++◌, ℕ, pos, List, [], ◌∷◌, map, Option, Some, None, refl, sym, ap, subst, ◌∙◌}
-use Rattle.std.proofs.Common.{append-nil, append_assoc}
+use Rattle.std.proofs.Common.{append-nil, append_assoc, arith, inl, inr}
 use Rattle.std.specs.{Prelude.option_map, Io.KnownBytes.Appends}
 use Rattle.std.proofs.{KnownBytes.Appends-trans, lemmas.List.map-append}
 use Rattle.posting_rules.specs.believed.Tables.{row_at}
@@ -13,6 +13,10 @@ use Rattle.report_contents.specs.{Lines.text_of, Written.AppendsPart}
 use Rattle.report_contents.proofs.Joined.{text_of-append, text_of-snoc}
 use Rattle.report_contents.proofs.Written.{first_part, same_part, then_part}
 use Rattle.bank_replays.specs.Writing.{branch_of, lowest_of, plan_line, plan_lines, plan_names, plan_text}
+use Rattle.bank_replays.specs.declared.fault.ReplayFault.{ReplayFault, TheVariants.Bank, TheVariants.Write}
+use Rattle.bank_replays.specs.{Damaged.fault_in, Visiting.AsksMemory, Visiting.refused_of}
+use Rattle.posting_rules.specs.declared.fault.Fault.{Fault, TheVariants.Memory}
+use Rattle.std.specs.Prelude.{◌≢◌}
 use Rattle.bank_replays.proofs.Wrote.{end_part, end_wrote}
 
 -- a branch's floor is the one that the file has under its number
@@ -27,6 +31,19 @@ floor_is floors b =
         → option_map lowest_of x ≡ option_map (number_at 0) (option_map floor_entry x)
     shown None = refl
     shown (Some f) = refl
+
+-- where memory for floors was at its end, there is one
+pub some_floor : (rows : List StoredFloor) (next : Option StoredFloor) (fault : ReplayFault) → AsksMemory rows next fault
+    → (rest floors : List Entry) → map floor_entry rows ++ (refused_of floor_entry next ++ rest) ≡ floors
+    → fault_in fault ≡ Memory → floors ≢ []
+some_floor rows next Write asks rest floors are is none = asks.0 refl
+some_floor [] None (Bank fault) asks rest floors are is none =
+    elim (asks.1 (ap (λ (f : Fault). let r : ReplayFault = Bank f in r) is)) [
+      | inl some ↦ absurd (some refl)
+      | inr many ↦ omega (arith, many)
+    ]
+some_floor [] (Some f) (Bank fault) asks rest floors are is none = cc
+some_floor (r ∷ rows) next (Bank fault) asks rest floors are is none = cc
 
 module _ (floors : List Entry) where
   lines-append : (xs ys : List Entry) → plan_lines floors (xs ++ ys) ≡ plan_lines floors xs ++ plan_lines floors ys

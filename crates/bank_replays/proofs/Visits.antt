@@ -1,14 +1,14 @@
 -- Rows that are visited, one more.
 use Rattle.std.proofs.Common.{◌≡◌, ◌≤◌, ◌<◌, ◌+◌, ◌++◌, ℕ, List, [], ◌∷◌, map, take, drop, length, Option, Ok, Err, Some, None}
-use Rattle.std.proofs.Common.{refl, sym, ap, subst, ◌∙◌, append-nil, arith, inr}
-use Rattle.std.specs.Prelude.{◌≢◌}
+use Rattle.std.proofs.Common.{refl, sym, ap, subst, ◌∙◌, append-nil, arith, inl, inr}
+use Rattle.std.specs.Prelude.{◌≢◌, ◌-◌, ◌^◌}
 use Rattle.std.proofs.lemmas.List.{length-append, length-map, length-take, take-append-drop, take-append-le, take_all}
 use Rattle.posting_rules.specs.declared.fault.Rule.{Rule}
 use Rattle.bank_store.specs.Walking.{Steps}
 use Rattle.posting_rules.specs.declared.fault.Fault.{Fault}
 use Rattle.posting_rules.specs.declared.fault.Fault.TheVariants.{Damaged, Down, Memory, Store}
-use Rattle.bank_replays.specs.Damaged.{Stops}
-use Rattle.bank_replays.specs.Visiting.{Bars, VisitsAll, VisitsSome, IsRefusal, Why}
+use Rattle.bank_replays.specs.Damaged.{Stops, fault_in}
+use Rattle.bank_replays.specs.Visiting.{AreTooMany, AsksMemory, Bars, VisitsAll, VisitsSome, IsRefusal, Why}
 use Rattle.bank_replays.specs.Prefixes.{memory_is}
 use Rattle.bank_replays.specs.declared.fault.ReplayFault.{ReplayFault}
 use Rattle.bank_replays.specs.declared.fault.ReplayFault.TheVariants.{Bank, Write}
@@ -31,7 +31,24 @@ pub whole : {X : Type 0} (most : ℕ) (xs all : List X) → xs ≡ take most all
 whole {X} most xs all is few =
     is ∙ take_all most all (omega (arith, ap (λ (l : List X). length l) is, length-take most all, few))
 
+-- where there are too many among them, there are too many
+pub too_many : {R X : Type 0} (item : R → X) (rows : List R) (more all : List X) → map item rows ++ more ≡ all
+    → AreTooMany rows → AreTooMany all
+too_many {X = X} item rows more all are many =
+    omega (arith, many, length-map rows item, length-append (map item rows) more, ap (λ (l : List X). length l) are)
+
 -- ---- why no more are visited
+
+-- where no row is kept, fewer than can be counted never end for want of memory
+pub never_memory : {R : Type 0} (rows : List R) (fault : ReplayFault) → AsksMemory rows None fault
+    → (fault ≡ Bank Memory → length rows < 2 ^ 64 - 1) → fault_in fault ≡ Memory → ⊥
+never_memory rows Write asks few is = asks.0 refl
+never_memory rows (Bank fault) asks few is =
+    let memory = ap (λ (f : Fault). let r : ReplayFault = Bank f in r) is in
+    elim (asks.1 memory) [
+      | inl some ↦ some refl
+      | inr many ↦ let low = few memory in omega (arith, many, low)
+    ]
 
 -- the row was refused
 pub why_refused : {R X : Type 0} (item : R → X) (Breaks : Rule → X → Type 0) (Refuses : Rule → R → Type 0)

@@ -10,8 +10,8 @@ use Rattle.walked_rows.specs.StoredBeside.{floor_of, meta_of}
 use Rattle.sqlite.specs.Effect.{Database}
 use Rattle.posting_rules.specs.declared.fault.Rule.{Rule}
 use Rattle.bank_replays.specs.{Damaged.AreHeld, Damaged.BreaksAnswered, Visiting.Bars}
-use Rattle.bank_replays.specs.Refusing.{RefusesAnswered, RefusesExport}
-use Rattle.walked_rows.specs.Requests.{IsAnsweredRow, IsRequestRow}
+use Rattle.bank_replays.specs.Refusing.{RefusesAfter, RefusesAnswered}
+use Rattle.walked_rows.specs.Requests.{IsAnsweredRow}
 
 pub metas_held : AreHeld (λ db rows. HasStoredRows db meta rows) (BreaksBy meta_of)
 metas_held db f has = (f.metas, has.metas, λ rule h. inl h)
@@ -85,11 +85,12 @@ answered_held = as_held kept_held (Bars kept_item BreaksKept RefusesAnswered) in
     into rule k (inr refused) =
         inr (refused.2.0, λ answered. refused.2.1 (subst IsAnsweredRow refused.1 answered))
 
--- or those of no request that is exported
-pub export_held : (after : ℕ) → AreHeld HasKept (Bars kept_item BreaksKept (RefusesExport after))
-export_held after = as_held kept_held (Bars kept_item BreaksKept (RefusesExport after)) into
+-- or are no such ones as are written
+pub after_held : (Is : KeptItem → Type 0) → ((k : KeptItem) → IsAnsweredRow k → Is k) → (after : ℕ)
+    → AreHeld HasKept (Bars kept_item BreaksKept (RefusesAfter Is after))
+after_held Is so after = as_held kept_held (Bars kept_item BreaksKept (RefusesAfter Is after)) into
   where
-    into : (rule : Rule) (k : KeptItem) → Bars kept_item BreaksKept (RefusesExport after) rule k → BreaksAnswered rule k
+    into : (rule : Rule) (k : KeptItem) → Bars kept_item BreaksKept (RefusesAfter Is after) rule k → BreaksAnswered rule k
     into rule k (inl breaks) = inl breaks
     into rule k (inr refused) =
-        inr (refused.2.0, λ answered. refused.2.2 (subst IsRequestRow refused.1 answered.0))
+        inr (refused.2.0, λ answered. refused.2.2 (so (kept_item refused.0) (subst IsAnsweredRow refused.1 answered)))

@@ -1,26 +1,22 @@
 -- The log of a bank as bytes, and how many requests it has.
-use Rattle.std.specs.Prelude.{◌≡◌, ℕ, ℤ, List, [], ◌∷◌, drop, filter, length, Option, Result, Ok, Err, IfOk}
-use Rattle.std.specs.List.{flat_map}
+use Rattle.std.specs.Prelude.{◌≡◌, ℕ, ℤ, List, [], ◌∷◌, drop, length, Option, Result, Ok, Err, IfOk}
 use Rattle.posting_core.specs.believed.Batches.{joined}
 use Rattle.walked_rows.specs.KeptRows.{KeptItem}
+use Rattle.walked_rows.specs.Requests.{IsAnsweredRow}
 use Rattle.walked_rows.specs.declared.metas.StoredMeta.{StoredMeta}
 use Rattle.bank_store.specs.KeptEntries.{entry_in}
-use Rattle.bank_replays.specs.Writing.{WritesSound, WritesText, is_after}
+use Rattle.bank_replays.specs.Writing.{WritesRows, WritesSound}
 use Rattle.bank_replays.specs.declared.fault.ReplayFault.{ReplayFault}
-
--- the entries of the kept rows after an ordinal, one after another
-abbrev pub entries_after : ℕ → List KeptItem → List ℕ
-entries_after after items = flat_map entry_in (filter (is_after after) items)
 
 -- how it ended, but for the count
 abbrev pub without_count : Result ℕ ReplayFault → Result (Unit {0}) ReplayFault
 without_count (Ok count) = Ok tt
 without_count (Err fault) = Err fault
 
--- the entries of rows after an ordinal were written, and so many rows there are
+-- the entries of rows after an ordinal were written, of answered requests alone, and so many rows there are
 pub record LogsRows (after : ℕ) (all : List KeptItem) (w w' : Option (List ℕ)) (result : Result ℕ ReplayFault)
     : Type 0 where
-  pub text : WritesText (entries_after after all) w w' (without_count result)
+  pub rows : WritesRows IsAnsweredRow entry_in after all w w' (without_count result)
   pub kept : IfOk result (λ count. count ≡ length all)
 
 -- all but the first so many entries were written, never cut short by damage, and so many there are

@@ -1,6 +1,6 @@
 -- What holds before the first row is visited, and of a fault of the bank.
-use Rattle.std.specs.Prelude.{◌≡◌, ◌≤◌, ◌-◌, ◌^◌, ◌++◌, ⊤, ℕ, List, [], ◌∷◌, Option, map}
-use Rattle.std.proofs.Common.{append-nil, refl, sym, subst, arith}
+use Rattle.std.specs.Prelude.{◌≡◌, ◌≤◌, ◌-◌, ◌^◌, ◌++◌, ⊤, ℕ, List, [], ◌∷◌, None, Option, map}
+use Rattle.std.proofs.Common.{append-nil, inr, refl, sym, subst, arith}
 use Rattle.std.proofs.Math.Nat.{zero-add}
 use Rattle.std.proofs.KnownBytes.{Appends-nil}
 use Rattle.std.proofs.lemmas.List.{length-map}
@@ -11,7 +11,7 @@ use Rattle.posting_core.proofs.Telling.{more_none}
 use Rattle.posting_rules.specs.declared.fault.Fault.{Fault}
 use Rattle.posting_rules.specs.declared.fault.Fault.TheVariants.{Memory}
 use Rattle.report_contents.proofs.Written.{first_part, whole_part}
-use Rattle.walked_rows.specs.KeptRows.{kept_item}
+use Rattle.walked_rows.specs.KeptRows.{KeptItem, kept_item}
 use Rattle.walked_rows.specs.declared.kept.KeptRequest.{KeptRequest}
 use Rattle.bank_replays.specs.Digests.{EndsDigest, GoesOnBy}
 use Rattle.sqlite_trees.specs.declared.store.Store.{Ghosts}
@@ -20,8 +20,8 @@ use Rattle.bank_replays.specs.FollowedRows.{AreRowsOf}
 use Rattle.bank_replays.specs.Following.{Follows}
 use Rattle.bank_replays.specs.Refilling.{FollowsRows, Plans}
 use Rattle.bank_replays.specs.declared.refill.{Planned.Planned, Refill.Refill}
-use Rattle.bank_replays.specs.Visiting.{AreTooMany}
-use Rattle.bank_replays.specs.Writing.{WroteRecords, WroteSomeRecords, Wrote, WrotePart}
+use Rattle.bank_replays.specs.Visiting.{AreTooMany, AsksMemory}
+use Rattle.bank_replays.specs.Writing.{Wrote, WrotePart, WroteRows, WroteSomeRows}
 use Rattle.bank_replays.specs.declared.chain.Digest.{Digest}
 use Rattle.bank_replays.specs.declared.fault.ReplayFault.{ReplayFault}
 use Rattle.bank_replays.specs.declared.fault.ReplayFault.TheVariants.{Bank, Write}
@@ -34,8 +34,9 @@ none_after d = record { requests = sym (zero-add d.requests); sha256 = refl; eac
 pub wrote_none : (w : Option (List ℕ)) (t : Option (List WriteCall)) → Wrote [] w w t t
 wrote_none w t = (Appends-nil w, more_none t)
 
-pub records_none : (after : ℕ) (w : Option (List ℕ)) (t : Option (List WriteCall)) → WroteRecords after [] w w t t
-records_none after w t = record { wrote = wrote_none w t; each = tt }
+pub rows_none : (Is : KeptItem → Type 0) (text : KeptItem → List ℕ) (after : ℕ) (w : Option (List ℕ))
+    (t : Option (List WriteCall)) → WroteRows Is text after [] w w t t
+rows_none Is text after w t = record { wrote = wrote_none w t; each = tt }
 
 -- nothing was hashed yet
 pub hashed_none : (hasher : Sha256) (message : List ℕ) → Holds256 hasher message → Holds256 hasher (message ++ [])
@@ -56,6 +57,11 @@ IsMemory (Bank fault) = fault ≡ Memory
 
 pub memory_is : (fault : Fault) → (let f : ReplayFault = Bank fault in f) ≡ Bank Memory → fault ≡ Memory
 memory_is fault is = subst IsMemory (sym is) refl
+
+-- none is asked for where no row is kept
+pub asks_none : {R : Type 0} (rows : List R) (fault : Fault) → (fault ≡ Memory → AreTooMany rows)
+    → AsksMemory rows None (Bank fault)
+asks_none rows fault many = (not_write fault, λ is. inr (many (memory_is fault is)))
 
 -- all of a text is a prefix of it and more
 pub all_part : (old new : Option (List ℕ)) (text more : List ℕ) {t t' : Option (List WriteCall)}
@@ -90,10 +96,11 @@ digest_ends first rows fault many =
 mapped_many : (rows : List KeptRequest) → AreTooMany rows → AreTooMany (map kept_item rows)
 mapped_many rows many = subst (λ (n : ℕ). 2 ^ 64 - 1 ≤ n) (sym (length-map rows kept_item)) many
 
-pub records_end : (after : ℕ) (rows : List KeptRequest) {w w' : Option (List ℕ)} {t t' : Option (List WriteCall)}
-    (fault : Fault) → (fault ≡ Memory → AreTooMany rows) → WroteRecords after (map kept_item rows) w w' t t'
-    → WroteSomeRecords after (map kept_item rows) [] w w' t t' (Bank fault)
-records_end after rows fault many visited = record {
+pub rows_end : {Is : KeptItem → Type 0} {text : KeptItem → List ℕ} {after : ℕ} (rows : List KeptRequest)
+    {w w' : Option (List ℕ)} {t t' : Option (List WriteCall)} (fault : Fault) → (fault ≡ Memory → AreTooMany rows)
+    → WroteRows Is text after (map kept_item rows) w w' t t'
+    → WroteSomeRows Is text after (map kept_item rows) [] w w' t t' (Bank fault)
+rows_end rows fault many visited = record {
   wrote = visited.wrote;
   each = visited.each;
   last = λ is. tt;

@@ -1,5 +1,5 @@
 -- Rows that are visited one by one.
-use Rattle.std.specs.Prelude.{◌≡◌, ◌⊎◌, ◌≤◌, ◌<◌, ◌-◌, ◌^◌, ◌++◌, ℕ, List, [], ◌∷◌, length, map, take, Result, Ok, Err}
+use Rattle.std.specs.Prelude.{◌≡◌, ◌≢◌, ◌⊎◌, ◌≤◌, ◌<◌, ◌-◌, ◌^◌, ◌++◌, ℕ, List, [], ◌∷◌, length, map, take, Result, Ok, Err}
 use Rattle.std.specs.Prelude.{Option, Some, None, ⊤}
 use Rattle.posting_rules.specs.declared.fault.Fault.TheVariants.{Damaged, Down, Memory, Store}
 use Rattle.posting_rules.specs.declared.fault.Rule.{Rule}
@@ -9,6 +9,10 @@ use Rattle.bank_replays.specs.declared.fault.ReplayFault.TheVariants.{Bank, Writ
 -- no list in memory has so many
 abbrev pub AreTooMany : {R : Type 0} → List R → Type 0
 AreTooMany rows = 2 ^ 64 - 1 ≤ length rows
+
+-- it isn't the writer's fault, and memory is at its end where a row has to be kept, or there would be no room for so many
+abbrev pub AsksMemory : {R : Type 0} → List R → Option R → ReplayFault → Type 0
+AsksMemory rows next fault = (fault ≢ Write) × (fault ≡ Bank Memory → (next ≢ None) ⊎ AreTooMany rows)
 
 -- why a row is refused: it breaks a rule, or memory or the writer is at its end
 abbrev pub IsRefusal : (Rule → Type 0) → ReplayFault → Type 0

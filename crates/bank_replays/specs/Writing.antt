@@ -1,5 +1,5 @@
 -- What is written of a bank: its requests as records, and its branches as a plan.
-use Rattle.std.specs.Prelude.{◌≡◌, ◌⊎◌, ◌++◌, ℕ, ℤ, pos, Bool, List, [], ◌∷◌, drop, filter, map, codes}
+use Rattle.std.specs.Prelude.{◌≡◌, ◌≢◌, ◌⊎◌, ◌++◌, ℕ, ℤ, pos, Bool, List, [], ◌∷◌, drop, filter, map, codes}
 use Rattle.std.specs.Prelude.{Option, Some, None, Result, Ok, Err, IfErr, OnErr, OnOk, int_lt, option_map, true, ⊤}
 use Rattle.std.specs.Fmt.{signed_decimal}
 use Rattle.std.specs.List.{AllByRecursion, flat_map}
@@ -59,49 +59,52 @@ pub record LeavesWriter (old new : Option (List WriteCall)) (result : Result (Un
   pub flushed : OnOk result (EndsWith IsFlush old new)
   pub failed : result ≡ Err Write → HasWriteFailed old new
 
--- ---- requests
+-- ---- kept requests
 
 -- the row's ordinal is above this one
 abbrev pub is_after : ℕ → KeptItem → Bool
 is_after after k = int_lt (pos after) (kept_key k)
 
--- the records of the kept rows after an ordinal, one after another
-abbrev pub records_after : ℕ → List KeptItem → List ℕ
-records_after after items = flat_map (λ k. request_spelling (request_in k)) (filter (is_after after) items)
+-- a text of each of the kept rows after an ordinal, one after another
+abbrev pub texts_after : (KeptItem → List ℕ) → ℕ → List KeptItem → List ℕ
+texts_after text after items = flat_map text (filter (is_after after) items)
 
--- a row after an ordinal is that of a request
-abbrev pub IsExported : ℕ → KeptItem → Type 0
-IsExported after k = is_after after k ≡ true → IsRequestRow k
+-- the record that a row came as
+abbrev pub record_of : KeptItem → List ℕ
+record_of k = request_spelling (request_in k)
 
--- the records of these rows were written
-pub record WroteRecords (after : ℕ) (items : List KeptItem) (old new : Option (List ℕ)) (t t' : Option (List WriteCall))
-    : Type 0 where
-  pub wrote : Wrote (records_after after items) old new t t'
-  pub each : AllByRecursion (IsExported after) items
+-- a row after an ordinal is such a one
+abbrev pub IsWritten : (KeptItem → Type 0) → ℕ → KeptItem → Type 0
+IsWritten Is after k = is_after after k ≡ true → Is k
+
+-- the texts of these rows were written, of such alone
+pub record WroteRows (Is : KeptItem → Type 0) (text : KeptItem → List ℕ) (after : ℕ) (items : List KeptItem)
+    (old new : Option (List ℕ)) (t t' : Option (List WriteCall)) : Type 0 where
+  pub wrote : Wrote (texts_after text after items) old new t t'
+  pub each : AllByRecursion (IsWritten Is after) items
 
 -- and then this fault came, at the next row if there is one
-pub record WroteSomeRecords (after : ℕ) (items next : List KeptItem) (old new : Option (List ℕ))
-    (t t' : Option (List WriteCall)) (fault : ReplayFault) : Type 0 where
-  pub wrote : WroteUpTo (records_after after items) (records_after after next) old new t t' fault
-  pub each : AllByRecursion (IsExported after) items
+pub record WroteSomeRows (Is : KeptItem → Type 0) (text : KeptItem → List ℕ) (after : ℕ) (items next : List KeptItem)
+    (old new : Option (List ℕ)) (t t' : Option (List WriteCall)) (fault : ReplayFault) : Type 0 where
+  pub wrote : WroteUpTo (texts_after text after items) (texts_after text after next) old new t t' fault
+  pub each : AllByRecursion (IsWritten Is after) items
   -- so is the next, where the writer failed at it
-  pub last : fault ≡ Write → AllByRecursion (IsExported after) next
+  pub last : fault ≡ Write → AllByRecursion (IsWritten Is after) next
   pub many : fault ≡ Bank Memory → AreTooMany items
 
--- the row can't be read, or it is after the ordinal and that of no request
-abbrev pub BreaksExport : ℕ → Rule → KeptItem → Type 0
-BreaksExport after rule k =
-    BreaksKept rule k ⊎ ((rule ≡ Request) × (is_after after k ≡ true) × (IsRequestRow k → ⊥))
+-- the row can't be read, or it is after the ordinal and no such one
+abbrev pub BreaksWritten : (KeptItem → Type 0) → ℕ → Rule → KeptItem → Type 0
+BreaksWritten Is after rule k = BreaksKept rule k ⊎ ((rule ≡ Request) × (is_after after k ≡ true) × (Is k → ⊥))
 
 -- why no more rows were written: there are no more, or the next one breaks the rule
-abbrev pub WhyNoMore : ℕ → (given rest : List KeptItem) → Result (Unit {0}) ReplayFault → Type 0
-WhyNoMore after given rest (Ok done) = rest ≡ []
-WhyNoMore after given rest (Err Write) = ⊤
-WhyNoMore after given rest (Err (Bank Memory)) = AreTooMany given
-WhyNoMore after given rest (Err (Bank Store)) = ⊤
-WhyNoMore after given rest (Err (Bank Down)) = ⊤
-WhyNoMore after given rest (Err (Bank (Damaged rule))) =
-    (k : KeptItem) × (more : List KeptItem) × (rest ≡ k ∷ more) × BreaksExport after rule k
+abbrev pub WhyNoMore : (KeptItem → Type 0) → ℕ → (given rest : List KeptItem) → Result (Unit {0}) ReplayFault → Type 0
+WhyNoMore Is after given rest (Ok done) = rest ≡ []
+WhyNoMore Is after given rest (Err Write) = ⊤
+WhyNoMore Is after given rest (Err (Bank Memory)) = AreTooMany given
+WhyNoMore Is after given rest (Err (Bank Store)) = ⊤
+WhyNoMore Is after given rest (Err (Bank Down)) = ⊤
+WhyNoMore Is after given rest (Err (Bank (Damaged rule))) =
+    (k : KeptItem) × (more : List KeptItem) × (rest ≡ k ∷ more) × BreaksWritten Is after rule k
 
 -- their text was written, or where the writer failed a prefix of it
 abbrev pub WritesUpTo : List ℕ → Option (List ℕ) → Option (List ℕ) → Result (Unit {0}) ReplayFault → Type 0
@@ -110,15 +113,19 @@ WritesUpTo text old new (Err Write) = AppendsPart old new text
 WritesUpTo text old new (Err (Bank fault)) = Appends old new text
 
 -- of these rows the first were written, as far as they are after the ordinal, and the rest weren't
-pub record ExportsRows (after : ℕ) (all : List KeptItem) (old new : Option (List ℕ))
-    (result : Result (Unit {0}) ReplayFault) : Type 0 where
+pub record WritesRows (Is : KeptItem → Type 0) (text : KeptItem → List ℕ) (after : ℕ) (all : List KeptItem)
+    (old new : Option (List ℕ)) (result : Result (Unit {0}) ReplayFault) : Type 0 where
   pub given : List KeptItem
   pub rest : List KeptItem
   pub are : given ++ rest ≡ all
-  -- each of them that is written is that of a request
-  pub each : AllByRecursion (IsExported after) given
-  pub wrote : WritesUpTo (records_after after given) old new result
-  pub why : WhyNoMore after given rest result
+  -- each of them that is written is such a one
+  pub each : AllByRecursion (IsWritten Is after) given
+  pub wrote : WritesUpTo (texts_after text after given) old new result
+  pub why : WhyNoMore Is after given rest result
+
+-- the records of rows of requests
+abbrev pub ExportsRows : ℕ → List KeptItem → (old new : Option (List ℕ)) → Result (Unit {0}) ReplayFault → Type 0
+ExportsRows = WritesRows IsRequestRow record_of
 
 -- a text of a bank that shows a log is never cut short by damage
 abbrev pub WritesSound : List ℕ → Option (List ℕ) → Option (List ℕ) → Result (Unit {0}) ReplayFault → Type 0
@@ -165,3 +172,10 @@ plan_names = codes "branch,accounts,floor\n"
 -- the plan that rows of `branch` and of `branch_floor` are
 abbrev pub plan_text : List Entry → List Entry → List ℕ
 plan_text floors branches = plan_names ++ plan_lines floors branches
+
+-- It was written, or at a fault a prefix of it. Memory is asked for where there is a floor, and is at its end only there, or
+-- where there would be no room for so many branches.
+pub record WritesPlan (floors branches : List Entry) (old new : Option (List ℕ)) (result : Result (Unit {0}) ReplayFault)
+    : Type 0 where
+  pub text : WritesText (plan_text floors branches) old new result
+  pub frugal : result ≡ Err (Bank Memory) → (floors ≢ []) ⊎ AreTooMany branches

@@ -9,8 +9,7 @@ ghost use Rattle.bank_store.specs.believed.Seen.{bank_seen, database_of, file_of
 ghost use Rattle.bank_replays.specs.Damaged.{TellsWhy, fault_in};
 ghost use Rattle.posting_core.specs.believed.LogEntries.{answered_after};
 ghost use Rattle.bank_replays.specs.Reading.{IsOnlyRead, ReadsBank};
-ghost use Rattle.bank_replays.specs.Writing.{ExportsRows, LeavesWriter, WritesSound, WroteRecords, WroteSomeRecords};
-ghost use Rattle.bank_replays.specs.Writing.{is_after, records_of};
+ghost use Rattle.bank_replays.specs.Writing.{ExportsRows, LeavesWriter, WritesSound, is_after, records_of};
 ghost use Rattle.bank_replays.specs.declared.fault.ReplayFault.TheVariants.{Bank as OfBank};
 
 use crate::chain::NO_REQUEST;
@@ -40,23 +39,27 @@ pub(crate) struct After {
 
 impl<W: Sink> Visitor<KeptRequest, W> for After {
     ghost use Rattle.bank_replays.specs.Visiting.{refused_of};
-    ghost use Rattle.bank_replays.specs.Holding.{export_held};
-    ghost use Rattle.bank_replays.specs.Prefixes.{records_end, records_none};
-    ghost use Rattle.bank_replays.specs.Refusing.{RefusesExport};
+    ghost use Rattle.bank_replays.specs.Holding.{after_held};
+    ghost use Rattle.bank_replays.specs.Prefixes.{rows_end, rows_none};
+    ghost use Rattle.bank_replays.specs.Refusing.{RefusesAfter};
+    ghost use Rattle.bank_replays.specs.Writing.{WroteRows, WroteSomeRows, record_of};
+    ghost use Rattle.walked_rows.specs.Requests.{IsRequestRow};
 
-    ghost Visited = { λ visitor first last rows. WroteRecords visitor.after (map kept_item rows)
+    ghost Visited = { λ visitor first last rows. WroteRows IsRequestRow record_of visitor.after (map kept_item rows)
         (W.contents first) (W.contents last) (W.calls first) (W.calls last) };
 
-    ghost Part = { λ visitor first last rows next fault. WroteSomeRecords visitor.after (map kept_item rows)
-        (refused_of kept_item next) (W.contents first) (W.contents last) (W.calls first) (W.calls last) fault };
+    ghost Part = { λ visitor first last rows next fault. WroteSomeRows IsRequestRow record_of visitor.after
+        (map kept_item rows) (refused_of kept_item next) (W.contents first) (W.contents last) (W.calls first)
+        (W.calls last) fault };
 
-    ghost Refuses = { λ visitor. RefusesExport visitor.after };
+    ghost Refuses = { λ visitor. RefusesAfter IsRequestRow visitor.after };
 
-    ghost none_yet = { λ visitor writer. records_none visitor.after (W.contents writer) (W.calls writer) };
+    ghost none_yet = { λ visitor writer. rows_none IsRequestRow record_of visitor.after (W.contents writer)
+        (W.calls writer) };
 
-    ghost in_part = { λ visitor first last rows fault many visited. records_end visitor.after rows fault many visited };
+    ghost in_part = { λ visitor first last rows fault many visited. rows_end rows fault many visited };
 
-    ghost held = { λ visitor. export_held visitor.after };
+    ghost held = { λ visitor. after_held IsRequestRow (λ k answered. answered.0) visitor.after };
 
     fn visit(&self, row: KeptRequest, writer: &mut W) -> Result<(), ReplayFault> {
         if !is_after(&row, self.after) {

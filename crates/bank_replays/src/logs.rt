@@ -1,10 +1,9 @@
 //! The log of a bank: an entry of each kept request.
-ghost use Rattle.std.specs.Prelude.{◌≡◌, ◌≢◌, ◌++◌, ◌∷◌, [], ℤ, pos, List, Err, IfErr, IfOk, OnOk, int_lt, length, map};
-ghost use Rattle.std.specs.Prelude.{true, ⊤};
+ghost use Rattle.std.specs.Prelude.{◌≡◌, ◌≢◌, ◌∷◌, [], ℤ, pos, List, Err, IfErr, IfOk, None, OnOk, int_lt, length, map, true};
 ghost use Rattle.sqlite.specs.State.{HasCleanDisk};
 ghost use Rattle.posting_rules.specs.believed.Commands.{Command};
 ghost use Rattle.posting_rules.specs.believed.Counter.{ShowsLog};
-ghost use Rattle.posting_rules.specs.declared.fault.Fault.TheVariants.{Damaged, Down};
+ghost use Rattle.posting_rules.specs.declared.fault.Fault.TheVariants.{Damaged, Down, Memory};
 ghost use Rattle.posting_rules.specs.declared.fault.Rule.{Rule};
 ghost use Rattle.posting_rules.specs.declared.fault.Rule.TheVariants.{Meta};
 ghost use Rattle.posting_core.specs.believed.LogEntries.{log_entries};
@@ -14,16 +13,15 @@ ghost use Rattle.walked_rows.specs.OnlyMeta.{bank_entry};
 ghost use Rattle.walked_rows.specs.Rows.{HasStoredRows};
 ghost use Rattle.bank_store.specs.believed.Seen.{bank_seen, database_of, file_of};
 ghost use Rattle.bank_replays.specs.Damaged.{TellsCount, TellsWhy, fault_in};
-ghost use Rattle.bank_replays.specs.Logs.{LogsEntries, LogsRows, decided_in, entries_after};
-ghost use Rattle.bank_replays.specs.Logs.{without_count};
+ghost use Rattle.bank_replays.specs.Logs.{LogsEntries, LogsRows, decided_in, without_count};
 ghost use Rattle.bank_replays.specs.Reading.{IsOnlyRead, ReadsBank};
-ghost use Rattle.bank_replays.specs.Writing.{LeavesWriter, Wrote, WrotePart};
+ghost use Rattle.bank_replays.specs.Writing.{LeavesWriter};
 ghost use Rattle.bank_replays.specs.declared.fault.ReplayFault.TheVariants.{Bank as OfBank};
 
 use crate::chain::NO_REQUEST;
 use crate::exports::is_after;
 use crate::fault::{ReplayFault, bank_fault};
-use crate::visitors::{Visitor, visit_all, visit_first};
+use crate::visitors::{Visitor, visit_first};
 use crate::writes::put_bytes;
 use bank_store::{Bank, entry_in};
 use message_records::Whole;
@@ -41,25 +39,28 @@ pub(crate) struct EntriesAfter {
 
 impl<W: Sink> Visitor<KeptRequest, W> for EntriesAfter {
     ghost use Rattle.bank_replays.specs.Visiting.{refused_of};
-    ghost use Rattle.bank_replays.specs.Holding.{answered_held};
-    ghost use Rattle.bank_replays.specs.Prefixes.{all_part, wrote_none};
-    ghost use Rattle.bank_replays.specs.Refusing.{RefusesAnswered};
+    ghost use Rattle.bank_replays.specs.Holding.{after_held};
+    ghost use Rattle.bank_replays.specs.Prefixes.{rows_end, rows_none};
+    ghost use Rattle.bank_replays.specs.Refusing.{RefusesAfter};
+    ghost use Rattle.bank_replays.specs.Writing.{WroteRows, WroteSomeRows};
+    ghost use Rattle.bank_store.specs.KeptEntries.{entry_in};
+    ghost use Rattle.walked_rows.specs.Requests.{IsAnsweredRow};
 
-    ghost Visited = { λ visitor first last rows. Wrote (entries_after visitor.after (map kept_item rows))
+    ghost Visited = { λ visitor first last rows. WroteRows IsAnsweredRow entry_in visitor.after (map kept_item rows)
         (W.contents first) (W.contents last) (W.calls first) (W.calls last) };
 
-    ghost Part = { λ visitor first last rows next fault.
-        WrotePart (entries_after visitor.after (map kept_item rows) ++ entries_after visitor.after (refused_of kept_item next))
-        (W.contents first) (W.contents last) (W.calls first) (W.calls last) fault };
+    ghost Part = { λ visitor first last rows next fault. WroteSomeRows IsAnsweredRow entry_in visitor.after
+        (map kept_item rows) (refused_of kept_item next) (W.contents first) (W.contents last) (W.calls first)
+        (W.calls last) fault };
 
-    ghost Refuses = { λ visitor. RefusesAnswered };
+    ghost Refuses = { λ visitor. RefusesAfter IsAnsweredRow visitor.after };
 
-    ghost none_yet = { λ visitor writer. wrote_none (W.contents writer) (W.calls writer) };
+    ghost none_yet = { λ visitor writer. rows_none IsAnsweredRow entry_in visitor.after (W.contents writer)
+        (W.calls writer) };
 
-    ghost in_part = { λ visitor first last rows fault many visited.
-        all_part (W.contents first) (W.contents last) _ _ visited fault };
+    ghost in_part = { λ visitor first last rows fault many visited. rows_end rows fault many visited };
 
-    ghost held = { λ visitor. answered_held };
+    ghost held = { λ visitor. after_held IsAnsweredRow (λ k answered. answered) visitor.after };
 
     fn visit(&self, row: KeptRequest, writer: &mut W) -> Result<(), ReplayFault> {
         if !is_after(&row, self.after) {
@@ -101,7 +102,8 @@ fn write_entries<S: Alter, W: Sink>(
 ///
 /// # Errors
 ///
-/// At each a prefix of the entries was written. None brings the bank down, and none changes the file.
+/// Where the writer failed a prefix of the entries was written, and else those of the rows before the one at which the
+/// fault came, all of them. None brings the bank down, and none changes the file.
 ///
 /// | Error | What happened |
 /// |---|---|
@@ -140,12 +142,16 @@ impl Visitor<StoredMeta, StoredMeta> for LastMeta {
     ghost use Rattle.std.proofs.Common.{refl};
     ghost use Rattle.walked_rows.specs.StoredBeside.{meta_entry};
     ghost use Rattle.bank_replays.specs.Holding.{bars_held, metas_held};
+    ghost use Rattle.bank_replays.specs.Prefixes.{asks_none};
+    ghost use Rattle.bank_replays.specs.Visiting.{AsksMemory};
 
     ghost Visited = { λ visitor first last rows. last.decided ≡ decided_in first.decided rows };
 
+    ghost Part = { λ visitor first last rows next fault. AsksMemory rows None fault };
+
     ghost none_yet = { λ visitor last. refl };
 
-    ghost in_part = { λ visitor first last rows fault many visited. tt };
+    ghost in_part = { λ visitor first last rows fault many visited. asks_none rows fault many };
 
     ghost held = { λ visitor. bars_held metas_held meta_entry };
 
@@ -176,14 +182,15 @@ fn stored_count<S: Alter>(bank: &mut Bank<S>) -> Result<u64, Fault>
     ensures sound { HasCleanDisk (file_of bank.new) → (log : List Command)
         → ShowsLog (bank_seen S.Store bank.old) log → (rule : Rule) → result ≢ Err (Damaged rule) }
     ensures why { TellsCount S.Store bank.old bank.new result }
+    ensures frugal { result ≢ Err Memory }
 {
     let mut last = StoredMeta {
         id: Whole::new(1).unwrap(),
         version: 0,
         decided: 0,
     };
-    match visit_all::<S, StoredMeta, StoredMeta, LastMeta>(bank, &LastMeta, &mut last) {
-        Ok(()) => counted(&last),
+    match visit_first::<S, StoredMeta, StoredMeta, LastMeta>(bank, u64::MAX, &LastMeta, &mut last) {
+        Ok(_) => counted(&last),
         Err(fault) => Err(bank_fault(fault)),
     }
 }
@@ -209,6 +216,7 @@ pub fn count_requests<S: Alter>(bank: &mut Bank<S>) -> Result<u64, Fault>
     ensures sound { (bank_seen S.Store bank.new).honest → (log : List Command)
         → ShowsLog (bank_seen S.Store bank.old) log → (rule : Rule) → result ≢ Err (Damaged rule) }
     ensures why { TellsCount S.Store bank.old bank.new result }
+    ensures frugal { result ≢ Err Memory }
     ensures reads { IsOnlyRead S.Store bank.old bank.new result }
     ensures same { (bank_seen S.Store bank.new).honest
         → OnOk result (database_of S.Store bank.new ≡ database_of S.Store bank.old) }

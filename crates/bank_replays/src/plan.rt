@@ -1,10 +1,10 @@
 //! The open branches as a plan.
-ghost use Rattle.std.specs.Prelude.{◌≡◌, ◌≢◌, ◌≤◌, ◌+◌, ◌++◌, List, Err, IfOk, length, map, option_map};
+ghost use Rattle.std.specs.Prelude.{◌≡◌, ◌≢◌, ◌≤◌, ◌+◌, ◌++◌, [], List, Err, IfOk, length, map, option_map};
 ghost use Rattle.sqlite.specs.State.{HasCleanDisk};
 ghost use Rattle.posting_rules.specs.believed.Commands.{Command};
 ghost use Rattle.posting_rules.specs.believed.Counter.{ShowsLog};
 ghost use Rattle.posting_rules.specs.believed.Tables.{row_at};
-ghost use Rattle.posting_rules.specs.declared.fault.Fault.TheVariants.{Damaged, Down};
+ghost use Rattle.posting_rules.specs.declared.fault.Fault.TheVariants.{Damaged, Down, Memory};
 ghost use Rattle.posting_rules.specs.declared.fault.Rule.{Rule};
 ghost use Rattle.sql_meanings.specs.believed.Entries.{Entry};
 ghost use Rattle.store_rows.specs.believed.BankTables.{branch as branch_table, floor as floor_table};
@@ -14,8 +14,8 @@ ghost use Rattle.walked_rows.specs.StoredBeside.{floor_entry};
 ghost use Rattle.bank_store.specs.believed.Seen.{bank_seen, database_of, file_of};
 ghost use Rattle.bank_replays.specs.Damaged.{TellsWhy, fault_in};
 ghost use Rattle.bank_replays.specs.Reading.{IsOnlyRead, ReadsBank};
-ghost use Rattle.bank_replays.specs.Writing.{LeavesWriter, Wrote, WrotePart, WritesText, branch_of};
-ghost use Rattle.bank_replays.specs.Writing.{line_with, lowest_of, plan_line, plan_lines, plan_text, text_of_floor};
+ghost use Rattle.bank_replays.specs.Writing.{LeavesWriter, WritesPlan, Wrote, WrotePart, branch_of, line_with, lowest_of};
+ghost use Rattle.bank_replays.specs.Writing.{plan_line, plan_lines, text_of_floor};
 ghost use Rattle.bank_replays.specs.declared.fault.ReplayFault.TheVariants.{Bank as OfBank};
 
 use crate::fault::{ReplayFault, bank_fault};
@@ -73,12 +73,16 @@ struct Listing;
 impl Visitor<StoredFloor, Vec<StoredFloor>> for Listing {
     ghost use Rattle.std.proofs.Common.{append-nil, sym};
     ghost use Rattle.bank_replays.specs.Holding.{bars_held, floors_held};
+    ghost use Rattle.bank_replays.specs.Prefixes.{asks_none};
+    ghost use Rattle.bank_replays.specs.Visiting.{AsksMemory};
 
     ghost Visited = { λ visitor first last rows. last.items ≡ first.items ++ rows };
 
+    ghost Part = { λ visitor first last rows next fault. AsksMemory rows next fault };
+
     ghost none_yet = { λ visitor floors. sym (append-nil floors.items) };
 
-    ghost in_part = { λ visitor first last rows fault many visited. tt };
+    ghost in_part = { λ visitor first last rows fault many visited. asks_none rows fault many };
 
     ghost held = { λ visitor. bars_held floors_held floor_entry };
 
@@ -105,9 +109,9 @@ pub(crate) fn plan_line(lines: &Lines, row: &StoredBranch) -> Line
 }
 
 impl<W: Sink> Visitor<StoredBranch, W> for Lines {
-    ghost use Rattle.bank_replays.specs.Visiting.{refused_of};
+    ghost use Rattle.bank_replays.specs.Visiting.{AreTooMany, refused_of};
     ghost use Rattle.bank_replays.specs.Holding.{bars_held, branches_held};
-    ghost use Rattle.bank_replays.specs.Prefixes.{all_part, wrote_none};
+    ghost use Rattle.bank_replays.specs.Prefixes.{all_part, memory_is, wrote_none};
 
     ghost Visited = { λ visitor first last rows.
         Wrote (plan_lines (map floor_entry visitor.floors.items) (map branch_entry rows))
@@ -116,12 +120,13 @@ impl<W: Sink> Visitor<StoredBranch, W> for Lines {
     ghost Part = { λ visitor first last rows next fault.
         WrotePart (plan_lines (map floor_entry visitor.floors.items) (map branch_entry rows)
         ++ plan_lines (map floor_entry visitor.floors.items) (refused_of branch_entry next))
-        (W.contents first) (W.contents last) (W.calls first) (W.calls last) fault };
+        (W.contents first) (W.contents last) (W.calls first) (W.calls last) fault
+        × (fault ≡ OfBank Memory → AreTooMany rows) };
 
     ghost none_yet = { λ visitor writer. wrote_none (W.contents writer) (W.calls writer) };
 
     ghost in_part = { λ visitor first last rows fault many visited.
-        all_part (W.contents first) (W.contents last) _ _ visited fault };
+        (all_part (W.contents first) (W.contents last) _ _ visited fault, λ is. many (memory_is fault is)) };
 
     ghost held = { λ visitor. bars_held branches_held branch_entry };
 
@@ -137,6 +142,8 @@ pub(crate) fn floors_of<S: Alter>(bank: &mut Bank<S>) -> Result<Lines, Fault>
     ensures rows { HasCleanDisk (file_of bank.new) → (floors : List Entry)
         → HasStoredRows (database_of S.Store bank.old) floor_table floors
         → IfOk result (λ lines. map floor_entry lines.floors.items ≡ floors) }
+    ensures frugal { HasCleanDisk (file_of bank.new) → (floors : List Entry)
+        → HasStoredRows (database_of S.Store bank.old) floor_table floors → result ≡ Err Memory → floors ≢ [] }
     ensures why { TellsWhy S.Store (λ fault. fault) bank.old bank.new result }
 {
     let mut floors = Vec::new(bank.alloc());
@@ -152,7 +159,7 @@ fn write_branches<S: Alter, W: Sink>(bank: &mut Bank<S>, writer: &mut W) -> Resu
     ensures rows { HasCleanDisk (file_of bank.new) → (floors branches : List Entry)
         → HasStoredRows (database_of S.Store bank.old) floor_table floors
         → HasStoredRows (database_of S.Store bank.old) branch_table branches
-        → WritesText (plan_text floors branches) (W.contents writer.old) (W.contents writer.new) result }
+        → WritesPlan floors branches (W.contents writer.old) (W.contents writer.new) result }
     ensures writer { LeavesWriter (W.calls writer.old) (W.calls writer.new) result }
     ensures why { TellsWhy S.Store fault_in bank.old bank.new result }
 {
@@ -182,7 +189,7 @@ pub fn write_plan<S: Alter, W: Sink>(bank: &mut Bank<S>, writer: &mut W) -> Resu
     ensures rows { (bank_seen S.Store bank.new).honest → (floors branches : List Entry)
         → HasStoredRows (database_of S.Store bank.old) floor_table floors
         → HasStoredRows (database_of S.Store bank.old) branch_table branches
-        → WritesText (plan_text floors branches) (W.contents writer.old) (W.contents writer.new) result }
+        → WritesPlan floors branches (W.contents writer.old) (W.contents writer.new) result }
     ensures sound { (bank_seen S.Store bank.new).honest → (log : List Command)
         → ShowsLog (bank_seen S.Store bank.old) log → (rule : Rule) → result ≢ Err (OfBank (Damaged rule)) }
     ensures writer { LeavesWriter (W.calls writer.old) (W.calls writer.new) result }

@@ -16,9 +16,11 @@ returns-in_err-requests g c =
         counted = Err cause;
         stood = c.count_requests.new.bank;
         counts = record {
+          rows = λ clean version decided has. tt;
           log = λ clean log shows. tt;
           sound = it.sound;
           why = it.why;
+          frugal = it.frugal;
           reads = it.reads;
           same = λ clean. tt;
         };
@@ -35,7 +37,15 @@ returns g c =
       follows = record {
         counted = Ok c.in_ok-requests.requests;
         stood = c.count_requests.new.bank;
-        counts = record { log = it.log; sound = it.sound; why = it.why; reads = it.reads; same = it.same };
+        counts = record {
+          rows = it.rows;
+          log = it.log;
+          sound = it.sound;
+          why = it.why;
+          frugal = it.frugal;
+          reads = it.reads;
+          same = it.same;
+        };
         follows = c.follow_into.ensures.follows;
       };
       unprinted = c.follow_into.ensures.unprinted;

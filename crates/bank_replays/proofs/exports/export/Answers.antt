@@ -5,8 +5,8 @@ use Rattle.report_contents.proofs.Written.{nothing_written}
 use Rattle.bank_store.specs.believed.Seen.{database_of}
 use Rattle.bank_store.proofs.{LogRows.has_kept, LogRows.kept_of}
 use Rattle.bank_replays.specs.Prefixes.{wrote_none}
-use Rattle.bank_replays.proofs.{ExportedLog.writes_log, Exits.tested_up, Leaves.none_read, Leaves.only_read}
-use Rattle.bank_replays.proofs.{SoundLogs.sound_log, Wrote.bank_err}
+use Rattle.bank_replays.proofs.{ExportedLog.records_log, Exits.tested_up, Leaves.none_read, Leaves.only_read}
+use Rattle.bank_replays.proofs.{SoundLogs.sound_log, WrittenRows.writes_sound, Wrote.bank_err}
 use Rattle.bank_replays.proofs.exports.export.Goals as goal
 
 pub returns-then-is_down : goal.returns-then-is_down
@@ -33,7 +33,7 @@ returns g c =
       rows = says.rows;
       log = λ clean log shows.
           let db = database_of g.S.Store c.args.bank.now in
-          writes_log db shows.tables log shows.are shows.shows c.args.after _ _ _
+          writes_sound c.args.after _ _ _ _ (records_log db shows.tables log shows.are shows.shows c.args.after) _
           (says.rows clean (kept_of db shows.tables log shows.are shows.shows)
           (has_kept db shows.tables log shows.are shows.shows))
           (λ rule is. sound_log clean log shows c.export_records.result _ says.why is rule refl);

@@ -3,7 +3,7 @@ use Rattle.std.proofs.Common.{◌≡◌, Err, map, refl}
 use Rattle.walked_rows.specs.KeptRows.{kept_item}
 use Rattle.report_contents.proofs.Written.{later_failed}
 use Rattle.bank_replays.specs.{Visiting.refused_of, declared.fault.ReplayFault.TheVariants.Write}
-use Rattle.bank_replays.proofs.Exported.{exports_all, exports_end, exports_part, records_failed}
+use Rattle.bank_replays.proofs.WrittenRows.{rows_failed, writes_all, writes_end, writes_part}
 use Rattle.bank_replays.proofs.{Read.read_any, Whys.why_memory, Whys.why_none}
 use Rattle.bank_replays.proofs.Wrote.{writer_err, writer_ok}
 use Rattle.bank_replays.proofs.Exits.{fails_by}
@@ -15,21 +15,21 @@ returns-in_err-visit_all-clause-rows g c clean all has =
     let same : c.from_residual.result ≡ Err fault = fails_by c.from_residual.ensures.1 in
     let it = c.in_err-visit_all.ensures.visits in
     let more = it.4 clean all has in
-    rw same (exports_part c.args.after all _ _ (map kept_item it.0) (refused_of kept_item it.1) more.0 more.1 fault it.2
+    rw same (writes_part c.args.after all _ _ (map kept_item it.0) (refused_of kept_item it.1) more.0 more.1 fault it.2
     more.2)
 
 pub returns-in_err-visit_all-clause-writer : goal.returns-in_err-visit_all-clause-writer
 returns-in_err-visit_all-clause-writer g c =
     let fault = c.in_err-visit_all.field-0.0 in
     let same : c.from_residual.result ≡ Err fault = fails_by c.from_residual.ensures.1 in
-    rw same (writer_err fault (records_failed fault c.in_err-visit_all.ensures.visits.2))
+    rw same (writer_err fault (rows_failed fault c.in_err-visit_all.ensures.visits.2))
 
 pub returns-in_err-put_last-clause-rows : goal.returns-in_err-put_last-clause-rows
 returns-in_err-put_last-clause-rows g c clean all has =
     let same : c.from_residual-in_err-put_last.result ≡ Err Write =
     fails_by c.from_residual-in_err-put_last.ensures.1 in
     let it = c.in_ok-visit_all.ensures.visits in
-    rw same (exports_end c.args.after all (map kept_item it.0) (it.2 clean all has) it.1 c.in_err-put_last.ensures.err)
+    rw same (writes_end c.args.after all (map kept_item it.0) (it.2 clean all has) it.1 c.in_err-put_last.ensures.err)
 
 pub returns-in_err-put_last-clause-writer : goal.returns-in_err-put_last-clause-writer
 returns-in_err-put_last-clause-writer g c =
@@ -41,7 +41,7 @@ returns-in_err-put_last-clause-writer g c =
 pub returns-clause-rows : goal.returns-clause-rows
 returns-clause-rows g c clean all has =
     let it = c.in_ok-visit_all.ensures.visits in
-    exports_all c.args.after all (map kept_item it.0) (it.2 clean all has) it.1 c.in_ok-put_last.ensures.ok
+    writes_all c.args.after all (map kept_item it.0) (it.2 clean all has) it.1 c.in_ok-put_last.ensures.ok
 
 pub returns-clause-writer : goal.returns-clause-writer
 returns-clause-writer g c = writer_ok c.in_ok-visit_all.ensures.visits.1.wrote.1 c.in_ok-put_last.ensures.flushed

@@ -11,6 +11,7 @@ returns-then-is_down g c = record {
   log = λ clean log shows. tt;
   sound = λ clean log shows rule is. absurd cc;
   why = record { answers = λ clean f has. inl (sym c.is_down.ensures ∙ c.if-is_down.true) };
+  frugal = λ is. absurd cc;
   reads = none_read g.S.Store c.args.bank.now _;
   same = λ clean. tt;
   down = λ down. (refl, refl);
@@ -26,6 +27,7 @@ returns g c =
           counts_log db shows.tables log shows.are shows.shows _ (says.rows clean);
       sound = says.sound;
       why = says.why;
+      frugal = says.frugal;
       reads = only_read _ says.bank;
       same = λ clean. on_ok_weaker c.stored_count.result (λ still. still.0) (says.bank.still clean);
       down = λ down. absurd (tested_up _ _ c.is_down.ensures c.if-is_down.false down);

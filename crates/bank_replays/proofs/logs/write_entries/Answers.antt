@@ -1,15 +1,15 @@
 -- The entries of all rows were written, or a prefix of them.
-use Rattle.std.proofs.Common.{◌≡◌, ◌^◌, ◌-◌, ◌++◌, Err, List, map, length, drop, refl, sym, ap, ◌∙◌, append_assoc}
+use Rattle.std.proofs.Common.{◌≡◌, ◌^◌, ◌-◌, ◌++◌, Err, List, map, length, drop, refl, sym, ap, ◌∙◌, arith}
 use Rattle.std.proofs.lemmas.List.{length-map, take-append-drop}
 use Rattle.posting_rules.specs.declared.fault.Fault.TheVariants.{Memory}
 use Rattle.walked_rows.specs.KeptRows.{KeptItem, kept_item}
-use Rattle.report_contents.proofs.Written.{later_failed, same_all, same_part, whole_part}
-use Rattle.bank_replays.specs.{Visiting.refused_of, Logs.entries_after}
+use Rattle.report_contents.proofs.Written.{later_failed}
+use Rattle.bank_replays.specs.{Visiting.refused_of}
 use Rattle.bank_replays.specs.declared.fault.ReplayFault.TheVariants.{Bank, Write}
-use Rattle.bank_store.specs.KeptEntries.{entry_in}
-use Rattle.bank_replays.proofs.{TextsAfter.texts-append, TextsAfter.texts_part, Visits.whole}
+use Rattle.bank_replays.proofs.Visits.{whole}
+use Rattle.bank_replays.proofs.WrittenRows.{rows_failed, writes_all, writes_end, writes_part}
 use Rattle.bank_replays.proofs.{Read.read_any, Read.read_fails, Whys.why_err, Whys.why_memory, Whys.why_none}
-use Rattle.bank_replays.proofs.Wrote.{bank_err, end_part, end_wrote, writer_err, writer_ok}
+use Rattle.bank_replays.proofs.Wrote.{bank_err, writer_err, writer_ok}
 use Rattle.bank_replays.proofs.Exits.{fails_by}
 use Rattle.bank_replays.proofs.logs.write_entries.Goals as goal
 
@@ -22,8 +22,7 @@ returns-in_err-count-clause-rows g c clean all has =
     let given = map kept_item it.0 in
     let next = refused_of kept_item it.1 in
     rw same (record {
-      text = texts_part entry_in c.args.after _ _ (given ++ next) more.0 all (append_assoc given next more.0 ∙ more.1)
-          (same_part _ _ (sym (texts-append entry_in c.args.after given next)) it.2.0);
+      rows = writes_part c.args.after all _ _ given next more.0 more.1 fault it.2 more.2;
       kept = tt;
     })
 
@@ -31,7 +30,7 @@ pub returns-in_err-count-clause-writer : goal.returns-in_err-count-clause-writer
 returns-in_err-count-clause-writer g c =
     let fault = c.in_err-count.field-0.0 in
     let same : c.from_residual.result ≡ Err fault = fails_by c.from_residual.ensures.1 in
-    rw same (writer_err fault c.in_err-count.ensures.visits.2.1)
+    rw same (writer_err fault (rows_failed fault c.in_err-count.ensures.visits.2))
 
 pub returns-then-count-clause-rows : goal.returns-then-count-clause-rows
 returns-then-count-clause-rows g c clean all has =
@@ -39,8 +38,14 @@ returns-then-count-clause-rows g c clean all has =
     let most = 2 ^ 64 - 1 in
     let are = ap (λ (l : List KeptItem). l ++ drop most all) (it.3 clean all has) ∙ take-append-drop most all in
     record {
-      text = texts_part entry_in c.args.after _ _ (map kept_item it.0) (drop most all) all are
-          (whole_part _ _ (entries_after c.args.after (map kept_item it.0)) it.1.0);
+      rows = record {
+        given = map kept_item it.0;
+        rest = drop most all;
+        are = are;
+        each = it.1.each;
+        wrote = it.1.wrote.0;
+        why = omega (arith, length-map it.0 kept_item, it.2, c.if-count.true);
+      };
       kept = tt;
     }
 
@@ -55,8 +60,7 @@ returns-in_err-put_last-clause-rows g c clean all has =
     let are = whole (2 ^ 64 - 1) (map kept_item it.0) all (it.3 clean all has)
     (λ is. c.if-count.false (sym (length-map it.0 kept_item ∙ it.2) ∙ is)) in
     rw same (record {
-      text = same_part _ _ (ap (entries_after c.args.after) are)
-          (end_part _ _ _ _ it.1.0 c.in_err-put_last.ensures.err);
+      rows = writes_end c.args.after all (map kept_item it.0) are it.1 c.in_err-put_last.ensures.err;
       kept = tt;
     })
 
@@ -64,7 +68,7 @@ pub returns-in_err-put_last-clause-writer : goal.returns-in_err-put_last-clause-
 returns-in_err-put_last-clause-writer g c =
     let same : c.from_residual-in_err-put_last.result ≡ Err Write =
     fails_by c.from_residual-in_err-put_last.ensures.1 in
-    rw same (writer_err Write (λ is. later_failed c.in_ok-count.ensures.visits.1.1 c.in_err-put_last.ensures.failed))
+    rw same (writer_err Write (λ is. later_failed c.in_ok-count.ensures.visits.1.wrote.1 c.in_err-put_last.ensures.failed))
 
 pub returns-clause-rows : goal.returns-clause-rows
 returns-clause-rows g c clean all has =
@@ -72,12 +76,12 @@ returns-clause-rows g c clean all has =
     let are = whole (2 ^ 64 - 1) (map kept_item it.0) all (it.3 clean all has)
     (λ is. c.if-count.false (sym (length-map it.0 kept_item ∙ it.2) ∙ is)) in
     record {
-      text = same_all _ _ (ap (entries_after c.args.after) are) (end_wrote _ _ _ _ it.1.0 c.in_ok-put_last.ensures.ok);
+      rows = writes_all c.args.after all (map kept_item it.0) are it.1 c.in_ok-put_last.ensures.ok;
       kept = sym it.2 ∙ sym (length-map it.0 kept_item) ∙ ap (λ (l : List KeptItem). length l) are;
     }
 
 pub returns-clause-writer : goal.returns-clause-writer
-returns-clause-writer g c = writer_ok c.in_ok-count.ensures.visits.1.1 c.in_ok-put_last.ensures.flushed
+returns-clause-writer g c = writer_ok c.in_ok-count.ensures.visits.1.wrote.1 c.in_ok-put_last.ensures.flushed
 
 -- ---- what is left of the bank, and why not all were written
 

@@ -8,7 +8,7 @@ use Rattle.bank_replays.proofs.plan.write_plan.Goals as goal
 
 pub returns-then-is_down : goal.returns-then-is_down
 returns-then-is_down g c = record {
-  rows = λ clean floors branches has_floors has. nothing_written _ _;
+  rows = λ clean floors branches has_floors has. record { text = nothing_written _ _; frugal = λ is. absurd cc };
   sound = λ clean log shows rule is. absurd cc;
   writer = bank_err Down;
   why = record { answers = λ clean f has. sym c.is_down.ensures ∙ c.if-is_down.true };

@@ -6,8 +6,8 @@ use Rattle.posting_rules.specs.declared.fault.{Fault.TheVariants.Damaged, Rule.T
 use Rattle.walked_rows.specs.Requests.{request_in}
 use Rattle.bank_replays.specs.{Writing.is_after}
 use Rattle.walked_rows.proofs.Came.{request_is}
-use Rattle.bank_replays.proofs.{Exported.records_part, Exported.records_put}
-use Rattle.bank_replays.proofs.{Exported.records_refused, Wrote.writer_refuses}
+use Rattle.bank_replays.proofs.{WrittenRows.rows_part, WrittenRows.rows_put}
+use Rattle.bank_replays.proofs.{WrittenRows.rows_refused, Wrote.writer_refuses}
 use Rattle.bank_replays.proofs.exports.AfterVisitorKeptRequest.visit.Given.{Over}
 use Rattle.bank_replays.proofs.exports.AfterVisitorKeptRequest.visit.Goals as goal
 
@@ -17,7 +17,7 @@ not_not false is = sym is
 
 pub returns-in_default-clause-part : goal.returns-in_default-clause-part
 returns-in_default-clause-part g c first rows visited =
-    records_refused c.args.self.now.after rows c.args.row visited (Damaged Request) (λ is. absurd cc)
+    rows_refused c.args.self.now.after rows c.args.row visited (Damaged Request) (λ is. absurd cc)
 
 pub returns-in_default-clause-why : goal.returns-in_default-clause-why
 returns-in_default-clause-why g c =
@@ -36,12 +36,12 @@ module _ (g : Over) (c : goal.After-put_bytes g) where
 
 pub returns-clause-visited : goal.returns-clause-visited
 returns-clause-visited g c first rows visited =
-    records_put c.args.self.now.after rows c.args.row visited (after_is g c) c.in-Some.ensures.some.1
+    rows_put c.args.self.now.after rows c.args.row visited (after_is g c) c.in-Some.ensures.some.1
     c.as_slice.result.now (bytes_are g c) _ c.put_bytes.ensures
 
 pub returns-clause-part : goal.returns-clause-part
 returns-clause-part g c first rows visited =
-    records_part c.args.self.now.after rows c.args.row visited (after_is g c) c.in-Some.ensures.some.1
+    rows_part c.args.self.now.after rows c.args.row visited (after_is g c) c.in-Some.ensures.some.1
     c.as_slice.result.now (bytes_are g c) _ c.put_bytes.ensures
 
 pub returns-clause-why : goal.returns-clause-why

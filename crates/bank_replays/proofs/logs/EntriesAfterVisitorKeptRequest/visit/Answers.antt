@@ -1,11 +1,11 @@
 -- The entry was written, or a prefix of it, or the row is that of no request.
-use Rattle.std.proofs.Common.{rules, ◌≡◌, ◌++◌, ℕ, List, Bool, true, false, not, map, refl, sym, ap, ◌∙◌}
+use Rattle.std.proofs.Common.{rules, ◌≡◌, Bool, true, false, not, refl, sym, ◌∙◌}
 use Rattle.posting_rules.specs.declared.fault.{Fault.TheVariants.Damaged, Rule.TheVariants.Request}
 use Rattle.walked_rows.specs.KeptRows.{kept_item}
-use Rattle.bank_replays.specs.{Logs.entries_after, Prefixes.all_part, Writing.is_after}
+use Rattle.bank_replays.specs.Writing.{is_after}
 use Rattle.bank_store.specs.KeptEntries.{entry_in}
-use Rattle.bank_replays.proofs.TextsAfter.{one_text, text_more}
-use Rattle.bank_replays.proofs.{Wrote.puts_part, Wrote.puts_visited, Wrote.writer_refuses}
+use Rattle.bank_replays.proofs.{WrittenRows.rows_part, WrittenRows.rows_put}
+use Rattle.bank_replays.proofs.{WrittenRows.rows_refused, Wrote.writer_refuses}
 use Rattle.bank_replays.proofs.logs.EntriesAfterVisitorKeptRequest.visit.Given.{Over}
 use Rattle.bank_replays.proofs.logs.EntriesAfterVisitorKeptRequest.visit.Goals as goal
 
@@ -15,10 +15,13 @@ not_not false is = sym is
 
 pub returns-in_default-clause-part : goal.returns-in_default-clause-part
 returns-in_default-clause-part g c first rows visited =
-    all_part (g.W.Sink.contents first) (g.W.Sink.contents c.args.writer.now) _ _ visited (Damaged Request)
+    rows_refused c.args.self.now.after rows c.args.row visited (Damaged Request) (λ is. absurd cc)
 
 pub returns-in_default-clause-why : goal.returns-in_default-clause-why
-returns-in_default-clause-why g c = (refl, c.in_default.ensures.none)
+returns-in_default-clause-why g c =
+    let is : is_after c.args.self.now.after (kept_item c.args.row) ≡ true =
+    sym c.is_after.ensures ∙ search (rules, not_not) in
+    (refl, is, c.in_default.ensures.none)
 
 module _ (g : Over) (c : goal.After-put_bytes g) where
   after_is : is_after c.args.self.now.after (kept_item c.args.row) ≡ true
@@ -29,21 +32,13 @@ module _ (g : Over) (c : goal.After-put_bytes g) where
 
 pub returns-clause-visited : goal.returns-clause-visited
 returns-clause-visited g c first rows visited =
-    let after = c.args.self.now.after in
-    puts_visited (g.W.Sink.contents first) (g.W.Sink.contents c.args.writer.now)
-    (g.W.Sink.contents c.put_bytes.new.writer) (entries_after after (map kept_item rows))
-    c.as_slice.result.now _ visited
-    (ap (λ (t : List ℕ). entries_after after (map kept_item rows) ++ t) (bytes_are g c)
-    ∙ text_more entry_in after rows c.args.row (after_is g c)) _ c.put_bytes.ensures
+    rows_put c.args.self.now.after rows c.args.row visited (after_is g c) c.in-Some.ensures.answered c.as_slice.result.now (bytes_are g c) _
+    c.put_bytes.ensures
 
 pub returns-clause-part : goal.returns-clause-part
 returns-clause-part g c first rows visited =
-    let after = c.args.self.now.after in
-    puts_part (g.W.Sink.contents first) (g.W.Sink.contents c.args.writer.now)
-    (g.W.Sink.contents c.put_bytes.new.writer) (entries_after after (map kept_item rows))
-    c.as_slice.result.now _ visited
-    (ap (λ (t : List ℕ). entries_after after (map kept_item rows) ++ t)
-    (bytes_are g c ∙ sym (one_text entry_in after (kept_item c.args.row) (after_is g c)))) _ c.put_bytes.ensures
+    rows_part c.args.self.now.after rows c.args.row visited (after_is g c) c.in-Some.ensures.answered c.as_slice.result.now (bytes_are g c) _
+    c.put_bytes.ensures
 
 pub returns-clause-why : goal.returns-clause-why
 returns-clause-why g c = writer_refuses _ c.put_bytes.result c.put_bytes.ensures.only

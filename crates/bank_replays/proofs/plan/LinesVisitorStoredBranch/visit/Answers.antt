@@ -13,11 +13,14 @@ returns-in_err-put-clause-part g c first rows visited =
     let those = map floor_entry c.args.self.now.floors.items in
     let text : c.as_str.result.now ≡ plan_line those (branch_entry row) = search rules in
     let same : c.from_residual.result ≡ Err Write = fails_by c.from_residual.ensures.1 in
-    rw same (puts_part (g.W.Sink.contents first) (g.W.Sink.contents c.args.writer.now)
-    (g.W.Sink.contents c.put.new.writer) (plan_lines those (map branch_entry rows))
-    c.as_str.result.now _ visited
-    (ap (λ (t : List ℕ). plan_lines those (map branch_entry rows) ++ t) (text ∙ one_line those (branch_entry row)))
-    (Err Write) (record { text = c.in_err-put.ensures.err; more = tt; failed = c.in_err-put.ensures.failed; only = refl }))
+    rw same (
+      puts_part (g.W.Sink.contents first) (g.W.Sink.contents c.args.writer.now)
+          (g.W.Sink.contents c.put.new.writer) (plan_lines those (map branch_entry rows))
+          c.as_str.result.now _ visited
+          (ap (λ (t : List ℕ). plan_lines those (map branch_entry rows) ++ t) (text ∙ one_line those (branch_entry row)))
+          (Err Write) (record { text = c.in_err-put.ensures.err; more = tt; failed = c.in_err-put.ensures.failed; only = refl }),
+      λ is. absurd cc,
+    )
 
 pub returns-clause-visited : goal.returns-clause-visited
 returns-clause-visited g c first rows visited =
