@@ -17,10 +17,10 @@ use Rattle.walked_rows.specs.Rows.{HasStoredRows}
 use Rattle.bank_store.specs.believed.Seen.{bank_seen, database_of, file_of}
 use Rattle.bank_store.specs.declared.bank.Bank.{Bank}
 use Rattle.bank_replays.specs.{Damaged.TellsWhy, Damaged.fault_in, DifferenceText.difference_text}
-use Rattle.bank_replays.specs.Differences.{DiffersFrom, table_of}
+use Rattle.bank_replays.specs.Differences.{DiffersFrom}
 use Rattle.posting_core.specs.believed.LogEntries.{answered_after}
 use Rattle.bank_replays.specs.Digests.{DigestsFirst, DigestsRows}
-use Rattle.bank_replays.specs.FileTables.{IsKept}
+use Rattle.bank_replays.specs.FileTables.{FileTables, HasTables, IsKept}
 use Rattle.bank_replays.specs.Reading.{IsOnlyRead}
 use Rattle.bank_replays.specs.Replays.{AreDigestsIn, OnAgrees, OnDiffers, Replays}
 use Rattle.bank_replays.specs.Writing.{ExportsRows, LeavesWriter, WritesPlan, WritesSound, records_of}
@@ -71,8 +71,8 @@ pub record ReplaysBank {S : Type 0} (g : Ghosts S) (found : Result Replay Fault)
   pub agrees : (bank_seen g new).honest → IsKept (file_of old)
       → OnAgrees found (λ d. (log : List Command) × ShowsLog (bank_seen g old) log)
   pub digest : (bank_seen g new).honest → OnAgrees found (AreDigestsIn (database_of g old))
-  pub differs : (bank_seen g new).honest → OnDiffers found (λ d. (rows : List Entry)
-      → HasStoredRows (database_of g old) (table_of d) rows → DiffersFrom rows d)
+  pub differs : (bank_seen g new).honest → OnDiffers found (λ d. (f : FileTables)
+      → HasTables (database_of g old) f → DiffersFrom f d)
   pub why : TellsWhy g (λ fault. fault) old new found
   pub bank : Replays (bank_seen g old) (bank_seen g new) found
   pub reads : IsOnlyRead g old new found

@@ -1,5 +1,5 @@
 -- The rows of two files are the same where they are in each table.
-use Rattle.std.proofs.Common.{◌≡◌, List, inl, inr, subst, sym}
+use Rattle.std.proofs.Common.{◌≡◌, List, [], ◌∷◌, inl, inr, refl, subst, sym}
 use Rattle.sqlite.specs.{Effect.Database, Table.Table}
 use Rattle.sql_meanings.specs.believed.Entries.{Entry}
 use Rattle.store_rows.specs.believed.BankTables.{account, branch, floor, history, meta, reference, request, teller}
@@ -8,7 +8,7 @@ use Rattle.walked_rows.specs.Stored.{account_entry, branch_entry, posting_entry,
 use Rattle.walked_rows.specs.StoredBeside.{floor_entry, meta_entry}
 use Rattle.bank_replays.specs.declared.difference.Sides.{Sides}
 use Rattle.bank_replays.specs.Comparing.{Both, DiffersIn, Either, SameRows}
-use Rattle.bank_replays.specs.Differences.{DiffersBetween, rows_of, table_of}
+use Rattle.bank_replays.specs.Differences.{DiffersFirst}
 use Rattle.bank_replays.specs.{FileTables.FileTables, FileTables.HasTables, FileTables.SameTables}
 use Rattle.bank_replays.specs.declared.difference.Difference.{Difference}
 use Rattle.bank_replays.specs.declared.difference.Difference.TheVariants.{Account, Branch, Floor, Meta, Posting}
@@ -69,30 +69,65 @@ OfTable table entry difference =
     DiffersIn entry_key entry (λ d s. d ≡ difference s) (λ db rows. HasStoredRows db table rows)
 
 abbrev pub InAny : Database → Database → Difference → Type 0
-InAny = Either
-    (Either (Either (OfTable meta meta_entry Meta) (OfTable branch branch_entry Branch))
-    (Either (OfTable floor floor_entry Floor) (OfTable request request_entry Request)))
-    (Either (Either (OfTable reference listed_entry Reference) (OfTable history posting_entry Posting))
-    (Either (OfTable account account_entry Account) (OfTable teller teller_entry Teller)))
+InAny = Either (Both (Both (SameIn meta) (SameIn branch)) (Both (SameIn floor) (SameIn request)))
+    (Either (Both (SameIn meta) (SameIn branch))
+    (Either (SameIn meta) (OfTable meta meta_entry Meta) (OfTable branch branch_entry Branch))
+    (Either (SameIn floor) (OfTable floor floor_entry Floor) (OfTable request request_entry Request)))
+    (Either (Both (SameIn reference) (SameIn history))
+    (Either (SameIn reference) (OfTable reference listed_entry Reference) (OfTable history posting_entry Posting))
+    (Either (SameIn account) (OfTable account account_entry Account) (OfTable teller teller_entry Teller)))
 
-pub any_differs : (db other : Database) (d : Difference) → InAny db other d → DiffersBetween db other d
-any_differs db other d (inl (inl (inl it))) = subst (DiffersBetween db other) (sym it.says) it.are
-any_differs db other d (inl (inl (inr it))) = subst (DiffersBetween db other) (sym it.says) it.are
-any_differs db other d (inl (inr (inl it))) = subst (DiffersBetween db other) (sym it.says) it.are
-any_differs db other d (inl (inr (inr it))) = subst (DiffersBetween db other) (sym it.says) it.are
-any_differs db other d (inr (inl (inl it))) = subst (DiffersBetween db other) (sym it.says) it.are
-any_differs db other d (inr (inl (inr it))) = subst (DiffersBetween db other) (sym it.says) it.are
-any_differs db other d (inr (inr (inl it))) = subst (DiffersBetween db other) (sym it.says) it.are
-any_differs db other d (inr (inr (inr it))) = subst (DiffersBetween db other) (sym it.says) it.are
+and_before : {X : Type 0} {x y : X} {xs ys : List X} → x ≡ y → xs ≡ ys → x ∷ xs ≡ y ∷ ys
+and_before is are = cc
 
--- the rows of its table are those of that table
-pub has_rows_of : (db : Database) (f : FileTables) → HasTables db f → (d : Difference)
-    → HasStoredRows db (table_of d) (rows_of d f)
-has_rows_of db f has (Meta s) = has.metas
-has_rows_of db f has (Branch s) = has.branches
-has_rows_of db f has (Teller s) = has.tellers
-has_rows_of db f has (Account s) = has.accounts
-has_rows_of db f has (Posting s) = has.history
-has_rows_of db f has (Request s) = has.requests
-has_rows_of db f has (Floor s) = has.floors
-has_rows_of db f has (Reference s) = has.references
+module _ (db other : Database) (d : Difference) (f due : FileTables) (has : HasTables db f) (has_due : HasTables other due)
+  where
+    module _ (one : Both (SameIn meta) (SameIn branch) db other) where
+      metas : f.metas ≡ due.metas
+      metas = one.0 f.metas due.metas has.metas has_due.metas
+
+      branches : f.branches ≡ due.branches
+      branches = one.1 f.branches due.branches has.branches has_due.branches
+
+    module _ (two : Both (Both (SameIn meta) (SameIn branch)) (Both (SameIn floor) (SameIn request)) db other) where
+      first_four : {xs ys : List (List Entry)} → xs ≡ ys
+          → f.metas ∷ f.branches ∷ f.floors ∷ f.requests ∷ xs ≡ due.metas ∷ due.branches ∷ due.floors ∷ due.requests ∷ ys
+      first_four are = and_before (metas two.0) (and_before (branches two.0)
+          (and_before (two.1.0 f.floors due.floors has.floors has_due.floors)
+          (and_before (two.1.1 f.requests due.requests has.requests has_due.requests) are)))
+
+    pub any_differs : InAny db other d → DiffersFirst f due d
+    any_differs (inl (inl (inl it))) = subst (DiffersFirst f due) (sym it.says)
+        (record { before = refl; rows = it.are f.metas due.metas has.metas has_due.metas })
+    any_differs (inl (inl (inr (same, it)))) = subst (DiffersFirst f due) (sym it.says) (record {
+      before = and_before (same f.metas due.metas has.metas has_due.metas) refl;
+      rows = it.are f.branches due.branches has.branches has_due.branches;
+    })
+    any_differs (inl (inr (one, inl it))) = subst (DiffersFirst f due) (sym it.says) (record {
+      before = and_before (metas one) (and_before (branches one) refl);
+      rows = it.are f.floors due.floors has.floors has_due.floors;
+    })
+    any_differs (inl (inr (one, inr (same, it)))) = subst (DiffersFirst f due) (sym it.says) (record {
+      before = and_before (metas one) (and_before (branches one)
+          (and_before (same f.floors due.floors has.floors has_due.floors) refl));
+      rows = it.are f.requests due.requests has.requests has_due.requests;
+    })
+    any_differs (inr (two, inl (inl it))) = subst (DiffersFirst f due) (sym it.says) (record {
+      before = first_four two refl;
+      rows = it.are f.references due.references has.references has_due.references;
+    })
+    any_differs (inr (two, inl (inr (same, it)))) = subst (DiffersFirst f due) (sym it.says) (record {
+      before = first_four two (and_before (same f.references due.references has.references has_due.references) refl);
+      rows = it.are f.history due.history has.history has_due.history;
+    })
+    any_differs (inr (two, inr (three, inl it))) = subst (DiffersFirst f due) (sym it.says) (record {
+      before = first_four two (and_before (three.0 f.references due.references has.references has_due.references)
+          (and_before (three.1 f.history due.history has.history has_due.history) refl));
+      rows = it.are f.accounts due.accounts has.accounts has_due.accounts;
+    })
+    any_differs (inr (two, inr (three, inr (same, it)))) = subst (DiffersFirst f due) (sym it.says) (record {
+      before = first_four two (and_before (three.0 f.references due.references has.references has_due.references)
+          (and_before (three.1 f.history due.history has.history has_due.history)
+          (and_before (same f.accounts due.accounts has.accounts has_due.accounts) refl)));
+      rows = it.are f.tellers due.tellers has.tellers has_due.tellers;
+    })

@@ -27,7 +27,7 @@ module _ {S T : Type 0} {g : Ghosts S} {h : Ghosts T} {One Other : Database → 
   -- a fault, or a difference, in the first ends it
   pub compared_first : {old new : Bank S g} {due due' : Bank T h} {r : Result (Option Difference) Fault}
       → Compares g h old new due due' One First r → (r ≡ Ok None → ⊥)
-      → Compares g h old new due due' (Both One Other) (Either First Second) r
+      → Compares g h old new due due' (Both One Other) (Either One First Second) r
   compared_first it ended = record {
     bank = it.bank;
     due = it.due;
@@ -39,7 +39,7 @@ module _ {S T : Type 0} {g : Ghosts S} {h : Ghosts T} {One Other : Database → 
   -- no difference in the first
   pub compared_both : {old mid new : Bank S g} {due due' due'' : Bank T h} {r : Result (Option Difference) Fault}
       → Compares g h old mid due due' One First (Ok None) → Compares g h mid new due' due'' Other Second r
-      → Compares g h old new due due'' (Both One Other) (Either First Second) r
+      → Compares g h old new due due'' (Both One Other) (Either One First Second) r
   compared_both {old} {mid} {new} {due} {due'} {due''} {r} one two = record {
     bank = read_then one.bank two.bank;
     due = read_then one.due two.due;
@@ -54,9 +54,12 @@ module _ {S T : Type 0} {g : Ghosts S} {h : Ghosts T} {One Other : Database → 
     differs = λ clean clean_due d is.
         let before = clean_before two.bank clean in
         let before_due = clean_before two.due clean_due in
-        inr (subst (λ (db : Database). Second db (database_of h due) d) (one.bank.still before).0
-        (subst (λ (db : Database). Second (database_of g mid) db d) (one.due.still before_due).0
-        (two.differs clean clean_due d is)));
+        inr (
+          one.same before before_due refl,
+          subst (λ (db : Database). Second db (database_of h due) d) (one.bank.still before).0
+              (subst (λ (db : Database). Second (database_of g mid) db d) (one.due.still before_due).0
+              (two.differs clean clean_due d is)),
+        );
     why = why_then one.bank two.bank two.why;
   }
 

@@ -1,7 +1,7 @@
--- A second bank that is given the rows of a log shows one with the same rows.
+-- What a second bank shows as it is given rows.
 use Rattle.std.proofs.Common.{◌≡◌, ◌∙◌, ◌<◌, ◌≤◌, ◌+◌, ◌++◌, ℕ, zero, suc, Bool, true, false, eqb, List, [], ◌∷◌}
 use Rattle.std.proofs.Common.{leb, map, Option, Some, None, Result, Ok, Err, refl, sym, ap, subst, inl, inr, arith}
-use Rattle.std.specs.Prelude.{◌&&◌, IfSome, OnOk, get_or, set}
+use Rattle.std.specs.Prelude.{◌&&◌, ◌⊎◌, IfSome, OnOk, get_or, set}
 use Rattle.std.specs.Option.{option_or}
 use Rattle.std.proofs.lemmas.Bool.{and_parts, leb-false, leb-true}
 use Rattle.std.proofs.lemmas.{Bool.cases_Bool, Bool.eq-eqb, Bool.eqb-true, List.get_or-set_other, List.map-append}
@@ -16,10 +16,10 @@ use Rattle.message_records.specs.believed.Records.{RequestFields}
 use Rattle.posting_rules.proofs.{Sequence.after-append, SoundEntries.open_within}
 use Rattle.bank_store.specs.believed.Seen.{bank_seen}
 use Rattle.bank_store.specs.declared.bank.Bank.{Bank}
-use Rattle.bank_replays.specs.Following.{Follows, HaveSameRows, open_by, opening, prepared}
-use Rattle.bank_replays.specs.Refilling.{HasLog, Holds, IsPlan, IsYet, OpensBelow, OpensRest, planned_at}
+use Rattle.bank_replays.specs.Following.{open_by, opening, prepared}
+use Rattle.bank_replays.specs.Refilling.{HasLog, Holds, IsPlan, IsYet, OpensBelow, OpensRest, planned_at, terms_of}
 use Rattle.bank_replays.specs.declared.{fault.ReplayFault.ReplayFault, refill.Planned.Planned, refill.Refill.Refill}
-use Rattle.bank_replays.proofs.Followed.{opening_decides}
+use Rattle.bank_replays.proofs.{Followed.opening_decides, Openable.opens_or_not}
 
 -- ---- what is yet to be posted
 
@@ -55,12 +55,6 @@ opening_none plan b log same = go (opened log b) (plan b) same
     go None (Some x) is = absurd cc
     go (Some x) p is = refl
 
--- one that isn't is
-pub opening_some : (plan : ℕ → Option Terms) (b : ℕ) (log : List Command) (terms : Terms) → opened log b ≡ None
-    → plan b ≡ Some terms → opening plan b log ≡ Open b terms ∷ log
-opening_some plan b log terms none planned =
-    ap (λ (o : Option Terms). open_by o (plan b) b log) none ∙ ap (λ (p : Option Terms). open_by None p b log) planned
-
 set_default : {A : Type 0} (xs : List A) (i : ℕ) (d : A) → get_or (set xs i d) i d ≡ d
 set_default [] i d = refl
 set_default (x ∷ xs) zero d = refl
@@ -72,14 +66,16 @@ unplanned = record { accounts = 0; floor = None }
 pub apart : (m n : ℕ) → eqb m n ≡ false → n ≡ m → ⊥
 apart m n f is = let t = eq-eqb m n (sym is) in cc
 
--- a branch that is yet to be opened is open as planned
+-- a branch that isn't open is open as planned then
 opens_planned : (plan : ℕ → Option Terms) (b : ℕ) (log : List Command) (yet : Planned)
-    → IsYet (plan b) (opened log b) yet → opened (opening plan b log) b ≡ plan b
+    → IsYet b (plan b) (opened log b) yet → opened (opening plan b log) b ≡ plan b
 opens_planned plan b log yet (inl at) = ap (λ (l : List Command). opened l b) (opening_none plan b log at.1) ∙ at.1
 opens_planned plan b log yet (inr at) =
-    ap (λ (l : List Command). opened l b)
-    (opening_some plan b log (opened_with yet.accounts yet.floor) at.0 at.1)
-    ∙ rw (at.0, eq-eqb b b refl) (sym at.1)
+    ap (λ (o : Option Terms). opened (open_by o (plan b) b log) b) at.0 ∙ go (plan b)
+  where
+    go : (p : Option Terms) → opened (open_by None p b log) b ≡ p
+    go None = at.0
+    go (Some terms) = rw (at.0, eq-eqb b b refl) refl
 
 -- and no other
 opens_other : (plan : ℕ → Option Terms) (b : ℕ) (log : List Command) (c : ℕ) → eqb b c ≡ false
@@ -97,20 +93,20 @@ opens_other plan b log c f = go (opened log b) (plan b)
 
 -- once a branch was opened, that is no longer planned
 yet_after : (plan : ℕ → Option Terms) (b : ℕ) (log : List Command) (planned : List Planned)
-    → ((c : ℕ) → IsYet (plan c) (opened log c) (planned_at planned c))
-    → (c : ℕ) → IsYet (plan c) (opened (opening plan b log) c) (planned_at (set planned b unplanned) c)
+    → ((c : ℕ) → IsYet c (plan c) (opened log c) (planned_at planned c))
+    → (c : ℕ) → IsYet c (plan c) (opened (opening plan b log) c) (planned_at (set planned b unplanned) c)
 yet_after plan b log planned yet c = elim (cases_Bool (eqb b c)) [
   | inl t ↦
-      subst (λ (c : ℕ). IsYet (plan c) (opened (opening plan b log) c) (planned_at (set planned b unplanned) c))
+      subst (λ (c : ℕ). IsYet c (plan c) (opened (opening plan b log) c) (planned_at (set planned b unplanned) c))
       (eqb-true b c t)
       (inl (
         ap (λ (p : Planned). p.accounts) (set_default planned b unplanned),
         opens_planned plan b log (planned_at planned b) (yet b),
       ))
   | inr f ↦
-      subst (λ (p : Planned). IsYet (plan c) (opened (opening plan b log) c) p)
+      subst (λ (p : Planned). IsYet c (plan c) (opened (opening plan b log) c) p)
       (sym (get_or-set_other planned b c unplanned unplanned (apart b c f)))
-      (subst (λ (o : Option Terms). IsYet (plan c) o (planned_at planned c)) (sym (opens_other plan b log c f)) (yet c))
+      (subst (λ (o : Option Terms). IsYet c (plan c) o (planned_at planned c)) (sym (opens_other plan b log c f)) (yet c))
 ]
 
 -- the branches that a request needs
@@ -145,6 +141,16 @@ module _ {S : Type 0} {g : Ghosts S} (bank : Bank S g) (log : List Command) wher
         ∙ posts_more has.posted moment old bytes ∙ ap (λ (l : List Command). Post moment bytes ∷ l) has.comes;
   }
 
+-- what is opened of what is planned: nothing where it can't be
+opened_as : (b : ℕ) (yet : Planned) (log : List Command)
+    → (IsCommand (Open b (opened_with yet.accounts yet.floor))
+    × (open_by None (terms_of b yet) b log ≡ Open b (opened_with yet.accounts yet.floor) ∷ log))
+    ⊎ ((IsCommand (Open b (opened_with yet.accounts yet.floor)) → ⊥) × (open_by None (terms_of b yet) b log ≡ log))
+opened_as b yet log = elim (opens_or_not b yet) [
+  | inl can ↦ inl (can.0, ap (λ (p : Option Terms). open_by None p b log) can.1)
+  | inr cannot ↦ inr (cannot.0, ap (λ (p : Option Terms). open_by None p b log) cannot.1)
+]
+
 module _ {S W : Type 0} {g : Ghosts S} (plan : ℕ → Option Terms) (is : IsPlan plan) (log : List Command) where
   -- a branch is opened
   pub opened_more : (b : ℕ) (mid last : Refill S W g) (yet : Planned) → yet ≡ planned_at mid.planned.items b
@@ -153,22 +159,33 @@ module _ {S W : Type 0} {g : Ghosts S} (plan : ℕ → Option Terms) (is : IsPla
       → (r : Result (Unit {0}) ReplayFault)
       → (IsCommand (Open b (opened_with yet.accounts yet.floor)) → ShowsLog (bank_seen g mid.bank) log
       → OnOk r (ShowsLog (bank_seen g last.bank) (Open b (opened_with yet.accounts yet.floor) ∷ log)))
+      → ((IsCommand (Open b (opened_with yet.accounts yet.floor)) → ⊥) → OnOk r (last.bank ≡ mid.bank))
       → OnOk r (Holds g plan (opening plan b log) last)
-  opened_more b mid last yet at some none none' planned holds r opens =
-      elim (subst (IsYet (plan b) (opened log b)) (sym at) (holds.yet b)) [
+  opened_more b mid last yet at some none none' planned holds r opens spares =
+      elim (subst (IsYet b (plan b) (opened log b)) (sym at) (holds.yet b)) [
         | inl done ↦ absurd (some done.0)
         | inr left ↦
-            let can = subst (λ (o : Option Terms). IfSome o (λ terms. IsCommand (Open b terms))) left.1 (is b) in
-            let same = opening_some plan b log (opened_with yet.accounts yet.floor) left.0 left.1 in
-            on_ok r
-            (λ shows. record {
-              has = has_log last.bank last.moment last.batch.items (opening plan b log) none'
-                  (subst (ShowsLog (bank_seen g last.bank)) (sym same) shows);
-              yet = subst (λ (l : List Planned). (c : ℕ) → IsYet (plan c) (opened (opening plan b log) c) (planned_at l c))
-                  (sym planned) (yet_after plan b log mid.planned.items holds.yet);
-            })
-            (opens can (has_all mid.bank mid.moment mid.batch.items log none holds.has))
+            let same : opening plan b log ≡ open_by None (terms_of b yet) b log =
+            ap (λ (o : Option Terms). open_by o (plan b) b log) left.0
+            ∙ ap (λ (p : Option Terms). open_by None p b log) left.1 in
+            let shows = has_all mid.bank mid.moment mid.batch.items log none holds.has in
+            elim (opened_as b yet log) [
+              | inl can ↦ on_ok r (so (same ∙ can.1)) (opens can.0 shows)
+              | inr cannot ↦
+                  on_ok r
+                  (λ kept. so (same ∙ cannot.1) (subst (λ (x : Bank S g). ShowsLog (bank_seen g x) log) (sym kept) shows))
+                  (spares cannot.0)
+            ]
       ]
+    where
+      so : {now : List Command} → opening plan b log ≡ now → ShowsLog (bank_seen g last.bank) now
+          → Holds g plan (opening plan b log) last
+      so is_now shows = record {
+        has = has_log last.bank last.moment last.batch.items (opening plan b log) none'
+            (subst (ShowsLog (bank_seen g last.bank)) (sym is_now) shows);
+        yet = subst (λ (l : List Planned). (c : ℕ) → IsYet c (plan c) (opened (opening plan b log) c) (planned_at l c))
+            (sym planned) (yet_after plan b log mid.planned.items holds.yet);
+      }
 
   -- ---- all that is left of a plan
 
@@ -232,11 +249,3 @@ module _ {S W : Type 0} {g : Ghosts S} (plan : ℕ → Option Terms) (is : IsPla
           → ((1 ≤ b) × (b ≤ LAST_BRANCH) → ⊥) → o ≡ None
       none_there None can out = refl
       none_there (Some terms) can out = absurd (out (can.0, can.1))
-
--- the log with which rows were followed to the end has the same rows
-pub follows_all : (log now last : List Command) → Follows (λ b. opened log b) (decided log) now
-    → decided last ≡ decided now → ((b : ℕ) → opened last b ≡ opened log b) → HaveSameRows log last
-follows_all log now last follows decides opens = record {
-  requests = sym (ap (map _) decides ∙ follows.requests);
-  branches = λ b. sym (opens b);
-}

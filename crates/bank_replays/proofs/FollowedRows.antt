@@ -1,4 +1,4 @@
--- Kept rows of decided requests, one row more, and those of a file that shows a log.
+-- The kept rows of a file that shows a log are those of its decided requests.
 use Rattle.std.proofs.Common.{◌≡◌, ◌∙◌, ◌+◌, ◌++◌, Bool, true, cond, eqb, List, [], ◌∷◌, length, map, Option, Some}
 use Rattle.std.proofs.Common.{refl, sym, ap, subst, arith}
 use Rattle.std.specs.Prelude.{◌&&◌, IsSomeAnd, nat_abs, option_map}
@@ -16,35 +16,7 @@ use Rattle.store_rows.specs.believed.View.{Shows, history_entry}
 use Rattle.walked_rows.specs.KeptRows.{KeptItem}
 use Rattle.bank_store.proofs.LogRows.{Stand, item_of, kept_is, kept_of, last_answered, postings, references, requests_of}
 use Rattle.bank_store.proofs.LogRows.{stand_earlier, stand_in}
-use Rattle.bank_replays.specs.{FollowedRows.AreRowsOf, FollowedRows.IsRowOf, Prefixes.no_row}
-
--- ---- one row more
-
-tails : {X : Type 0} (x y : X) (xs ys : List X) → x ∷ xs ≡ y ∷ ys → xs ≡ ys
-tails x y xs ys is = cc
-
-heads : {X : Type 0} (x y : X) (xs ys : List X) → x ∷ xs ≡ y ∷ ys → x ≡ y
-heads x y xs ys is = cc
-
-same_last : {X : Type 0} (xs ys : List X) (x y : X) → xs ++ x ∷ [] ≡ ys ++ y ∷ [] → (xs ≡ ys) × (x ≡ y)
-same_last [] [] x y is = (refl, heads x y [] [] is)
-same_last [] (b ∷ ys) x y is = absurd (no_row ys y (tails x b [] (ys ++ y ∷ []) is))
-same_last (a ∷ xs) [] x y is = absurd (no_row xs x (sym (tails a y (xs ++ x ∷ []) [] is)))
-same_last (a ∷ xs) (b ∷ ys) x y is =
-    let more = same_last xs ys x y (tails a b (xs ++ x ∷ []) (ys ++ y ∷ []) is) in
-    (ap (λ l. a ∷ l) more.0 ∙ ap (λ z. z ∷ ys) (heads a b (xs ++ x ∷ []) (ys ++ y ∷ []) is), more.1)
-
-pub rows_more : (items : List KeptItem) (k : KeptItem) (es : List DecidedRequest) → AreRowsOf (items ++ k ∷ []) es
-    → (e : DecidedRequest) × (before : List DecidedRequest) × (es ≡ e ∷ before) × IsRowOf k e × AreRowsOf items before
-rows_more items k [] are = absurd (no_row items k (sym are))
-rows_more items k (e ∷ es) are =
-    let same = same_last items are.0 k are.1 are.2 in (
-      e,
-      es,
-      refl,
-      subst (λ (x : KeptItem). IsRowOf x e) (sym same.1) are.3,
-      subst (λ (l : List KeptItem). AreRowsOf l es) (sym same.0) are.4,
-    )
+use Rattle.bank_replays.specs.FollowedRows.{AreRowsOf, IsRowOf}
 
 -- ---- of a log
 

@@ -12,7 +12,6 @@ pub mod Begun
 pub mod GivenBack
 pub mod Visits
 pub mod Whys
-pub mod Refilled
 pub mod SameNumbers
 pub mod Chained
 pub mod Wrote
@@ -33,3 +32,4 @@ pub mod Filled
 pub mod PlanRows
 pub mod FilledBank
 pub mod TakenRows
+pub mod Openable

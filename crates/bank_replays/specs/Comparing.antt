@@ -50,7 +50,7 @@ pub record Compares {S T : Type 0} (g : Ghosts S) (h : Ghosts T) (old new : Bank
 abbrev pub Both : (Database → Database → Type 0) → (Database → Database → Type 0) → Database → Database → Type 0
 Both One Other db due = One db due × Other db due
 
--- one of them tells the difference
-abbrev pub Either : (Database → Database → Difference → Type 0) → (Database → Database → Difference → Type 0)
+-- the first of them tells the difference, or those rows are the same and the other tells it
+abbrev pub Either : (Same : Database → Database → Type 0) → (First Second : Database → Database → Difference → Type 0)
     → Database → Database → Difference → Type 0
-Either One Other db due d = One db due d ⊎ Other db due d
+Either Same First Second db due d = First db due d ⊎ (Same db due × Second db due d)

@@ -1,33 +1,21 @@
 -- What a difference says: a table, what stands there under a key, and what is due.
-use Rattle.std.specs.Prelude.{List, Option, option_map}
+use Rattle.std.specs.Prelude.{◌≡◌, List, [], ◌∷◌, Option, option_map}
 use Rattle.sqlite.specs.Effect.{Database}
-use Rattle.sqlite.specs.Table.{Table}
 use Rattle.posting_rules.specs.believed.Commands.{Command}
 use Rattle.posting_rules.specs.believed.Tables.{AreTablesOf, Tables}
 use Rattle.sql_meanings.specs.believed.Entries.{Entry}
-use Rattle.store_rows.specs.believed.BankTables.{account, branch, floor, history, meta, reference, request, teller}
 use Rattle.walked_rows.specs.References.{listed_entry}
-use Rattle.walked_rows.specs.Rows.{HasStoredRows, entry_key}
+use Rattle.walked_rows.specs.Rows.{entry_key}
 use Rattle.walked_rows.specs.Stored.{account_entry, branch_entry, posting_entry, request_entry, teller_entry}
 use Rattle.walked_rows.specs.StoredBeside.{floor_entry, meta_entry}
-use Rattle.bank_replays.specs.FileTables.{FileTables, rows_due}
+use Rattle.bank_replays.specs.FileTables.{FileTables, HasTables, rows_due}
 use Rattle.bank_replays.specs.NextRows.{DifferFirst}
+use Rattle.bank_replays.specs.Replayed.{IsReplayOf}
 use Rattle.bank_replays.specs.declared.difference.Difference.{Difference}
 use Rattle.bank_replays.specs.declared.difference.Difference.TheVariants.{Account, Branch, Floor, Meta, Posting}
 use Rattle.bank_replays.specs.declared.difference.Difference.TheVariants.{Reference, Request, Teller}
 
--- the table that it is of
-abbrev pub table_of : Difference → Table
-table_of (Meta s) = meta
-table_of (Branch s) = branch
-table_of (Teller s) = teller
-table_of (Account s) = account
-table_of (Posting s) = history
-table_of (Request s) = request
-table_of (Floor s) = floor
-table_of (Reference s) = reference
-
--- that table's rows, of all
+-- the rows of its table, of all
 abbrev pub rows_of : Difference → FileTables → List Entry
 rows_of (Meta s) f = f.metas
 rows_of (Branch s) f = f.branches
@@ -60,17 +48,34 @@ due_in (Request s) = option_map request_entry s.due
 due_in (Floor s) = option_map floor_entry s.due
 due_in (Reference s) = option_map listed_entry s.due
 
--- the first rows of its table in which these and those of a bank with some log differ
-pub record DiffersFrom (rows : List Entry) (d : Difference) : Type 0 where
+-- the rows of the tables that are compared before its table
+abbrev pub rows_before : Difference → FileTables → List (List Entry)
+rows_before (Meta s) f = []
+rows_before (Branch s) f = f.metas ∷ []
+rows_before (Floor s) f = f.metas ∷ f.branches ∷ []
+rows_before (Request s) f = f.metas ∷ f.branches ∷ f.floors ∷ []
+rows_before (Reference s) f = f.metas ∷ f.branches ∷ f.floors ∷ f.requests ∷ []
+rows_before (Posting s) f = f.metas ∷ f.branches ∷ f.floors ∷ f.requests ∷ f.references ∷ []
+rows_before (Account s) f = f.metas ∷ f.branches ∷ f.floors ∷ f.requests ∷ f.references ∷ f.history ∷ []
+rows_before (Teller s) f =
+    f.metas ∷ f.branches ∷ f.floors ∷ f.requests ∷ f.references ∷ f.history ∷ f.accounts ∷ []
+
+-- those are the same, and it says the first rows of its table in which the two differ
+pub record DiffersFirst (f due : FileTables) (d : Difference) : Type 0 where
+  pub before : rows_before d f ≡ rows_before d due
+  pub rows : DifferFirst entry_key (rows_of d f) (rows_of d due) (stands_in d) (due_in d)
+
+-- it is the first between these rows and those of a bank that was given their requests
+pub record DiffersFrom (f : FileTables) (d : Difference) : Type 0 where
   pub log : List Command
+  pub replays : IsReplayOf f log
   pub tables : Tables
   pub are : AreTablesOf tables log
-  pub rows_differ : DifferFirst entry_key rows (rows_of d (rows_due tables)) (stands_in d) (due_in d)
+  pub first : DiffersFirst f (rows_due tables) d
 
 -- ---- of two files
 
--- the first rows of its table in which they differ
+-- whatever rows the two have
 abbrev pub DiffersBetween : Database → Database → Difference → Type 0
 DiffersBetween db other d =
-    (rows others : List Entry) → HasStoredRows db (table_of d) rows → HasStoredRows other (table_of d) others
-    → DifferFirst entry_key rows others (stands_in d) (due_in d)
+    (f due : FileTables) → HasTables db f → HasTables other due → DiffersFirst f due d

@@ -19,3 +19,5 @@ pub mod Logs
 pub mod Refusing
 pub mod Holding
 pub mod Prefixes
+pub mod Leading
+pub mod Replayed

@@ -15,9 +15,6 @@ use Rattle.walked_rows.specs.KeptRows.{KeptItem, kept_item}
 use Rattle.walked_rows.specs.declared.kept.KeptRequest.{KeptRequest}
 use Rattle.bank_replays.specs.Digests.{EndsDigest, GoesOnBy}
 use Rattle.sqlite_trees.specs.declared.store.Store.{Ghosts}
-use Rattle.posting_rules.specs.believed.Entries.{DecidedRequest}
-use Rattle.bank_replays.specs.FollowedRows.{AreRowsOf}
-use Rattle.bank_replays.specs.Following.{Follows}
 use Rattle.bank_replays.specs.Refilling.{FollowsRows, Plans}
 use Rattle.bank_replays.specs.declared.refill.{Planned.Planned, Refill.Refill}
 use Rattle.bank_replays.specs.Visiting.{AreTooMany, AsksMemory}
@@ -74,17 +71,8 @@ pub plans_none : {S W R : Type 0} {g : Ghosts S} (branch_of : R → ℕ) (change
     (refill : Refill S W g) → Plans g branch_of change refill refill []
 plans_none branch_of change refill = record { bank = refl; batch = refl; count = refl; each = λ b low. refl }
 
-pub no_row : {X : Type 0} (xs : List X) (x : X) → [] ≡ xs ++ x ∷ [] → ⊥
-no_row [] x is = absurd cc
-no_row (y ∷ xs) x is = absurd cc
-
-no_rows : (es : List DecidedRequest) → AreRowsOf [] es → es ≡ []
-no_rows [] are = refl
-no_rows (e ∷ es) are = absurd (no_row are.0 are.1 are.2)
-
 pub follows_none : {S W : Type 0} {g : Ghosts S} (refill : Refill S W g) → FollowsRows g refill refill []
-follows_none refill sure plan es is are rows log holds follows =
-    (log, holds, subst (λ (es : List DecidedRequest). Follows plan es log) (sym (no_rows es rows)) follows)
+follows_none refill sure plan is log holds = (log, holds, refl)
 
 -- ---- a fault of the bank
 

@@ -1,17 +1,17 @@
--- A second bank, of which it isn't asked what it was given, and which log it shows where it was given a log's rows.
+-- A second bank, and which log it shows as it is given rows.
 use Rattle.sqlite.specs.Held.{Held, state}
 use Rattle.sqlite.specs.State.{HasCleanDisk}
 use Rattle.sqlite_trees.specs.declared.store.Store.{Ghosts}
 use Rattle.posting_rules.specs.believed.Commands.{Command, IsCommand, Open, Post, Terms, opened, opened_with}
 use Rattle.posting_rules.specs.believed.Counter.{ShowsLog}
-use Rattle.posting_rules.specs.believed.Entries.{DecidedRequest, decided}
+use Rattle.posting_rules.specs.believed.Entries.{decided}
 use Rattle.posting_rules.specs.believed.Runs.{followed_by, posts}
-use Rattle.posting_rules.specs.declared.limits.TheConstants.{LAST_BRANCH}
+use Rattle.posting_rules.specs.declared.limits.TheConstants.{LAST_BRANCH, MAX_ACCOUNTS}
 use Rattle.message_records.specs.declared.limits.TheConstants.{MAX_BALANCE}
 use Rattle.message_records.specs.believed.Ranges.{cents_within}
 use Rattle.message_records.specs.believed.Records.{RequestFields}
 use Rattle.message_records.specs.believed.Reading.{request_of}
-use Rattle.std.specs.Prelude.{◌≡◌, ◌⊎◌, ◌==◌, ◌<◌, ◌≤◌, ◌+◌, ℕ, Bool, List, [], ◌∷◌, length, replicate, get_or}
+use Rattle.std.specs.Prelude.{◌≡◌, ◌⊎◌, ◌&&◌, ◌==◌, ◌<◌, ◌≤◌, ◌+◌, ℕ, ℤ, pos, Bool, true, not, int_lt, nat_abs, nat_le, List, [], ◌∷◌, length, replicate, get_or}
 use Rattle.std.specs.Prelude.{Option, Some, None, Ok, IfSome, if◌then◌else◌}
 use Rattle.walked_rows.specs.KeptRows.{KeptItem}
 use Rattle.walked_rows.specs.declared.branches.StoredBranch.{StoredBranch}
@@ -19,14 +19,10 @@ use Rattle.walked_rows.specs.declared.floors.StoredFloor.{StoredFloor}
 use Rattle.walked_rows.specs.declared.postings.StoredPosting.{StoredPosting}
 use Rattle.bank_store.specs.believed.Seen.{bank_seen}
 use Rattle.bank_store.specs.declared.bank.Bank.{Bank}
-use Rattle.bank_replays.specs.FollowedRows.{AreRowsOf}
-use Rattle.bank_replays.specs.Following.{AreDecided, Follows, HaveSameRows, prepared}
+use Rattle.bank_replays.specs.Following.{prepared}
+use Rattle.bank_replays.specs.Leading.{Leads}
 use Rattle.bank_replays.specs.declared.refill.Planned.{Planned}
 use Rattle.bank_replays.specs.declared.refill.Refill.{Refill}
-
--- where its disk is honest, its tables are those of a log
-abbrev pub ShowsSome : {S : Type 0} (g : Ghosts S) → Bank S g → Type 0
-ShowsSome g bank = (bank_seen g bank).honest → (log : List Command) × ShowsLog (bank_seen g bank) log
 
 -- its store is never in doubt
 pub record IsNeverInDoubt {S : Type 0} (g : Ghosts S) : Type 0 where
@@ -38,14 +34,26 @@ pub record IsNeverInDoubt {S : Type 0} (g : Ghosts S) : Type 0 where
 abbrev pub planned_at : List Planned → ℕ → Planned
 planned_at planned b = get_or planned b (record { accounts = 0; floor = None })
 
+-- a branch with so many accounts and such a floor can be opened
+abbrev pub is_floor : Option ℤ → Bool
+is_floor None = true
+is_floor (Some lowest) = not (int_lt (pos 0) lowest) && nat_le (nat_abs lowest) MAX_BALANCE
+
+abbrev pub can_open : ℕ → Planned → Bool
+can_open b yet =
+    nat_le 1 b && (nat_le b LAST_BRANCH && (nat_le 1 yet.accounts && (nat_le yet.accounts MAX_ACCOUNTS && is_floor yet.floor)))
+
+-- the terms that it is opened with
+abbrev pub terms_of : ℕ → Planned → Option Terms
+terms_of b yet = if can_open b yet then Some (opened_with yet.accounts yet.floor) else None
+
 -- each branch of a plan can be opened
 abbrev pub IsPlan : (ℕ → Option Terms) → Type 0
 IsPlan plan = (b : ℕ) → IfSome (plan b) (λ terms. IsCommand (Open b terms))
 
--- a branch is open as planned, or it isn't and is yet to be opened so
-abbrev pub IsYet : (plan first : Option Terms) → Planned → Type 0
-IsYet plan first yet =
-    ((yet.accounts ≡ 0) × (first ≡ plan)) ⊎ ((first ≡ None) × (plan ≡ Some (opened_with yet.accounts yet.floor)))
+-- a branch is open as planned, or it isn't and is yet to be opened so, if it can be
+abbrev pub IsYet : ℕ → (plan first : Option Terms) → Planned → Type 0
+IsYet b plan first yet = ((yet.accounts ≡ 0) × (first ≡ plan)) ⊎ ((first ≡ None) × (plan ≡ terms_of b yet))
 
 -- ---- what a second bank shows
 
@@ -60,7 +68,7 @@ pub record HasLog {S : Type 0} (g : Ghosts S) (bank : Bank S g) (moment : ℕ) (
 pub record Holds {S W : Type 0} (g : Ghosts S) (plan : ℕ → Option Terms) (log : List Command) (refill : Refill S W g)
     : Type 0 where
   pub has : HasLog g refill.bank refill.moment refill.batch.items log
-  pub yet : (b : ℕ) → IsYet (plan b) (opened log b) (planned_at refill.planned.items b)
+  pub yet : (b : ℕ) → IsYet b (plan b) (opened log b) (planned_at refill.planned.items b)
 
 -- its posting has this moment, if it has one
 abbrev pub IsMomentOf : ℕ → Option StoredPosting → Type 0
@@ -78,12 +86,11 @@ pub record HoldsMore {S W : Type 0} (g : Ghosts S) (plan : ℕ → Option Terms)
 
 -- ---- what rows do
 
--- Where these are the kept rows of requests that were decided under a plan, the log follows those.
+-- the log goes on by these kept rows
 abbrev pub FollowsRows : {S W : Type 0} (g : Ghosts S) (first last : Refill S W g) → List KeptItem → Type 0
 FollowsRows g first last items =
-    IsNeverInDoubt g → (plan : ℕ → Option Terms) (es : List DecidedRequest) → IsPlan plan → AreDecided plan es
-    → AreRowsOf items es → (log : List Command) → Holds g plan log first → Follows plan [] log
-    → (now : List Command) × Holds g plan now last × Follows plan es now
+    IsNeverInDoubt g → (plan : ℕ → Option Terms) → IsPlan plan → (log : List Command) → Holds g plan log first
+    → (now : List Command) × Holds g plan now last × Leads plan items log now
 
 -- ---- what is planned by rows
 
@@ -132,9 +139,3 @@ pub record OpensRest {S : Type 0} (g : Ghosts S) (plan : ℕ → Option Terms) (
     pub shows : ShowsLog (bank_seen g bank) now
     pub decides : decided now ≡ decided log
     pub opens : (b : ℕ) → opened now b ≡ plan b
-
--- whichever log was shown by the file, the second bank shows one with the same rows
-abbrev pub ShowsSameRows : {S T : Type 0} (g : Ghosts S) (h : Ghosts T) → Bank S g → Bank T h → Type 0
-ShowsSameRows g h bank due =
-    (log : List Command) → ShowsLog (bank_seen g bank) log
-    → (now : List Command) × ShowsLog (bank_seen h due) now × HaveSameRows log now

@@ -84,7 +84,8 @@ fn compare_two<S: Alter, T: Alter, A: Compared, B: Compared>(
 ) -> Result<Option<Difference>, Fault>
     ensures { Compares S.Store T.Store bank.old bank.new due.old due.new
         (Both (SameRows A.WalkedRow.HasItems) (SameRows B.WalkedRow.HasItems))
-        (Either (DiffersIn A.WalkedRow.key A.WalkedRow.item A.Compared.Says A.WalkedRow.HasItems)
+        (Either (SameRows A.WalkedRow.HasItems)
+        (DiffersIn A.WalkedRow.key A.WalkedRow.item A.Compared.Says A.WalkedRow.HasItems)
         (DiffersIn B.WalkedRow.key B.WalkedRow.item B.Compared.Says B.WalkedRow.HasItems)) result }
 {
     match compare::<S, T, A>(bank, due) {
@@ -102,9 +103,12 @@ fn compare_four<S: Alter, T: Alter, A: Compared, B: Compared, C: Compared, D: Co
     ensures { Compares S.Store T.Store bank.old bank.new due.old due.new
         (Both (Both (SameRows A.WalkedRow.HasItems) (SameRows B.WalkedRow.HasItems))
         (Both (SameRows C.WalkedRow.HasItems) (SameRows D.WalkedRow.HasItems)))
-        (Either (Either (DiffersIn A.WalkedRow.key A.WalkedRow.item A.Compared.Says A.WalkedRow.HasItems)
+        (Either (Both (SameRows A.WalkedRow.HasItems) (SameRows B.WalkedRow.HasItems))
+        (Either (SameRows A.WalkedRow.HasItems)
+        (DiffersIn A.WalkedRow.key A.WalkedRow.item A.Compared.Says A.WalkedRow.HasItems)
         (DiffersIn B.WalkedRow.key B.WalkedRow.item B.Compared.Says B.WalkedRow.HasItems))
-        (Either (DiffersIn C.WalkedRow.key C.WalkedRow.item C.Compared.Says C.WalkedRow.HasItems)
+        (Either (SameRows C.WalkedRow.HasItems)
+        (DiffersIn C.WalkedRow.key C.WalkedRow.item C.Compared.Says C.WalkedRow.HasItems)
         (DiffersIn D.WalkedRow.key D.WalkedRow.item D.Compared.Says D.WalkedRow.HasItems))) result }
 {
     match compare_two::<S, T, A, B>(bank, due) {

@@ -1,5 +1,5 @@
-//! A second bank, filled with what the rows of a bank say. It may be filled with anything: whatever it is
-//! given, its tables are those of a log. Given the rows of a log, it shows one with the same rows.
+//! A second bank, filled with what the rows of a bank say: its log is that of the requests among them, in their order.
+//! Given the rows of a log, it shows one with the same rows.
 ghost use Rattle.std.specs.Prelude.{◌≤◌, ◌<◌, ◌≡◌, ◌∷◌, [], ℕ, pos, List, Option, IfErr, IfOk, OnOk, length, set};
 ghost use Rattle.message_records.specs.believed.Outcomes.{code_of};
 ghost use Rattle.message_records.specs.declared.records.Outcome.{Outcome as OfOutcome};
@@ -10,7 +10,7 @@ ghost use Rattle.posting_rules.specs.declared.fault.Fault.TheVariants.{Memory};
 ghost use Rattle.bank_store.specs.believed.Seen.{bank_seen};
 ghost use Rattle.bank_replays.specs.Following.{had_account, opening};
 ghost use Rattle.bank_replays.specs.Refilling.{HasLog, Holds, HoldsMore, IsNeverInDoubt, IsPlan, IsUnplanned};
-ghost use Rattle.bank_replays.specs.Refilling.{OpensRest, ShowsSome, planned_at};
+ghost use Rattle.bank_replays.specs.Refilling.{OpensRest, planned_at};
 ghost use Rattle.bank_replays.specs.declared.fault.ReplayFault.TheVariants.{Bank as OfBank};
 
 use crate::fault::ReplayFault;
@@ -65,16 +65,17 @@ fn plan_at(planned: &mut Vec<Planned>, branch: u64, yet: Planned)
     }
 }
 
-// Opens a branch that can be opened.
+// Opens a branch, if it can be opened.
 fn open_planned<T: Alter + Drop>(
     bank: &mut Bank<T>,
     branch: u64,
     planned: Planned,
 ) -> Result<(), ReplayFault>
-    ensures shows { ShowsSome T.Store bank.old → OnOk result (ShowsSome T.Store bank.new) }
     ensures opens { IsNeverInDoubt T.Store → IsCommand (Open branch (opened_with planned.accounts planned.floor))
         → (log : List Command) → ShowsLog (bank_seen T.Store bank.old) log → OnOk result
         (ShowsLog (bank_seen T.Store bank.new) (Open branch (opened_with planned.accounts planned.floor) ∷ log)) }
+    ensures spares { (IsCommand (Open branch (opened_with planned.accounts planned.floor)) → ⊥)
+        → OnOk result (bank.new ≡ bank.old) }
     ensures memory { IfErr result (λ fault. fault ≡ OfBank Memory) }
 {
     let Some(branch) = Branch::new(branch) else {
@@ -101,7 +102,6 @@ fn post_batch<T: Alter + Drop>(
     batch: &[[u8; REQUEST_BYTES]],
 ) -> Result<(), ReplayFault>
     requires { length batch.now ≤ RECORDS_PER_BATCH }
-    ensures shows { ShowsSome T.Store bank.old → OnOk result (ShowsSome T.Store bank.new) }
     ensures posts { IsNeverInDoubt T.Store → (log : List Command) → ShowsLog (bank_seen T.Store bank.old) log
         → OnOk result (ShowsLog (bank_seen T.Store bank.new) (followed_by log (posts moment batch.now))) }
     ensures memory { IfErr result (λ fault. fault ≡ OfBank Memory) }
@@ -144,7 +144,6 @@ impl<T: Alter + Drop, W: Watch + Drop> Refill<T, W> {
 
     // Posts what is yet to be posted.
     fn post(&mut self) -> Result<(), ReplayFault>
-        ensures shows { ShowsSome T.Store self.old.bank → OnOk result (ShowsSome T.Store self.new.bank) }
         ensures holds { IsNeverInDoubt T.Store → (plan : ℕ → Option Terms) (log : List Command)
             → Holds T.Store plan log self.old → OnOk result (Holds T.Store plan log self.new) }
         ensures planned { self.new.planned ≡ self.old.planned }
@@ -158,7 +157,6 @@ impl<T: Alter + Drop, W: Watch + Drop> Refill<T, W> {
 
     // Opens a branch, if it is yet to be opened, after all that came before.
     fn open(&mut self, branch: u64) -> Result<(), ReplayFault>
-        ensures shows { ShowsSome T.Store self.old.bank → OnOk result (ShowsSome T.Store self.new.bank) }
         ensures holds { IsNeverInDoubt T.Store → (plan : ℕ → Option Terms) → IsPlan plan → (log : List Command)
             → Holds T.Store plan log self.old → OnOk result (Holds T.Store plan (opening plan branch log) self.new) }
         ensures memory { IfErr result (λ fault. fault ≡ OfBank Memory) }
@@ -174,7 +172,6 @@ impl<T: Alter + Drop, W: Watch + Drop> Refill<T, W> {
 
     // Posts what came at other moments, or is as much as is posted together.
     fn make_room(&mut self, moment: Moment) -> Result<(), ReplayFault>
-        ensures shows { ShowsSome T.Store self.old.bank → OnOk result (ShowsSome T.Store self.new.bank) }
         ensures holds { IsNeverInDoubt T.Store → (plan : ℕ → Option Terms) (log : List Command)
             → Holds T.Store plan log self.old → OnOk result (Holds T.Store plan log self.new) }
         ensures moment { OnOk result (self.new.moment ≡ moment) }
@@ -191,7 +188,6 @@ impl<T: Alter + Drop, W: Watch + Drop> Refill<T, W> {
 
     // Opens the branches that no request needed, and posts the rest.
     pub(crate) fn finish(&mut self) -> Result<(), ReplayFault>
-        ensures shows { ShowsSome T.Store self.old.bank → OnOk result (ShowsSome T.Store self.new.bank) }
         ensures rest { IsNeverInDoubt T.Store → (plan : ℕ → Option Terms) → IsPlan plan → (log : List Command)
             → Holds T.Store plan log self.old → OnOk result (OpensRest T.Store plan log self.new.bank) }
         ensures memory { IfErr result (λ fault. fault ≡ OfBank Memory) }
@@ -210,7 +206,6 @@ impl<T: Alter + Drop, W: Watch + Drop> Refill<T, W> {
         had: bool,
         posting: Option<StoredPosting>,
     ) -> Result<(), ReplayFault>
-        ensures shows { ShowsSome T.Store self.old.bank → OnOk result (ShowsSome T.Store self.new.bank) }
         ensures holds { IsNeverInDoubt T.Store → (plan : ℕ → Option Terms) → IsPlan plan → (log : List Command)
             → Holds T.Store plan log self.old
             → OnOk result (HoldsMore T.Store plan log had posting request.now self.new) }
@@ -231,8 +226,7 @@ impl<T: Alter + Drop, W: Watch + Drop> Refill<T, W> {
 
     // Tells that this request is reached.
     fn reach(&mut self, row: &KeptRequest)
-        ensures shows { ShowsSome T.Store self.old.bank → ShowsSome T.Store self.new.bank }
-        ensures holds { (plan : ℕ → Option Terms) (log : List Command) → Holds T.Store plan log self.old
+        ensures { (plan : ℕ → Option Terms) (log : List Command) → Holds T.Store plan log self.old
             → Holds T.Store plan log self.new }
     {
         self.watch.reached(row.request.ordinal.get());
@@ -260,10 +254,9 @@ impl<T: Alter + Drop, W: Watch + Drop> Visitor<StoredBranch, Refill<T, W>> for F
     ghost use Rattle.bank_replays.specs.Prefixes.{plans_none};
     ghost use Rattle.bank_replays.specs.Refilling.{Plans, with_accounts};
 
-    ghost Visited = { λ visitor first last rows. (ShowsSome T.Store first.bank → ShowsSome T.Store last.bank)
-        × Plans T.Store (λ r. r.branch) with_accounts first last rows };
+    ghost Visited = { λ visitor first last rows. Plans T.Store (λ r. r.branch) with_accounts first last rows };
 
-    ghost none_yet = { λ visitor refill. (λ some. some, plans_none (λ r. r.branch) with_accounts refill) };
+    ghost none_yet = { λ visitor refill. plans_none (λ r. r.branch) with_accounts refill };
 
     ghost in_part = { λ visitor first last rows fault many visited. tt };
 
@@ -286,10 +279,9 @@ impl<T: Alter + Drop, W: Watch + Drop> Visitor<StoredFloor, Refill<T, W>> for Fi
     ghost use Rattle.bank_replays.specs.Prefixes.{plans_none};
     ghost use Rattle.bank_replays.specs.Refilling.{Plans, with_floor};
 
-    ghost Visited = { λ visitor first last rows. (ShowsSome T.Store first.bank → ShowsSome T.Store last.bank)
-        × Plans T.Store (λ r. r.branch) with_floor first last rows };
+    ghost Visited = { λ visitor first last rows. Plans T.Store (λ r. r.branch) with_floor first last rows };
 
-    ghost none_yet = { λ visitor refill. (λ some. some, plans_none (λ r. r.branch) with_floor refill) };
+    ghost none_yet = { λ visitor refill. plans_none (λ r. r.branch) with_floor refill };
 
     ghost in_part = { λ visitor first last rows fault many visited. tt };
 
@@ -322,10 +314,9 @@ impl<T: Alter + Drop, W: Watch + Drop> Visitor<KeptRequest, Refill<T, W>> for Fi
     ghost use Rattle.bank_replays.specs.Prefixes.{follows_none};
     ghost use Rattle.bank_replays.specs.Refilling.{FollowsRows};
 
-    ghost Visited = { λ visitor first last rows. (ShowsSome T.Store first.bank → ShowsSome T.Store last.bank)
-        × FollowsRows T.Store first last (map kept_item rows) };
+    ghost Visited = { λ visitor first last rows. FollowsRows T.Store first last (map kept_item rows) };
 
-    ghost none_yet = { λ visitor refill. (λ some. some, follows_none refill) };
+    ghost none_yet = { λ visitor refill. follows_none refill };
 
     ghost in_part = { λ visitor first last rows fault many visited. tt };
 

@@ -5,14 +5,13 @@ ghost use Rattle.sqlite.specs.State.{HasCleanDisk};
 ghost use Rattle.posting_rules.specs.believed.Commands.{Command};
 ghost use Rattle.posting_rules.specs.believed.Counter.{ShowsLog};
 ghost use Rattle.posting_rules.specs.declared.fault.Fault.TheVariants.{Down, Memory};
-ghost use Rattle.sql_meanings.specs.believed.Entries.{Entry};
-ghost use Rattle.walked_rows.specs.Rows.{HasStoredRows};
 ghost use Rattle.bank_store.specs.believed.Seen.{bank_seen, database_of, file_of};
 ghost use Rattle.bank_replays.specs.Damaged.{TellsWhy, fault_in};
-ghost use Rattle.bank_replays.specs.Differences.{DiffersFrom, table_of};
+ghost use Rattle.bank_replays.specs.Differences.{DiffersFrom};
 ghost use Rattle.bank_replays.specs.FileTables.{FileTables, HasTables, IsKept};
 ghost use Rattle.bank_replays.specs.Reading.{IsOnlyRead, ReadsBank};
-ghost use Rattle.bank_replays.specs.Refilling.{IsNeverInDoubt, IsUnplanned, ShowsSameRows, ShowsSome};
+ghost use Rattle.bank_replays.specs.Refilling.{IsNeverInDoubt, IsUnplanned};
+ghost use Rattle.bank_replays.specs.Replayed.{ShowsReplay};
 ghost use Rattle.bank_replays.specs.Replays.{AreDigestsIn, IsOfNoLog, OnAgrees, OnDiffers, Replays};
 
 use crate::comparing::compare_all;
@@ -37,10 +36,9 @@ fn fill<S: Alter, T: Alter + Drop, W: Watch + Drop>(
 ) -> Result<(), ReplayFault>
     ensures bank { ReadsBank S.Store bank.old bank.new result }
     ensures why { TellsWhy S.Store fault_in bank.old bank.new result }
-    ensures shows { ShowsSome T.Store refill.old.bank → OnOk result (ShowsSome T.Store refill.new.bank) }
-    ensures same { HasCleanDisk (file_of bank.new) → IsNeverInDoubt T.Store → IsUnplanned T.Store refill.old
+    ensures replays { HasCleanDisk (file_of bank.new) → IsNeverInDoubt T.Store → IsUnplanned T.Store refill.old
         → ShowsLog (bank_seen T.Store refill.old.bank) []
-        → OnOk result (ShowsSameRows S.Store T.Store bank.old refill.new.bank) }
+        → OnOk result (ShowsReplay S.Store T.Store bank.old refill.new.bank) }
 {
     visit_all::<S, StoredBranch, Refill<T, W>, Filling>(bank, &Filling, refill)?;
     visit_all::<S, StoredFloor, Refill<T, W>, Filling>(bank, &Filling, refill)?;
@@ -56,9 +54,8 @@ fn refilled<S: Alter, T: Alter + Drop, W: Watch + Drop>(
 ) -> Result<Bank<T>, Fault>
     ensures bank { ReadsBank S.Store bank.old bank.new result }
     ensures why { TellsWhy S.Store (λ fault. fault) bank.old bank.new result }
-    ensures shows { IfOk result (λ filled. ShowsSome T.Store due → ShowsSome T.Store filled) }
-    ensures same { HasCleanDisk (file_of bank.new) → IsNeverInDoubt T.Store → ShowsLog (bank_seen T.Store due) []
-        → IfOk result (ShowsSameRows S.Store T.Store bank.old) }
+    ensures replays { HasCleanDisk (file_of bank.new) → IsNeverInDoubt T.Store → ShowsLog (bank_seen T.Store due) []
+        → IfOk result (ShowsReplay S.Store T.Store bank.old) }
 {
     let mut refill = Refill::over(bank.alloc(), due, watch)?;
     let filled = fill(bank, &mut refill);
@@ -111,8 +108,8 @@ fn replay_over<S: Alter, T: Alter + Drop, W: Watch + Drop>(
         → HasTables (database_of S.Store bank.old) f
         → OnAgrees result (λ d. (log : List Command) × ShowsLog (bank_seen S.Store bank.old) log) }
     ensures digest { HasCleanDisk (file_of bank.new) → OnAgrees result (AreDigestsIn (database_of S.Store bank.old)) }
-    ensures differs { HasCleanDisk (file_of bank.new) → OnDiffers result (λ d. (rows : List Entry)
-        → HasStoredRows (database_of S.Store bank.old) (table_of d) rows → DiffersFrom rows d) }
+    ensures differs { HasCleanDisk (file_of bank.new) → OnDiffers result (λ d. (f : FileTables)
+        → HasTables (database_of S.Store bank.old) f → DiffersFrom f d) }
     ensures same { HasCleanDisk (file_of bank.new) → OnDiffers result (λ d. IsOfNoLog (bank_seen S.Store bank.old)) }
 {
     let empty = new_bank(bank.alloc(), conn)?;
@@ -165,8 +162,8 @@ pub fn replay<S: Alter, W: Watch + Drop>(bank: &mut Bank<S>, watch: W) -> Result
         → OnAgrees result (λ d. (log : List Command) × ShowsLog (bank_seen S.Store bank.old) log) }
     ensures digest { (bank_seen S.Store bank.new).honest
         → OnAgrees result (AreDigestsIn (database_of S.Store bank.old)) }
-    ensures differs { (bank_seen S.Store bank.new).honest → OnDiffers result (λ d. (rows : List Entry)
-        → HasStoredRows (database_of S.Store bank.old) (table_of d) rows → DiffersFrom rows d) }
+    ensures differs { (bank_seen S.Store bank.new).honest → OnDiffers result (λ d. (f : FileTables)
+        → HasTables (database_of S.Store bank.old) f → DiffersFrom f d) }
     ensures why { TellsWhy S.Store (λ fault. fault) bank.old bank.new result }
     ensures bank { Replays (bank_seen S.Store bank.old) (bank_seen S.Store bank.new) result }
     ensures down { (bank_seen S.Store bank.old).is_down → (result ≡ Err Down) × (bank.new ≡ bank.old) }

@@ -6,13 +6,14 @@ use Rattle.bank_replays.proofs.comparing.compare_all.Goals as goal
 
 pub returns-in-Ok-None : goal.returns-in-Ok-None
 returns-in-Ok-None g c =
-    compared_as all_same any_differs
+    compared_as all_same (λ db other d it f due has has_due. any_differs db other d f due has has_due it)
     (compared_both (rw c.in-Ok-None.field-0-is at c.in-Ok-None.ensures) c.compare_four-in-Ok-None.ensures)
 
 pub returns-in-Ok-Some : goal.returns-in-Ok-Some
 returns-in-Ok-Some g c =
-    compared_as all_same any_differs
+    compared_as all_same (λ db other d it f due has has_due. any_differs db other d f due has has_due it)
     (compared_first (rw c.in-Ok-Some.field-0-is at c.in-Ok-Some.ensures) (some_not_none _ _ refl))
 
 pub returns-in-Err : goal.returns-in-Err
-returns-in-Err g c = compared_as all_same any_differs (compared_first c.in-Err.ensures (not_none _ _ refl))
+returns-in-Err g c = compared_as all_same (λ db other d it f due has has_due. any_differs db other d f due has has_due it)
+    (compared_first c.in-Err.ensures (not_none _ _ refl))

@@ -7,14 +7,7 @@ use Rattle.posting_rules.specs.believed.Commands.{Open, opened_with}
 use Rattle.posting_rules.specs.believed.Counter.{ShowsLog}
 use Rattle.posting_rules.proofs.Verdicts.{when}
 use Rattle.bank_store.specs.believed.Seen.{bank_seen}
-use Rattle.bank_replays.proofs.Refilled.{shows_more}
 use Rattle.bank_replays.proofs.refill.open_planned.Goals as goal
-
-pub returns-in-Ok-clause-shows : goal.returns-in-Ok-clause-shows
-returns-in-Ok-clause-shows g c some =
-    let call = c.in-Ok.ensures.call in
-    shows_more (bank_seen g.T.Store c.args.bank.now) (bank_seen g.T.Store c.open_branch.new.self) _ call.done
-    call.honest some
 
 -- the branch is the one of the number
 branch_is : (n m : ℕ) → whole_within 1 MAX_BRANCH n ≡ Some m → n ≡ m
@@ -28,3 +21,6 @@ returns-in-Ok-clause-opens g c sure can log shows =
     (Open b (opened_with c.args.planned.accounts c.args.planned.floor) ∷ log))
     (sym (branch_is c.args.branch c.in-Some.branch here))
     (call.done.shows (sure.clean c.open_branch.new.self.conn) log shows)
+
+pub returns-in-Ok-clause-spares : goal.returns-in-Ok-clause-spares
+returns-in-Ok-clause-spares g c none = absurd (none (search rules))

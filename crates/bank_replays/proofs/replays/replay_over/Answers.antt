@@ -1,14 +1,14 @@
 -- Where no difference was found, the file has the rows of the log that the second bank shows, and its requests are
 -- digested.
-use Rattle.std.proofs.Common.{rules, ◌≡◌, ◌∙◌, [], Err, refl, sym, ap, subst}
+use Rattle.std.proofs.Common.{rules, ◌≡◌, ◌∙◌, Err, refl, sym, ap, subst}
 use Rattle.std.proofs.lemmas.Result.{err_from_is_err_and}
 use Rattle.sqlite.specs.Effect.{Database}
 use Rattle.bank_store.specs.believed.Seen.{connection_of, file_of}
 use Rattle.posting_rules.specs.believed.Tables.{Tables}
-use Rattle.walked_rows.specs.Rows.{HasStoredRows, entry_key}
-use Rattle.bank_replays.specs.{Differences.rows_of, Differences.table_of, FileTables.SameTables, FileTables.rows_due}
+use Rattle.walked_rows.specs.Rows.{entry_key}
+use Rattle.bank_replays.specs.{Differences.rows_of, FileTables.HasTables, FileTables.SameTables, FileTables.rows_due}
 use Rattle.bank_replays.specs.Replays.{AreDigestsIn}
-use Rattle.bank_replays.proofs.{AllTables.has_rows_of, Tables.due_tables}
+use Rattle.bank_replays.proofs.{FilledBank.replay_same, Tables.due_tables}
 use Rattle.bank_replays.proofs.SameRows.{no_difference, tables_same}
 use Rattle.bank_replays.proofs.{Read.clean_before, Read.none_read, Read.read_any, Read.read_fails, Read.read_then, Tables.same_log}
 use Rattle.bank_replays.proofs.Whys.{why_err, why_memory, why_none, why_then}
@@ -62,36 +62,34 @@ returns-in-Some g c =
       why = why_none _;
       agrees = λ clean f has. tt;
       digest = λ clean. tt;
-      differs = λ clean rows has.
+      differs = λ clean f has.
           let earlier = clean_before compared.bank clean in
-          let it = filled.shows (λ honest. ([], c.in_ok-empty.ensures.shows c.requires.clean))
-          (sure (connection_of c.in_ok-due.due)) in
-          let d = c.in-Some.difference in
-          let due = due_tables (file_of c.in_ok-due.due).now it.1.tables it.1.are in
+          let it = filled.replays earlier c.requires.clean (c.in_ok-empty.ensures.shows c.requires.clean) f has in
           record {
             log = it.0;
+            replays = it.2;
             tables = it.1.tables;
             are = it.1.shows;
-            rows_differ = compared.differs clean (sure (connection_of c.compare_all.new.due)) d
-                (rw c.in-Some.is refl) rows (rows_of d (rows_due it.1.tables))
-                (subst (λ (db : Database). HasStoredRows db (table_of d) rows) (sym (filled.bank.still earlier).0) has)
-                (has_rows_of (file_of c.in_ok-due.due).now (rows_due it.1.tables) due d);
+            first = compared.differs clean (sure (connection_of c.compare_all.new.due)) c.in-Some.difference
+                (rw c.in-Some.is refl) f (rows_due it.1.tables)
+                (subst (λ (db : Database). HasTables db f) (sym (filled.bank.still earlier).0) has)
+                (due_tables (file_of c.in_ok-due.due).now it.1.tables it.1.are);
           };
       same = λ clean log shown.
           let earlier = clean_before compared.bank clean in
-          let it = filled.same earlier c.requires.clean (c.in_ok-empty.ensures.shows c.requires.clean) log shown in
-          let d = c.in-Some.difference in
           let db = (file_of c.args.bank.now).now in
           let due = (file_of c.in_ok-due.due).now in
-          no_difference entry_key (rows_of d (rows_due shown.tables)) (rows_of d (rows_due it.1.tables)) _ _
-          (compared.differs clean (sure (connection_of c.compare_all.new.due)) d (rw c.in-Some.is refl)
-          (rows_of d (rows_due shown.tables)) (rows_of d (rows_due it.1.tables))
-          (subst (λ (db : Database). HasStoredRows db (table_of d) (rows_of d (rows_due shown.tables)))
-          (sym (filled.bank.still earlier).0)
-          (has_rows_of db (rows_due shown.tables) (due_tables db shown.tables shown.are) d))
-          (has_rows_of due (rows_due it.1.tables) (due_tables due it.1.tables it.1.are) d))
+          let f = rows_due shown.tables in
+          let has = due_tables db shown.tables shown.are in
+          let it = filled.replays earlier c.requires.clean (c.in_ok-empty.ensures.shows c.requires.clean) f has in
+          let same = replay_same db shown.tables log shown.commands shown.are shown.shows it.0 it.2 in
+          let d = c.in-Some.difference in
+          no_difference entry_key (rows_of d f) (rows_of d (rows_due it.1.tables)) _ _
+          (compared.differs clean (sure (connection_of c.compare_all.new.due)) d (rw c.in-Some.is refl) f
+          (rows_due it.1.tables) (subst (λ (db : Database). HasTables db f) (sym (filled.bank.still earlier).0) has)
+          (due_tables due it.1.tables it.1.are)).rows
           (ap (λ (t : Tables). rows_of d (rows_due t))
-          (tables_same log it.0 it.2 db due shown.tables it.1.tables shown.are it.1.are shown.shows it.1.shows));
+          (tables_same log it.0 same db due shown.tables it.1.tables shown.are it.1.are shown.shows it.1.shows));
     }
 
 pub returns-in_err-digest_both : goal.returns-in_err-digest_both
@@ -129,8 +127,7 @@ returns g c =
           let due = file_of c.in_ok-due.due in
           let same = subst (λ (d : Database). SameTables d due.now) (filled.bank.still earlier).0
           (compared.same before (sure (connection_of c.compare_all.new.due)) (rw c.in_default.is refl)) in
-          let it = filled.shows (λ honest. ([], c.in_ok-empty.ensures.shows c.requires.clean))
-          (sure (connection_of c.in_ok-due.due)) in
+          let it = filled.replays earlier c.requires.clean (c.in_ok-empty.ensures.shows c.requires.clean) f has in
           (it.0, same_log (file_of c.args.bank.now) due _ _ f has same it.0 it.1);
       digest = λ clean.
           subst (λ (d : Database). AreDigestsIn d c.in_ok-digest_both.field-0) (both.still (clean_before digested.bank clean)).0 (digested.rows clean);

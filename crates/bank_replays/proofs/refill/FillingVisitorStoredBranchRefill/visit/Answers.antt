@@ -11,10 +11,8 @@ returns-clause-visited g c first rows visited =
     let at : c.get-branch.result ≡ row.branch = c.get-branch.ensures.value in
     let there : c.planned_at.result ≡ planned_at old.planned.items row.branch =
     c.planned_at.ensures ∙ ap (λ items. planned_at items c.get-branch.result) c.deref.ensures.value
-    ∙ ap (planned_at old.planned.items) at in (
-      visited.0,
-      plans_more (λ r. r.branch) with_accounts first old _ rows row c.get-branch.result _ visited.1 refl refl at
-          (yet_same _ row.accounts _ (planned_at old.planned.items row.branch).floor c.get.ensures.value
-          (ap (λ yet. yet.floor) there))
-          c.plan_at.ensures,
-    )
+    ∙ ap (planned_at old.planned.items) at in
+    plans_more (λ r. r.branch) with_accounts first old _ rows row c.get-branch.result _ visited refl refl at
+    (yet_same _ row.accounts _ (planned_at old.planned.items row.branch).floor c.get.ensures.value
+    (ap (λ yet. yet.floor) there))
+    c.plan_at.ensures

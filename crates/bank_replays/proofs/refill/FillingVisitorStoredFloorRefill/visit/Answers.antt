@@ -15,11 +15,9 @@ returns-clause-visited g c first rows visited =
     let at : c.get-branch.result ≡ row.branch = c.get-branch.ensures.value in
     let there : c.planned_at.result ≡ planned_at old.planned.items row.branch =
     c.planned_at.ensures ∙ ap (λ items. planned_at items c.get-branch.result) c.deref.ensures.value
-    ∙ ap (planned_at old.planned.items) at in (
-      visited.0,
-      plans_more (λ r. r.branch) with_floor first old _ rows row c.get-branch.result _ visited.1 refl refl at
-          (yet_same _ (planned_at old.planned.items row.branch).accounts _ (cents_within MAX_BALANCE row.lowest)
-          (ap (λ yet. yet.accounts) there)
-          (c.new.ensures ∙ ap (cents_within MAX_BALANCE) (to_z-of_z w64 row.lowest fits)))
-          c.plan_at.ensures,
-    )
+    ∙ ap (planned_at old.planned.items) at in
+    plans_more (λ r. r.branch) with_floor first old _ rows row c.get-branch.result _ visited refl refl at
+    (yet_same _ (planned_at old.planned.items row.branch).accounts _ (cents_within MAX_BALANCE row.lowest)
+    (ap (λ yet. yet.accounts) there)
+    (c.new.ensures ∙ ap (cents_within MAX_BALANCE) (to_z-of_z w64 row.lowest fits)))
+    c.plan_at.ensures

@@ -6,21 +6,16 @@ use Rattle.bank_replays.proofs.refill.Refill.finish.Goals as goal
 
 pub branches-init : goal.branches-init
 branches-init g c = record {
-  some = λ some. some;
   below = λ sure plan is log holds. below_first plan is log c.args.self.now holds;
 }
 
 pub branches-preserved : goal.branches-preserved
 branches-preserved g c = record {
-  some = λ some. c.in_ok-open.ensures.shows (c.branches.invariant.some some);
   below = λ sure plan is log holds.
       let it = c.branches.invariant.below sure plan is log holds in
       below_more plan is log c.branches.self c.open.new.self c.branches.branch it
       (c.in_ok-open.ensures.holds sure plan is it.now it.holds);
 }
-
-pub returns-clause-shows : goal.returns-clause-shows
-returns-clause-shows g c some = c.post.ensures.shows (c.branches.invariant.some some)
 
 pub returns-clause-rest : goal.returns-clause-rest
 returns-clause-rest g c sure plan is log holds =
@@ -32,7 +27,6 @@ pub returns-in_err-open : goal.returns-in_err-open
 returns-in_err-open g c =
     let same : c.from_residual.result ≡ Err c.in_err-open.field-0.0 = fails_by c.from_residual.ensures.1 in
     record {
-      shows = λ some. rw same tt;
       rest = λ sure plan is log holds. rw same tt;
       memory = rw same c.in_err-open.ensures.memory;
     }

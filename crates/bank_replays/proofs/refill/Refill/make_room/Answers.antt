@@ -17,15 +17,11 @@ pub returns-in_err-post : goal.returns-in_err-post
 returns-in_err-post g c =
     let same : c.from_residual.result ≡ Err c.in_err-post.field-0.0 = fails_by c.from_residual.ensures.1 in
     record {
-      shows = λ some. rw same tt;
       holds = λ sure plan log holds. rw same tt;
       moment = rw same tt;
       room = rw same tt;
       memory = rw same c.in_err-post.ensures.memory;
     }
-
-pub returns-clause-shows : goal.returns-clause-shows
-returns-clause-shows g c some = c.in_ok-post.ensures.shows some
 
 pub returns-clause-moment : goal.returns-clause-moment
 returns-clause-moment g c = refl

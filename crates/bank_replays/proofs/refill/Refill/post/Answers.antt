@@ -18,15 +18,11 @@ pub returns-in_err-post_batch : goal.returns-in_err-post_batch
 returns-in_err-post_batch g c =
     let same : c.from_residual.result ≡ Err c.in_err-post_batch.field-0.0 = fails_by c.from_residual.ensures.1 in
     record {
-      shows = λ some. rw same tt;
       holds = λ sure plan log holds. rw same tt;
       planned = refl;
       empty = rw same tt;
       memory = rw same c.in_err-post_batch.ensures.memory;
     }
-
-pub returns-clause-shows : goal.returns-clause-shows
-returns-clause-shows g c some = c.in_ok-post_batch.ensures.shows some
 
 pub returns-clause-planned : goal.returns-clause-planned
 returns-clause-planned g c = refl

@@ -3,21 +3,11 @@ use Rattle.std.proofs.Common.{◌≡◌, ◌∙◌, List, sym, ap, subst, Err}
 use Rattle.posting_rules.specs.believed.Commands.{Command}
 use Rattle.posting_rules.specs.believed.Numbering.{branch_of_account, branch_of_teller}
 use Rattle.bank_replays.specs.Following.{prepared}
-use Rattle.bank_replays.specs.Refilling.{Holds, IsMomentOf, ShowsSome}
+use Rattle.bank_replays.specs.Refilling.{Holds, IsMomentOf}
 use Rattle.bank_replays.proofs.Filled.{prepared_both, prepared_home, pushed}
 use Rattle.bank_replays.proofs.Exits.{fails_by}
 use Rattle.bank_replays.proofs.refill.Refill.take.Goals as goal
 use Rattle.bank_replays.proofs.refill.Refill.take.Goals.{else-had, in-None, in-Some, then-had+in_ok-open-2}
-
-pub returns-clause-shows : goal.returns-clause-shows
-returns-clause-shows g c some =
-    let one = c.in_ok-open.ensures.shows some in
-    let two : ShowsSome g.T.Store c.if-had.self.bank =
-    elim c.if-had.branch [
-      | then-had+in_ok-open-2 w ↦ rw w.self-is (w.in_ok-open-2.ensures.shows one)
-      | else-had w ↦ rw w.self-is one
-    ] in
-    c.in_ok-make_room.ensures.shows two
 
 pub returns-clause-holds : goal.returns-clause-holds
 returns-clause-holds g c sure plan is log holds =
@@ -58,7 +48,6 @@ pub returns-in_err-open : goal.returns-in_err-open
 returns-in_err-open g c =
     let same : c.from_residual.result ≡ Err c.in_err-open.field-0.0 = fails_by c.from_residual.ensures.1 in
     record {
-      shows = λ some. rw same tt;
       holds = λ sure plan is log holds. rw same tt;
       memory = rw same c.in_err-open.ensures.memory;
     }
@@ -68,7 +57,6 @@ returns-in_err-open-2 g c =
     let same : c.from_residual-in_err-open-2.result ≡ Err c.in_err-open-2.field-0.0 =
     fails_by c.from_residual-in_err-open-2.ensures.1 in
     record {
-      shows = λ some. rw same tt;
       holds = λ sure plan is log holds. rw same tt;
       memory = rw same c.in_err-open-2.ensures.memory;
     }
@@ -78,7 +66,6 @@ returns-in_err-make_room g c =
     let same : c.from_residual-in_err-make_room.result ≡ Err c.in_err-make_room.field-0.0 =
     fails_by c.from_residual-in_err-make_room.ensures.1 in
     record {
-      shows = λ some. rw same tt;
       holds = λ sure plan is log holds. rw same tt;
       memory = rw same c.in_err-make_room.ensures.memory;
     }
