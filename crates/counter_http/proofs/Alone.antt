@@ -15,7 +15,8 @@ use Rattle.posting_core.specs.believed.{Batches.joined, Clock.AreReadings}
 use Rattle.counter_http.specs.Clients.{ClientsCall}
 use Rattle.counter_http.specs.Connections.{Known}
 use Rattle.counter_http.specs.together.Order.{Step, answers_at, of_client, steps_of, submitted_by, turns_of}
-use Rattle.counter_http.specs.together.Serving.{ClientIsServed, IsOfVisit, IsVisited, ServesTogether, Visit}
+use Rattle.counter_http.specs.together.Serving.{ClientIsServed, IsOfVisit, IsVisited, Visit}
+use Rattle.counter_http.specs.together.Tracing.{ServesTogether}
 use Rattle.counter_http.specs.believed.Ends.{HasEnded}
 use Rattle.counter_http.specs.believed.Serving.{AnswersAreWritten, Exits, IsWalked, ServesConnection, ServingIsCutOff}
 use Rattle.counter_http.specs.believed.Turns.{Turn, commands_of, texts_of}

@@ -2,6 +2,7 @@
 use Rattle.std.proofs.Common.{◌≡◌, ℕ, List, [], ◌∷◌, ◌++◌, Result, Ok, Err, refl, sym, ap, subst, ◌∙◌, append-nil}
 use Rattle.std.proofs.Common.{append_assoc, inl, inr}
 use Rattle.std.specs.{List.AllByRecursion}
+use Rattle.std.specs.Prelude.{IfErr}
 use Rattle.posting_rules.specs.declared.fault.Fault.{Fault}
 use Rattle.posting_rules.specs.declared.fault.Fault.TheVariants as fault
 use Rattle.posting_rules.specs.believed.Commands.{Command}
@@ -12,7 +13,7 @@ use Rattle.posting_rules.proofs.Remaining.{leaves_still}
 use Rattle.posting_core.specs.Stream.{IsOfCall}
 use Rattle.posting_core.proofs.StreamedBatches.{all_more}
 use Rattle.counter_http.specs.Connections.{Known}
-use Rattle.counter_http.specs.together.Standing.{IsAnswered, StandsHere}
+use Rattle.counter_http.specs.together.Standing.{IsAnswered, StandsHere, StandsRefused, TellsRefusal}
 use Rattle.counter_http.specs.Turns.{IsAsked, IsRefusedAt}
 use Rattle.counter_http.specs.believed.Answers.{asked_by}
 use Rattle.counter_http.specs.together.Order.{Step, is_read_under, submitted_by}
@@ -154,18 +155,37 @@ owned_by m n (s ∷ ss) e all = (all.0 ∙ e, owned_by m n ss e all.1)
 -- nothing was answered
 pub answered_nothing : {C R W X : Type 0} (seen : C → Seen) {reason : Fault → C → C → Type 0} {known : R × W → Known} {figures : Figures}
     (bank new : C) (old after : Client R W) (result : Result X Fault) → IsAsked seen reason bank new result
-    → after.number ≡ old.number
+    → IfErr result (TellsRefusal seen known bank new old after []) → after.number ≡ old.number
     → ((k : Known) (c : Seen) (steps : List Step) → StandsHere known k c (seen bank) steps old
     → StandsHere known k c (seen new) steps after)
     → IsAnswered seen reason known figures bank new old after result
-answered_nothing seen {known = known} bank new old after result asked number stands = record {
+answered_nothing seen {known = known} bank new old after result asked told number stands = record {
   more = [];
   reads = tt;
   own = tt;
   asked = asked;
+  told = told;
   number = number;
   stands = λ k first steps takes is. subst (λ (ss : List Step). StandsHere known k (seen first) (seen new) ss after)
       (sym (append-nil steps)) (stands k (seen first) steps is);
+}
+
+refused_then : {C R W X Y : Type 0} (seen : C → Seen) {reason : Fault → C → C → Type 0} {known : R × W → Known} {figures : Figures}
+    (bank mid new : C) (one two three : Client R W) {x : X} (result : Result Y Fault)
+    (a : IsAnswered seen reason known figures bank mid one two (Ok x)) (more : List Step)
+    → IfErr result (TellsRefusal seen known mid new two three more)
+    → IfErr result (TellsRefusal seen known bank new one three (a.more ++ more))
+refused_then seen bank mid new one two three (Ok y) a more told = tt
+refused_then seen {known = known} {figures} bank mid new one two three (Err f) a more told = record {
+  step = told.step;
+  own = told.own ∙ a.number;
+  reads = told.reads;
+  told = λ k first steps takes is.
+      subst (λ (ss : List Step). StandsRefused known k (seen first) (seen new) ss f told.step.turn three)
+      (append_assoc steps a.more more)
+      (told.told k first (steps ++ a.more)
+      (takes_reads figures (seen first) (seen bank) (seen mid) steps a.more a.reads a.asked.honest takes a.asked.done)
+      (a.stands k first steps takes is));
 }
 
 pub answered_then : {C R W X Y : Type 0} (seen : C → Seen) {reason : Fault → C → C → Type 0} {known : R × W → Known} {figures : Figures}
@@ -178,6 +198,7 @@ answered_then seen {reason} {known} {figures} bank mid new one two three result 
   own = all_more (λ (s : Step). s.client ≡ one.number) a.more b.more a.own
       (owned_by one.number two.number b.more a.number b.own);
   asked = asked_then seen bank mid new result a.asked b.asked;
+  told = refused_then seen bank mid new one two three result a b.more b.told;
   number = b.number ∙ a.number;
   stands = λ k first steps takes is.
       subst (λ (ss : List Step). StandsHere known k (seen first) (seen new) ss three) (append_assoc steps a.more b.more)
@@ -195,6 +216,7 @@ answered_as y a = record {
   reads = a.reads;
   own = a.own;
   asked = asked_as y a.asked;
+  told = tt;
   number = a.number;
   stands = a.stands;
 }
@@ -208,6 +230,7 @@ answered_err a = record {
   reads = a.reads;
   own = a.own;
   asked = asked_err a.asked;
+  told = a.told;
   number = a.number;
   stands = a.stands;
 }

@@ -1,11 +1,11 @@
 -- Clients that come in, are served and leave.
 use Rattle.std.proofs.Common.{◌≡◌, ℕ, ◌+◌, ◌<◌, List, [], ◌∷◌, ◌++◌, length, map, take, drop, get_or, Option, None, Some, Bool}
 use Rattle.std.proofs.Common.{true, refl, sym, ap, subst, ◌∙◌, append_assoc, append-nil, arith, inl, inr}
-use Rattle.std.specs.Prelude.{◌≢◌, ◌⊎◌, Contains, ⊤}
-use Rattle.std.specs.declared.io.ErrorKind.{ErrorKind}
+use Rattle.std.specs.Prelude.{◌≢◌, ◌⊎◌, ◌==◌, Contains, ⊤}
 use Rattle.std.specs.List.{AllByRecursion}
 use Rattle.std.proofs.KnownBytes.{Appends-nil, Consumes-nil}
 use Rattle.std.proofs.lemmas.List.{drop_more, length-append, map-append, take-append-drop}
+use Rattle.std.proofs.lemmas.Bool.{Decides.eqb_tells, ne_eqb}
 use Rattle.std.proofs.lemmas.List.Elements.{All-contains, All-contains_itself, All-from_recursion, Contains-append_left}
 use Rattle.std.proofs.lemmas.List.Elements.{Contains-append_right, recursion_from_All}
 use Rattle.std.proofs.lemmas.List.Kept.{AllPairs-cons}
@@ -13,18 +13,18 @@ use Rattle.std.proofs.lemmas.Option.{slice_get_read}
 use Rattle.posting_rules.specs.declared.fault.Fault.{Fault}
 use Rattle.posting_rules.specs.believed.Counter.{Seen}
 use Rattle.posting_core.specs.believed.Batches.{joined}
-use Rattle.posting_core.specs.EndCalls.{HasMore}
 use Rattle.posting_core.specs.believed.EndCalls.{GrowsBy}
 use Rattle.posting_core.proofs.StreamedBatches.{all_more}
-use Rattle.posting_core.proofs.Telling.{adds-more, adds-none, more_more, more_none}
-use Rattle.counter_http.specs.Clients.{ClientsCall, Closed, Gave, Gave_up, Refused, given_up_told}
+use Rattle.posting_core.proofs.Telling.{adds-more, adds-none, more_none}
+use Rattle.counter_http.specs.Clients.{ClientsCall, Closed, Gave, Gave_up, Nobody, Refused, Waited, given_up_told, waited_told}
 use Rattle.counter_http.specs.Connections.{Known}
 use Rattle.counter_http.specs.together.Crowd.{AreGivenUp, Closes, Comes, Differ, HasLeft, HaveMoved, IsCrowd, IsHere, Leaves}
-use Rattle.counter_http.specs.together.Crowd.{MayPart, Moves, Scene, Stays, WereRefused, all_numbers}
+use Rattle.counter_http.specs.together.Crowd.{MayPart, Moves, Scene, Stays, WereRefused, all_numbers, calls_by}
 use Rattle.counter_http.specs.together.Order.{Step, of_client}
 use Rattle.counter_http.specs.together.Rounds.{AllDiffer, IsOfOneOf, number_in, numbers}
 use Rattle.counter_http.specs.together.Standing.{AreRefused, IsGoing, IsNew, IsOver, IsParted, IsParting, MayBeLeft, StandsBy, StandsHere, pending, unread}
-use Rattle.counter_http.specs.together.Serving.{HasRefused, IsWhyParted, Visit, closed_of, closings, number_of, openings}
+use Rattle.counter_http.specs.together.Serving.{IsWhyParted, Visit, closed_of, closings, number_of, openings}
+use Rattle.counter_http.specs.together.Tracing.{IsNoWait, here_after, without}
 use Rattle.counter_http.specs.believed.Messages.{No_head}
 use Rattle.counter_http.specs.declared.client.Client.{Client}
 use Rattle.counter_http.specs.declared.parting.Parting.{Parting}
@@ -98,8 +98,10 @@ each_weaker P Q f (x ∷ xs) all = (f x all.0, each_weaker P Q f xs all.1)
 
 -- ---- calls
 
-openings-append : {E : Type 0} (xs ys : List (ClientsCall E)) → openings (xs ++ ys) ≡ openings xs ++ openings ys
+pub openings-append : {E : Type 0} (xs ys : List (ClientsCall E)) → openings (xs ++ ys) ≡ openings xs ++ openings ys
 openings-append [] ys = refl
+openings-append (Waited es ∷ xs) ys = openings-append xs ys
+openings-append (Nobody ∷ xs) ys = openings-append xs ys
 openings-append (Gave n e ∷ xs) ys = ap (λ (t : List (ℕ × _)). (n, e) ∷ t) (openings-append xs ys)
 openings-append (Closed n e ∷ xs) ys = openings-append xs ys
 openings-append (Refused kind ∷ xs) ys = openings-append xs ys
@@ -107,10 +109,43 @@ openings-append (Gave_up n ∷ xs) ys = openings-append xs ys
 
 closings-append : {E : Type 0} (xs ys : List (ClientsCall E)) → closings (xs ++ ys) ≡ closings xs ++ closings ys
 closings-append [] ys = refl
+closings-append (Waited es ∷ xs) ys = closings-append xs ys
+closings-append (Nobody ∷ xs) ys = closings-append xs ys
 closings-append (Gave n e ∷ xs) ys = closings-append xs ys
 closings-append (Closed n e ∷ xs) ys = ap (λ (t : List (ℕ × _)). (n, e) ∷ t) (closings-append xs ys)
 closings-append (Refused kind ∷ xs) ys = closings-append xs ys
 closings-append (Gave_up n ∷ xs) ys = closings-append xs ys
+
+pub here-append : {E : Type 0} (ns : List ℕ) (xs ys : List (ClientsCall E))
+    → here_after ns (xs ++ ys) ≡ here_after (here_after ns xs) ys
+here-append ns [] ys = refl
+here-append ns (Waited es ∷ xs) ys = here-append ns xs ys
+here-append ns (Nobody ∷ xs) ys = here-append ns xs ys
+here-append ns (Gave n e ∷ xs) ys = here-append (ns ++ n ∷ []) xs ys
+here-append ns (Closed n e ∷ xs) ys = here-append (without n ns) xs ys
+here-append ns (Refused kind ∷ xs) ys = here-append ns xs ys
+here-append ns (Gave_up n ∷ xs) ys = here-append ns xs ys
+
+others_left : (n : ℕ) (ns : List ℕ) → AllByRecursion (λ (m : ℕ). n ≢ m) ns → without n ns ≡ ns
+others_left n [] all = refl
+others_left n (m ∷ ms) all =
+    rw (ne_eqb m n (λ (e : m ≡ n). all.0 (sym e))) (ap (λ (xs : List ℕ). m ∷ xs) (others_left n ms all.1))
+
+itself : (n : ℕ) → (n == n) ≡ true
+itself n = elim (eqb_tells n n) [
+  | inl same ↦ same.0
+  | inr other ↦ absurd (other.1 refl)
+]
+
+-- it stood once
+one_left : (n : ℕ) (ms ns : List ℕ) → Differ (ms ++ n ∷ ns) → without n (ms ++ n ∷ ns) ≡ ms ++ ns
+one_left n [] ns d = rw (itself n) (others_left n ns d.0)
+one_left n (m ∷ ms) ns d =
+    rw (ne_eqb m n (all_parts_first ms d.0)) (ap (λ (xs : List ℕ). m ∷ xs) (one_left n ms ns d.1))
+  where
+    all_parts_first : (ys : List ℕ) → AllByRecursion (λ (k : ℕ). m ≢ k) (ys ++ n ∷ ns) → m ≢ n
+    all_parts_first [] all = all.0
+    all_parts_first (y ∷ ys) all = all_parts_first ys all.1
 
 -- ---- those who are here and those who left, as more calls are made
 
@@ -220,16 +255,17 @@ numbers_more visits here here' client n is number =
     ∙ ap (λ (m : ℕ). map number_of visits ++ (numbers here ++ m ∷ [])) number
     ∙ sym (append_assoc (map number_of visits) (numbers here) (n ∷ []))
 
-pub crowd_comes : {R W : Type 0} {stops : Type 0} {given : List ℕ} {known : R × W → Known} {g : Option (List (ClientsCall (R × W)))} {c c' : Seen}
-    {steps : List Step} {fault : Option Fault} {refused : List Step} {a : Scene R W} (b : Scene R W) → IsCrowd stops given known g c c' steps fault refused a → Comes a b
-    → IsCrowd stops given known g c c' steps fault refused b
-crowd_comes {R} {W} {stops} {given} {known} {g} {c} {c'} {steps} {fault} {refused} {a} b crowd m =
+pub crowd_comes : {R W : Type 0} {stops : Type 0} {given : List ℕ} {known : R × W → Known} {g : Option (List (ClientsCall (R × W)))}
+    {made : List (ClientsCall (R × W))} {c c' : Seen} {steps : List Step} {fault : Option Fault} {refused : List Step}
+    {a : Scene R W} (b : Scene R W) → IsCrowd stops given known g made c c' steps fault refused a → (m : Comes a b)
+    → IsCrowd stops given known g (made ++ Gave a.came m.given ∷ []) c c' steps fault refused b
+crowd_comes {R} {W} {stops} {given} {known} {g} {made} {c} {c'} {steps} {fault} {refused} {a} b crowd m =
     let new : ClientsCall (R × W) = Gave a.came m.given in
-    let calls = crowd.calls ++ new ∷ [] in
+    let calls = made ++ new ∷ [] in
     let all = numbers_more crowd.visits a.here b.here m.client a.came m.here m.is.number_is in
     let one : IsHere known c c' steps fault refused calls m.client = record {
       given = m.given;
-      came = Contains-append_right crowd.calls (new ∷ []) (Gave m.client.number m.given)
+      came = Contains-append_right made (new ∷ []) (Gave m.client.number m.given)
           (0, omega arith, ap (λ (n : ℕ). Gave n m.given) (sym m.is.number_is));
       stands = new_here steps a.came m.given m.client m.is
           (not_yet (all_numbers crowd.visits a.here) steps a.came crowd.below
@@ -240,18 +276,20 @@ crowd_comes {R} {W} {stops} {given} {known} {g} {c} {c'} {steps} {fault} {refuse
           (all_last (IsOfOneOf (all_numbers crowd.visits a.here)) steps refused crowd.whose)));
     } in
     record {
-      calls = calls;
-      made = adds-more g a.calls b.calls crowd.calls (new ∷ []) crowd.made m.made;
+      made = adds-more g a.calls b.calls made (new ∷ []) crowd.made m.made;
       visits = crowd.visits;
-      closed = crowd.closed ∙ sym (closings-append crowd.calls (new ∷ []) ∙ append-nil (closings crowd.calls));
-      visited = each_weaker (HasLeft stops known c c' steps fault refused crowd.calls)
+      closed = crowd.closed ∙ sym (closings-append made (new ∷ []) ∙ append-nil (closings made));
+      visited = each_weaker (HasLeft stops known c c' steps fault refused made)
           (HasLeft stops known c c' steps fault refused calls)
-          (visited_told stops known c c' steps fault refused crowd.calls (new ∷ [])) crowd.visits crowd.visited;
-      to_give_up = given_told crowd.calls (new ∷ []) fault given crowd.to_give_up;
+          (visited_told stops known c c' steps fault refused made (new ∷ [])) crowd.visits crowd.visited;
+      to_give_up = given_told made (new ∷ []) fault given crowd.to_give_up;
       are_here = subst (λ (x : List (Client R W)). AllByRecursion (IsHere known c c' steps fault refused calls) x) (sym m.here)
           (all_more (IsHere known c c' steps fault refused calls) a.here (m.client ∷ [])
-          (each_weaker (IsHere known c c' steps fault refused crowd.calls) (IsHere known c c' steps fault refused calls)
-          (here_told crowd.calls (new ∷ [])) a.here crowd.are_here) (one, tt));
+          (each_weaker (IsHere known c c' steps fault refused made) (IsHere known c c' steps fault refused calls)
+          (here_told made (new ∷ [])) a.here crowd.are_here) (one, tt));
+      now = ap numbers m.here ∙ map-append number_in a.here (m.client ∷ [])
+          ∙ ap (λ (n : ℕ). numbers a.here ++ n ∷ []) m.is.number_is ∙ ap (λ (ns : List ℕ). ns ++ a.came ∷ []) crowd.now
+          ∙ sym (here-append [] made (new ∷ []));
       differ = subst Differ (sym all) (differ_more (all_numbers crowd.visits a.here) a.came crowd.below crowd.differ);
       below = subst (λ (n : ℕ). AllByRecursion (λ (x : ℕ). x < n) (all_numbers crowd.visits b.here)) (sym m.came)
           (subst (λ (x : List ℕ). AllByRecursion (λ (y : ℕ). y < a.came + 1) x) (sym all)
@@ -264,8 +302,8 @@ crowd_comes {R} {W} {stops} {given} {known} {g} {c} {c'} {steps} {fault} {refuse
           crowd.whose);
       all = ap length all ∙ length-append (all_numbers crowd.visits a.here) (a.came ∷ [])
           ∙ ap (λ (n : ℕ). n + 1) crowd.all
-          ∙ sym (ap length (openings-append crowd.calls (new ∷ []))
-          ∙ length-append (openings crowd.calls) ((a.came, m.given) ∷ []));
+          ∙ sym (ap length (openings-append made (new ∷ []))
+          ∙ length-append (openings made) ((a.came, m.given) ∷ []));
       many = omega (arith, ap length all, length-append (all_numbers crowd.visits a.here) (a.came ∷ []), crowd.many, m.came);
     }
 
@@ -284,10 +322,10 @@ numbers_split : {R W : Type 0} (visits : List (Visit (R × W))) (before after : 
 numbers_split visits before after client =
     ap (λ (x : List ℕ). map number_of visits ++ x) (map-append number_in before (client ∷ after))
 
-without : {A : Type 0} (P : A → Type 0) (xs ys : List A) (x : A) → AllByRecursion P (xs ++ x ∷ ys)
+all_without : {A : Type 0} (P : A → Type 0) (xs ys : List A) (x : A) → AllByRecursion P (xs ++ x ∷ ys)
     → P x × AllByRecursion P (xs ++ ys)
-without P [] ys x all = all
-without P (z ∷ xs) ys x all = let rest = without P xs ys x all.1 in (rest.0, (all.0, rest.1))
+all_without P [] ys x all = all
+all_without P (z ∷ xs) ys x all = let rest = all_without P xs ys x all.1 in (rest.0, (all.0, rest.1))
 
 moved_long : (xs ys zs : List ℕ) (n : ℕ)
     → length ((xs ++ n ∷ []) ++ (ys ++ zs)) ≡ length (xs ++ (ys ++ n ∷ zs))
@@ -395,18 +433,19 @@ left_why {known = known} {k} {c} {c'} {steps} {s} {stops} calls given fault clie
     parted_left p left is = is.left
 
 -- its place is known
-left_one : {R W : Type 0} {stops : Type 0} {given : List ℕ} {known : R × W → Known} {g t' : Option (List (ClientsCall (R × W)))} {c c' : Seen}
-    {steps : List Step} {fault : Option Fault} {refused : List Step} (t : Option (List (ClientsCall (R × W)))) (came : ℕ) (before after : List (Client R W))
+left_one : {R W : Type 0} {stops : Type 0} {given : List ℕ} {known : R × W → Known} {g t' : Option (List (ClientsCall (R × W)))}
+    {made : List (ClientsCall (R × W))} {c c' : Seen} {steps : List Step} {fault : Option Fault} {refused : List Step} (t : Option (List (ClientsCall (R × W)))) (came : ℕ) (before after : List (Client R W))
     (client : Client R W) {s : Type 0} (cause : Parting) → (s → stops)
-    → IsCrowd stops given known g c c' steps fault refused
+    → IsCrowd stops given known g made c c' steps fault refused
     (record { calls = t; came = came; here = before ++ client ∷ after })
-    → ((IsOver client → ⊥) → MayPart s given client.number cause) → Closes t t' client cause
-    → IsCrowd stops given known g c c' steps fault refused (record { calls = t'; came = came; here = before ++ after })
-left_one {R} {W} {stops} {given} {known} {g} {t'} {c} {c'} {steps} {fault} {refused} t came before after client {s} cause far crowd may closes =
+    → ((IsOver client → ⊥) → MayPart s given client.number cause) → (closes : Closes t t' client cause)
+    → IsCrowd stops given known g (made ++ Closed client.number closes.left ∷ []) c c' steps fault refused
+    (record { calls = t'; came = came; here = before ++ after })
+left_one {R} {W} {stops} {given} {known} {g} {t'} {made} {c} {c'} {steps} {fault} {refused} t came before after client {s} cause far crowd may closes =
     let new : ClientsCall (R × W) = Closed client.number closes.left in
-    let calls = crowd.calls ++ new ∷ [] in
-    let parts = without (IsHere known c c' steps fault refused crowd.calls) before after client crowd.are_here in
-    let one : IsHere known c c' steps fault refused crowd.calls client = parts.0 in
+    let calls = made ++ new ∷ [] in
+    let parts = all_without (IsHere known c c' steps fault refused made) before after client crowd.are_here in
+    let one : IsHere known c c' steps fault refused made client = parts.0 in
     let v : Visit (R × W) = record {
       number = client.number;
       given = one.given;
@@ -419,34 +458,37 @@ left_one {R} {W} {stops} {given} {known} {g} {t'} {c} {c'} {steps} {fault} {refu
     let moved_from = vs ++ (numbers before ++ client.number ∷ numbers after) in
     let moved_to = (vs ++ client.number ∷ []) ++ (numbers before ++ numbers after) in
     record {
-      calls = calls;
-      made = adds-more g t t' crowd.calls (new ∷ []) crowd.made closes.made;
+      made = adds-more g t t' made (new ∷ []) crowd.made closes.made;
       visits = crowd.visits ++ v ∷ [];
       closed = map-append closed_of crowd.visits (v ∷ [])
           ∙ ap (λ (x : List (ℕ × (R × W))). x ++ (client.number, closes.left) ∷ []) crowd.closed
-          ∙ sym (closings-append crowd.calls (new ∷ []));
+          ∙ sym (closings-append made (new ∷ []));
       visited = all_more (HasLeft stops known c c' steps fault refused calls) crowd.visits (v ∷ [])
-          (each_weaker (HasLeft stops known c c' steps fault refused crowd.calls)
+          (each_weaker (HasLeft stops known c c' steps fault refused made)
           (HasLeft stops known c c' steps fault refused calls)
-          (visited_told stops known c c' steps fault refused crowd.calls (new ∷ [])) crowd.visits crowd.visited) (
+          (visited_told stops known c c' steps fault refused made (new ∷ [])) crowd.visits crowd.visited) (
             (
               (
-                Contains-append_left crowd.calls (new ∷ []) _ one.came,
+                Contains-append_left made (new ∷ []) _ one.came,
                 parted_with client cause (closes.left.0, closes.left.1, closes.parting) closes.is
                     (λ early. is_cause s given client.number cause (may early)) one.stands,
               ),
               left_told known c c' steps fault refused client one.given closes.left cause closes.parting closes.is
-                  (cause_where s crowd.calls given client.number cause fault (IsOver client → ⊥) crowd.to_give_up may)
+                  (cause_where s made given client.number cause fault (IsOver client → ⊥) crowd.to_give_up may)
                   one.are_refused,
-              why_told stops crowd.calls (new ∷ []) client.number closes.parting
-                  (left_why crowd.calls given fault client cause (closes.left.0, closes.left.1, closes.parting) closes.is far crowd.to_give_up may
+              why_told stops made (new ∷ []) client.number closes.parting
+                  (left_why made given fault client cause (closes.left.0, closes.left.1, closes.parting) closes.is far crowd.to_give_up may
                   one.stands),
             ),
             tt,
           );
-      to_give_up = given_told crowd.calls (new ∷ []) fault given crowd.to_give_up;
-      are_here = each_weaker (IsHere known c c' steps fault refused crowd.calls) (IsHere known c c' steps fault refused calls)
-          (here_told crowd.calls (new ∷ [])) (before ++ after) parts.1;
+      to_give_up = given_told made (new ∷ []) fault given crowd.to_give_up;
+      are_here = each_weaker (IsHere known c c' steps fault refused made) (IsHere known c c' steps fault refused calls)
+          (here_told made (new ∷ [])) (before ++ after) parts.1;
+      now = map-append number_in before after
+          ∙ sym (one_left client.number (numbers before) (numbers after) (last_differ vs _ (subst Differ numbers_then crowd.differ)))
+          ∙ ap (without client.number) (sym (map-append number_in before (client ∷ after)) ∙ crowd.now)
+          ∙ sym (here-append [] made (new ∷ []));
       differ = subst Differ (sym numbers_now) (differ_moved vs (numbers before) (numbers after) client.number
           (subst Differ numbers_then crowd.differ));
       below = subst (λ (x : List ℕ). AllByRecursion (λ (y : ℕ). y < came) x) (sym numbers_now)
@@ -459,7 +501,7 @@ left_one {R} {W} {stops} {given} {known} {g} {t'} {c} {c'} {steps} {fault} {refu
           (subst (λ (ns : List ℕ). AllByRecursion (IsOfOneOf ns) (steps ++ refused)) numbers_then crowd.whose));
       all = ap length numbers_now ∙ moved_long vs (numbers before) (numbers after) client.number
           ∙ sym (ap length numbers_then) ∙ crowd.all
-          ∙ sym (ap length (openings-append crowd.calls (new ∷ []) ∙ append-nil (openings crowd.calls)));
+          ∙ sym (ap length (openings-append made (new ∷ []) ∙ append-nil (openings made)));
       many = omega (
         arith,
         ap length numbers_now,
@@ -469,65 +511,71 @@ left_one {R} {W} {stops} {given} {known} {g} {t'} {c} {c'} {steps} {fault} {refu
       );
     }
 
-pub crowd_leaves : {R W : Type 0} {stops : Type 0} {given : List ℕ} {known : R × W → Known} {g : Option (List (ClientsCall (R × W)))} {c c' : Seen}
-    {steps : List Step} {fault : Option Fault} {refused : List Step} {s : Type 0} {a : Scene R W} (b : Scene R W) → (s → stops)
-    → IsCrowd stops given known g c c' steps fault refused a → Leaves s given a b
-    → IsCrowd stops given known g c c' steps fault refused b
-crowd_leaves {R} {W} {stops} {given} {known} {g} {c} {c'} {steps} {fault} {refused} {s} {a} b far crowd m =
-    subst (λ (x : List (Client R W)). IsCrowd stops given known g c c' steps fault refused
+pub crowd_leaves : {R W : Type 0} {stops : Type 0} {given : List ℕ} {known : R × W → Known} {g : Option (List (ClientsCall (R × W)))}
+    {made : List (ClientsCall (R × W))} {c c' : Seen} {steps : List Step} {fault : Option Fault} {refused : List Step} {s : Type 0}
+    {a : Scene R W} (b : Scene R W) → (s → stops) → IsCrowd stops given known g made c c' steps fault refused a
+    → (m : Leaves s given a b)
+    → IsCrowd stops given known g (made ++ Closed m.client.number m.closes.left ∷ []) c c' steps fault refused b
+crowd_leaves {R} {W} {stops} {given} {known} {g} {made} {c} {c'} {steps} {fault} {refused} {s} {a} b far crowd m =
+    let calls = made ++ Closed m.client.number m.closes.left ∷ [] in
+    subst (λ (x : List (Client R W)). IsCrowd stops given known g calls c c' steps fault refused
     (record { calls = b.calls; came = b.came; here = x }))
     (sym m.here)
-    (subst (λ (n : ℕ). IsCrowd stops given known g c c' steps fault refused
+    (subst (λ (n : ℕ). IsCrowd stops given known g calls c c' steps fault refused
     (record { calls = b.calls; came = n; here = m.before ++ m.after }))
     (sym m.came)
     (left_one a.calls a.came m.before m.after m.client m.cause far
-    (subst (λ (x : List (Client R W)). IsCrowd stops given known g c c' steps fault refused
+    (subst (λ (x : List (Client R W)). IsCrowd stops given known g made c c' steps fault refused
     (record { calls = a.calls; came = a.came; here = x }))
     m.was crowd) m.why m.closes))
 
 -- ---- nobody comes or leaves
 
-waited : {R W : Type 0} {stops : Type 0} {given : List ℕ} {known : R × W → Known} {g t' : Option (List (ClientsCall (R × W)))} {c c' : Seen}
-    {steps : List Step} {fault : Option Fault} {refused : List Step} (t : Option (List (ClientsCall (R × W)))) (came : ℕ) (here : List (Client R W))
-    (more : List (ClientsCall (R × W))) (given' : List ℕ)
-    (crowd : IsCrowd stops given known g c c' steps fault refused (record { calls = t; came = came; here = here }))
-    → AreGivenUp fault (crowd.calls ++ more) given' → GrowsBy t t' more → openings more ≡ [] → closings more ≡ []
-    → IsCrowd stops given' known g c c' steps fault refused (record { calls = t'; came = came; here = here })
-waited {R} {W} {stops} {given} {known} {g} {t'} {c} {c'} {steps} {fault}
-    {refused} t came here more given' crowd to_give_up made none_came none_left =
-    let calls = crowd.calls ++ more in
+waited : {R W : Type 0} {stops : Type 0} {given : List ℕ} {known : R × W → Known} {g t' : Option (List (ClientsCall (R × W)))}
+    {made : List (ClientsCall (R × W))} {c c' : Seen} {steps : List Step} {fault : Option Fault} {refused : List Step}
+    (t : Option (List (ClientsCall (R × W)))) (came : ℕ) (here : List (Client R W)) (more : List (ClientsCall (R × W)))
+    (given' : List ℕ)
+    → IsCrowd stops given known g made c c' steps fault refused (record { calls = t; came = came; here = here })
+    → AreGivenUp fault (made ++ more) given' → GrowsBy t t' more → openings more ≡ [] → closings more ≡ []
+    → ((ns : List ℕ) → here_after ns more ≡ ns)
+    → IsCrowd stops given' known g (made ++ more) c c' steps fault refused
+    (record { calls = t'; came = came; here = here })
+waited {R} {W} {stops} {given} {known} {g} {t'} {made} {c} {c'} {steps} {fault}
+    {refused} t came here more given' crowd to_give_up grown none_came none_left same =
+    let calls = made ++ more in
     record {
-      calls = calls;
-      made = adds-more g t t' crowd.calls more crowd.made made;
+      made = adds-more g t t' made more crowd.made grown;
       visits = crowd.visits;
-      closed = crowd.closed ∙ sym (closings-append crowd.calls more
-          ∙ ap (λ (x : List (ℕ × (R × W))). closings crowd.calls ++ x) none_left ∙ append-nil (closings crowd.calls));
-      visited = each_weaker (HasLeft stops known c c' steps fault refused crowd.calls)
+      closed = crowd.closed ∙ sym (closings-append made more
+          ∙ ap (λ (x : List (ℕ × (R × W))). closings made ++ x) none_left ∙ append-nil (closings made));
+      visited = each_weaker (HasLeft stops known c c' steps fault refused made)
           (HasLeft stops known c c' steps fault refused calls)
-          (visited_told stops known c c' steps fault refused crowd.calls more) crowd.visits crowd.visited;
+          (visited_told stops known c c' steps fault refused made more) crowd.visits crowd.visited;
       to_give_up = to_give_up;
-      are_here = each_weaker (IsHere known c c' steps fault refused crowd.calls) (IsHere known c c' steps fault refused calls)
-          (here_told crowd.calls more) here crowd.are_here;
+      are_here = each_weaker (IsHere known c c' steps fault refused made) (IsHere known c c' steps fault refused calls)
+          (here_told made more) here crowd.are_here;
+      now = crowd.now ∙ sym (here-append [] made more ∙ same (here_after [] made));
       differ = crowd.differ;
       below = crowd.below;
       whose = crowd.whose;
-      all = crowd.all ∙ sym (ap length (openings-append crowd.calls more
-          ∙ ap (λ (x : List (ℕ × (R × W))). openings crowd.calls ++ x) none_came ∙ append-nil (openings crowd.calls)));
+      all = crowd.all ∙ sym (ap length (openings-append made more
+          ∙ ap (λ (x : List (ℕ × (R × W))). openings made ++ x) none_came ∙ append-nil (openings made)));
       many = crowd.many;
     }
 
-pub crowd_stays : {R W : Type 0} {stops : Type 0} {given : List ℕ} {known : R × W → Known} {g : Option (List (ClientsCall (R × W)))} {c c' : Seen}
-    {steps : List Step} {fault : Option Fault} {refused : List Step} {a : Scene R W} (b : Scene R W) → IsCrowd stops given known g c c' steps fault refused a → Stays a b
-    → IsCrowd stops given known g c c' steps fault refused b
-crowd_stays {R} {W} {stops} {given} {known} {g} {c} {c'} {steps} {fault} {refused} {a} b crowd m =
-    subst (λ (x : List (Client R W)). IsCrowd stops given known g c c' steps fault refused
+pub crowd_stays : {R W : Type 0} {stops : Type 0} {given : List ℕ} {known : R × W → Known} {g : Option (List (ClientsCall (R × W)))}
+    {made : List (ClientsCall (R × W))} {c c' : Seen} {steps : List Step} {fault : Option Fault} {refused : List Step}
+    {a : Scene R W} (b : Scene R W) → IsCrowd stops given known g made c c' steps fault refused a → (m : Stays a b)
+    → IsCrowd stops given known g (made ++ m.calls) c c' steps fault refused b
+crowd_stays {R} {W} {stops} {given} {known} {g} {made} {c} {c'} {steps} {fault} {refused} {a} b crowd m =
+    subst (λ (x : List (Client R W)). IsCrowd stops given known g (made ++ m.calls) c c' steps fault refused
     (record { calls = b.calls; came = b.came; here = x }))
     (sym m.here)
-    (subst (λ (n : ℕ). IsCrowd stops given known g c c' steps fault refused
+    (subst (λ (n : ℕ). IsCrowd stops given known g (made ++ m.calls) c c' steps fault refused
     (record { calls = b.calls; came = n; here = a.here })) (sym m.came)
     (waited a.calls a.came a.here m.calls given crowd
-    (given_told crowd.calls m.calls fault given crowd.to_give_up) m.made
-    m.none_came m.none_left))
+    (given_told made m.calls fault given crowd.to_give_up) m.made
+    m.none_came m.none_left m.same))
 
 none_opened : {E : Type 0} (ns : List ℕ) → openings {E = E} (given_up_told ns) ≡ []
 none_opened [] = refl
@@ -536,6 +584,14 @@ none_opened (n ∷ ns) = none_opened ns
 none_closed : {E : Type 0} (ns : List ℕ) → closings {E = E} (given_up_told ns) ≡ []
 none_closed [] = refl
 none_closed (n ∷ ns) = none_closed ns
+
+none_moved : (E : Type 0) (ns ms : List ℕ) → here_after {E = E} ms (given_up_told ns) ≡ ms
+none_moved E [] ms = refl
+none_moved E (n ∷ ns) ms = none_moved E ns ms
+
+pub given_no_wait : (E : Type 0) (ns : List ℕ) → AllByRecursion (IsNoWait {E = E}) (given_up_told ns)
+given_no_wait E [] = tt
+given_no_wait E (n ∷ ns) = (tt, given_no_wait E ns)
 
 all_said : {E : Type 0} (calls : List (ClientsCall E)) (ns : List ℕ)
     → AllByRecursion (λ (n : ℕ). Contains (calls ++ given_up_told ns) (Gave_up n)) ns
@@ -548,12 +604,16 @@ all_said {E} calls (n ∷ ns) = (
 
 -- a wait says whom to give up
 pub crowd_waits : {R W : Type 0} {stops : Type 0} {known : R × W → Known} {g t t' : Option (List (ClientsCall (R × W)))}
-    {c c' : Seen} {steps : List Step} {came : ℕ} {here : List (Client R W)} (ns : List ℕ)
-    → GrowsBy t t' (given_up_told ns)
-    → IsCrowd stops [] known g c c' steps None [] (record { calls = t; came = came; here = here })
-    → IsCrowd stops ns known g c c' steps None [] (record { calls = t'; came = came; here = here })
-crowd_waits {t = t} {came = came} {here = here} ns made crowd =
-    waited t came here (given_up_told ns) ns crowd (all_said crowd.calls ns) made (none_opened ns) (none_closed ns)
+    {calls : List (ClientsCall (R × W))} {c c' : Seen} {steps : List Step} {came : ℕ} {here : List (Client R W)}
+    (ends : List (ℕ × (R × W))) (ns : List ℕ) → GrowsBy t t' (waited_told ends ns)
+    → IsCrowd stops [] known g calls c c' steps None [] (record { calls = t; came = came; here = here })
+    → IsCrowd stops ns known g (calls ++ waited_told ends ns) c c' steps None []
+    (record { calls = t'; came = came; here = here })
+crowd_waits {R} {W} {t = t} {calls = calls} {came = came} {here = here} ends ns made crowd =
+    waited t came here (waited_told ends ns) ns crowd
+    (subst (λ (x : List (ClientsCall (R × W))). AllByRecursion (λ (m : ℕ). Contains x (Gave_up m)) ns)
+    (append_assoc calls (Waited ends ∷ []) (given_up_told ns)) (all_said (calls ++ Waited ends ∷ []) ns))
+    made (none_opened ns) (none_closed ns) (none_moved (R × W) ns)
 
 pub none_given : {E : Type 0} (fault : Option Fault) (calls : List (ClientsCall E)) → AreGivenUp fault calls []
 none_given None calls = tt
@@ -561,17 +621,17 @@ none_given (Some why) calls = refl
 
 -- nobody is to be given up any more
 pub crowd_on : {R W : Type 0} {stops : Type 0} {given : List ℕ} {known : R × W → Known}
-    {g : Option (List (ClientsCall (R × W)))} {c c' : Seen} {steps : List Step} {fault : Option Fault} {refused : List Step}
-    {a : Scene R W} → IsCrowd stops given known g c c' steps fault refused a
-    → IsCrowd stops [] known g c c' steps fault refused a
-crowd_on {fault = fault} crowd = record {
-  calls = crowd.calls;
+    {g : Option (List (ClientsCall (R × W)))} {calls : List (ClientsCall (R × W))} {c c' : Seen} {steps : List Step}
+    {fault : Option Fault} {refused : List Step} {a : Scene R W} → IsCrowd stops given known g calls c c' steps fault refused a
+    → IsCrowd stops [] known g calls c c' steps fault refused a
+crowd_on {calls = calls} {fault = fault} crowd = record {
   made = crowd.made;
   visits = crowd.visits;
   closed = crowd.closed;
   visited = crowd.visited;
-  to_give_up = none_given fault crowd.calls;
+  to_give_up = none_given fault calls;
   are_here = crowd.are_here;
+  now = crowd.now;
   differ = crowd.differ;
   below = crowd.below;
   whose = crowd.whose;
@@ -591,19 +651,19 @@ why_stopped calls n parting.Memory far is = tt
 why_stopped calls n (parting.Bank fault) far is = tt
 
 pub crowd_stops : {R W : Type 0} {s stops : Type 0} {given : List ℕ} {known : R × W → Known}
-    {g : Option (List (ClientsCall (R × W)))} {c c' : Seen} {steps : List Step} {fault : Option Fault} {refused : List Step}
-    {a : Scene R W} → (s → stops) → IsCrowd s given known g c c' steps fault refused a
-    → IsCrowd stops given known g c c' steps fault refused a
-crowd_stops {s = s} {stops} {known = known} {c = c} {c'} {steps} {fault} {refused} far crowd = record {
-  calls = crowd.calls;
+    {g : Option (List (ClientsCall (R × W)))} {calls : List (ClientsCall (R × W))} {c c' : Seen} {steps : List Step}
+    {fault : Option Fault} {refused : List Step} {a : Scene R W} → (s → stops)
+    → IsCrowd s given known g calls c c' steps fault refused a → IsCrowd stops given known g calls c c' steps fault refused a
+crowd_stops {s = s} {stops} {known = known} {calls = calls} {c = c} {c'} {steps} {fault} {refused} far crowd = record {
   made = crowd.made;
   visits = crowd.visits;
   closed = crowd.closed;
-  visited = each_weaker (HasLeft s known c c' steps fault refused crowd.calls)
-      (HasLeft stops known c c' steps fault refused crowd.calls)
-      (λ v is. (is.0, is.1, why_stopped crowd.calls v.number v.parting far is.2)) crowd.visits crowd.visited;
+  visited = each_weaker (HasLeft s known c c' steps fault refused calls)
+      (HasLeft stops known c c' steps fault refused calls)
+      (λ v is. (is.0, is.1, why_stopped calls v.number v.parting far is.2)) crowd.visits crowd.visited;
   to_give_up = crowd.to_give_up;
   are_here = crowd.are_here;
+  now = crowd.now;
   differ = crowd.differ;
   below = crowd.below;
   whose = crowd.whose;
@@ -613,45 +673,89 @@ crowd_stops {s = s} {stops} {known = known} {c = c} {c'} {steps} {fault} {refuse
 
 -- ---- one after another
 
-crowd_by : {R W : Type 0} {stops : Type 0} {given : List ℕ} {known : R × W → Known} {g : Option (List (ClientsCall (R × W)))} {c c' : Seen}
-    {steps : List Step} {fault : Option Fault} {refused : List Step} {s : Type 0} (far : s → stops) (ms : List (Scene R W)) (a b : Scene R W)
-    → Moves s given ms a b → IsCrowd stops given known g c c' steps fault refused a
-    → IsCrowd stops given known g c c' steps fault refused b
-crowd_by {stops = stops} {given} {known} {g} {c} {c'} {steps} {fault} {refused} far [] a b same crowd =
-    subst (λ (x : Scene _ _). IsCrowd stops given known g c c' steps fault refused x) (sym same) crowd
-crowd_by far (m ∷ ms) a b moves crowd =
-    crowd_by far ms m b moves.1 (elim moves.0 [
-      | inl came ↦ crowd_comes m crowd came
-      | inr other ↦ elim other [
-        | inl left ↦ crowd_leaves m far crowd left
-        | inr same ↦ crowd_stays m crowd same
-      ]
-    ])
+crowd_by : {R W : Type 0} {stops : Type 0} {given : List ℕ} {known : R × W → Known} {g : Option (List (ClientsCall (R × W)))}
+    {made : List (ClientsCall (R × W))} {c c' : Seen} {steps : List Step} {fault : Option Fault} {refused : List Step} {s : Type 0}
+    (far : s → stops) (ms : List (Scene R W)) (calls : List (ClientsCall (R × W))) (a b : Scene R W) → Moves s given ms calls a b
+    → IsCrowd stops given known g made c c' steps fault refused a
+    → IsCrowd stops given known g (made ++ calls) c c' steps fault refused b
+crowd_by {R} {W} {stops} {given} {known} {g} {made} {c} {c'} {steps} {fault} {refused} far [] calls a b same crowd =
+    subst (λ (x : List (ClientsCall (R × W))). IsCrowd stops given known g x c c' steps fault refused b)
+    (sym (ap (λ (x : List (ClientsCall (R × W))). made ++ x) same.1 ∙ append-nil made))
+    (subst (λ (x : Scene R W). IsCrowd stops given known g made c c' steps fault refused x) (sym same.0) crowd)
+crowd_by {R} {W} {stops} {given} {known} {g} {made} {c} {c'} {steps} {fault} {refused} {s} far (m ∷ ms) calls a b
+    (one, rest, are, moves) crowd =
+    subst (λ (x : List (ClientsCall (R × W))). IsCrowd stops given known g x c c' steps fault refused b)
+    (append_assoc made (calls_by one) rest ∙ ap (λ (x : List (ClientsCall (R × W))). made ++ x) (sym are))
+    (crowd_by far ms rest m b moves (one_moved one))
+  where
+    one_moved : (one : Comes a m ⊎ (Leaves s given a m ⊎ Stays a m))
+        → IsCrowd stops given known g (made ++ calls_by one) c c' steps fault refused m
+    one_moved (inl came) = crowd_comes m crowd came
+    one_moved (inr (inl left)) = crowd_leaves m far crowd left
+    one_moved (inr (inr same)) = crowd_stays m crowd same
 
-pub crowd_moved : {R W : Type 0} {stops : Type 0} {given : List ℕ} {known : R × W → Known} {g : Option (List (ClientsCall (R × W)))} {c c' : Seen}
-    {steps : List Step} {fault : Option Fault} {refused : List Step} {s : Type 0} {a b : Scene R W} → (s → stops) → HaveMoved s given a b
-    → IsCrowd stops given known g c c' steps fault refused a → IsCrowd stops given known g c c' steps fault refused b
-crowd_moved {a = a} {b} far moved crowd = crowd_by far moved.scenes a b moved.moves crowd
+pub crowd_moved : {R W : Type 0} {stops : Type 0} {given : List ℕ} {known : R × W → Known} {g : Option (List (ClientsCall (R × W)))}
+    {made : List (ClientsCall (R × W))} {c c' : Seen} {steps : List Step} {fault : Option Fault} {refused : List Step} {s : Type 0}
+    {a b : Scene R W} → (s → stops) → (moved : HaveMoved s given a b)
+    → IsCrowd stops given known g made c c' steps fault refused a
+    → IsCrowd stops given known g (made ++ moved.calls) c c' steps fault refused b
+crowd_moved {a = a} {b} far moved crowd = crowd_by far moved.scenes moved.calls a b moved.moves crowd
 
-moves_then : {R W : Type 0} (s : Type 0) (given : List ℕ) (ms ns : List (Scene R W)) (a b d : Scene R W)
-    → Moves s given ms a b → Moves s given ns b d → Moves s given (ms ++ ns) a d
-moves_then s given [] ns a b d same moves = subst (λ (x : Scene _ _). Moves s given ns x d) same moves
-moves_then s given (m ∷ ms) ns a b d one two = (one.0, moves_then s given ms ns m b d one.1 two)
+-- nobody was waited for meanwhile
+moved_no_wait : {R W : Type 0} (s : Type 0) (given : List ℕ) (ms : List (Scene R W)) (calls : List (ClientsCall (R × W)))
+    (a b : Scene R W) → Moves s given ms calls a b → AllByRecursion IsNoWait calls
+moved_no_wait {R} {W} s given [] calls a b same =
+    subst (λ (x : List (ClientsCall (R × W))). AllByRecursion IsNoWait x) (sym same.1) tt
+moved_no_wait {R} {W} s given (m ∷ ms) calls a b (one, rest, are, moves) =
+    subst (λ (x : List (ClientsCall (R × W))). AllByRecursion IsNoWait x) (sym are)
+    (all_more IsNoWait (calls_by one) rest (one_no_wait one) (moved_no_wait s given ms rest m b moves))
+  where
+    one_no_wait : (one : Comes a m ⊎ (Leaves s given a m ⊎ Stays a m)) → AllByRecursion IsNoWait (calls_by one)
+    one_no_wait (inl came) = (tt, tt)
+    one_no_wait (inr (inl left)) = (tt, tt)
+    one_no_wait (inr (inr same)) = same.none_waited
 
-pub moved_then : {R W : Type 0} {s : Type 0} {given : List ℕ} {a b d : Scene R W} → HaveMoved s given a b
+pub none_waited : {R W : Type 0} {s : Type 0} {given : List ℕ} {a b : Scene R W} (moved : HaveMoved s given a b)
+    → AllByRecursion IsNoWait moved.calls
+none_waited {s = s} {given} {a} {b} moved = moved_no_wait s given moved.scenes moved.calls a b moved.moves
+
+pub moves_then : {R W : Type 0} (s : Type 0) (given : List ℕ) (ms ns : List (Scene R W)) (xs ys : List (ClientsCall (R × W)))
+    (a b d : Scene R W) → Moves s given ms xs a b → Moves s given ns ys b d → Moves s given (ms ++ ns) (xs ++ ys) a d
+moves_then {R} {W} s given [] ns xs ys a b d same moves =
+    subst (λ (x : Scene R W). Moves s given ns (xs ++ ys) x d) same.0
+    (subst (λ (x : List (ClientsCall (R × W))). Moves s given ns (x ++ ys) b d) (sym same.1) moves)
+moves_then {R} {W} s given (m ∷ ms) ns xs ys a b d (one, rest, are, moves) two = (
+  one,
+  rest ++ ys,
+  ap (λ (x : List (ClientsCall (R × W))). x ++ ys) are ∙ append_assoc (calls_by one) rest ys,
+  moves_then s given ms ns rest ys m b d moves two,
+)
+
+unfoldable pub moved_then : {R W : Type 0} {s : Type 0} {given : List ℕ} {a b d : Scene R W} → HaveMoved s given a b
     → HaveMoved s given b d → HaveMoved s given a d
-moved_then {s = s} {given} {a} {b} {d} one two =
-    record { scenes = one.scenes ++ two.scenes; moves = moves_then s given one.scenes two.scenes a b d one.moves two.moves }
+moved_then {s = s} {given} {a} {b} {d} one two = record {
+  scenes = one.scenes ++ two.scenes;
+  calls = one.calls ++ two.calls;
+  moves = moves_then s given one.scenes two.scenes one.calls two.calls a b d one.moves two.moves;
+}
+
+one_move : {R W : Type 0} {s : Type 0} {given : List ℕ} {a : Scene R W} (b : Scene R W)
+    → Comes a b ⊎ (Leaves s given a b ⊎ Stays a b) → HaveMoved s given a b
+one_move b one = record {
+  scenes = b ∷ [];
+  calls = calls_by one;
+  moves = (one, [], sym (append-nil (calls_by one)), (refl, refl));
+}
 
 pub one_comes : {R W : Type 0} {s : Type 0} {given : List ℕ} {a b : Scene R W} → Comes a b → HaveMoved s given a b
-one_comes {b = b} came = record { scenes = b ∷ []; moves = (inl came, refl) }
+one_comes {b = b} came = one_move b (inl came)
 
 pub one_leaves : {R W : Type 0} {s : Type 0} {given : List ℕ} {a b : Scene R W} → Leaves s given a b
     → HaveMoved s given a b
-one_leaves {b = b} left = record { scenes = b ∷ []; moves = (inr (inl left), refl) }
+one_leaves {b = b} left = one_move b (inr (inl left))
 
 pub all_stay : {R W : Type 0} {s : Type 0} {given : List ℕ} {a b : Scene R W} → Stays a b → HaveMoved s given a b
-all_stay {b = b} same = record { scenes = b ∷ []; moves = (inr (inr same), refl) }
+all_stay {b = b} same = one_move b (inr (inr same))
 
 -- ---- the moves of the loops
 
@@ -736,58 +840,38 @@ turned_away {R} {W} {s} {given} {t} {t'} {t''} came came' here here' ends client
     (subst (λ (x : Client R W). Closes t' t'' x parting.Memory) same closes) came')
 
 -- nobody came
-pub nobody_came_in : {R W : Type 0} {s : Type 0} {given : List ℕ} {t t' : Option (List (ClientsCall (R × W)))} (came : ℕ) (here : List (Client R W))
-    (calls : List (ClientsCall (R × W))) → openings calls ≡ [] → closings calls ≡ [] → GrowsBy t t' calls
+unfoldable pub nobody_came_in : {R W : Type 0} {s : Type 0} {given : List ℕ} {t t' : Option (List (ClientsCall (R × W)))} (came : ℕ)
+    (here : List (Client R W)) (calls : List (ClientsCall (R × W))) → openings calls ≡ [] → closings calls ≡ []
+    → AllByRecursion IsNoWait calls → ((ns : List ℕ) → here_after ns calls ≡ ns) → GrowsBy t t' calls
     → HaveMoved s given (record { calls = t; came = came; here = here })
     (record { calls = t'; came = came; here = here })
-nobody_came_in came here calls none_came none_left made = all_stay (record {
+nobody_came_in {R} {W} {t' = t'} came here calls none_came none_left waits same made = record {
+  scenes = record { calls = t'; came = came; here = here } ∷ [];
   calls = calls;
-  made = made;
-  none_came = none_came;
-  none_left = none_left;
-  here = refl;
-  came = refl;
-})
-
--- ---- the calls that were made on the way
-
-one_grows : {R W : Type 0} {s : Type 0} {given : List ℕ} (a m : Scene R W)
-    → Comes a m ⊎ (Leaves s given a m ⊎ Stays a m) → HasMore a.calls m.calls
-one_grows a m (inl comes) = record { calls = Gave a.came comes.given ∷ []; made = comes.made }
-one_grows a m (inr (inl leaves)) =
-    record { calls = Closed leaves.client.number leaves.closes.left ∷ []; made = leaves.closes.made }
-one_grows a m (inr (inr stays)) = record { calls = stays.calls; made = stays.made }
-
-all_grow : {R W : Type 0} (s : Type 0) (given : List ℕ) (ms : List (Scene R W)) (a b : Scene R W)
-    → Moves s given ms a b → HasMore a.calls b.calls
-all_grow s given [] a b same = subst (λ (x : Scene _ _). HasMore a.calls x.calls) (sym same) (more_none a.calls)
-all_grow s given (m ∷ ms) a b moves = more_more (one_grows a m moves.0) (all_grow s given ms m b moves.1)
-
-pub moved_grows : {R W : Type 0} {s : Type 0} {given : List ℕ} (a b : Scene R W) → HaveMoved s given a b
-    → HasMore a.calls b.calls
-moved_grows {s = s} {given} a b moved = all_grow s given moved.scenes a b moved.moves
-
-pub one_refused : {E : Type 0} (a b : Option (List (ClientsCall E))) (kind : ErrorKind)
-    → GrowsBy a b (Refused kind ∷ []) → HasRefused a b
-one_refused a b kind made = record {
-  calls = Refused kind ∷ [];
-  made = made;
-  kind = kind;
-  one = (0, omega arith, refl);
+  moves = (
+    inr (inr (record {
+      calls = calls;
+      made = made;
+      none_came = none_came;
+      none_left = none_left;
+      none_waited = waits;
+      same = same;
+      here = refl;
+      came = refl;
+    })),
+    [],
+    sym (append-nil calls),
+    (refl, refl),
+  );
 }
 
-pub refused_last : {E : Type 0} (a b d : Option (List (ClientsCall E))) → HasMore a b → HasRefused b d → HasRefused a d
-refused_last a b d grown refused = record {
-  calls = grown.calls ++ refused.calls;
-  made = adds-more a b d grown.calls refused.calls grown.made refused.made;
-  kind = refused.kind;
-  one = Contains-append_right grown.calls refused.calls (Refused refused.kind) refused.one;
-}
-
-pub refused_first : {E : Type 0} (a b d : Option (List (ClientsCall E))) → HasRefused a b → HasMore b d → HasRefused a d
-refused_first a b d refused grown = record {
-  calls = refused.calls ++ grown.calls;
-  made = adds-more a b d refused.calls grown.calls refused.made grown.made;
-  kind = refused.kind;
-  one = Contains-append_left refused.calls grown.calls (Refused refused.kind) refused.one;
-}
+-- and that was said last
+pub said_last : {R W : Type 0} {s : Type 0} {given : List ℕ} {a : Scene R W} (t t' : Option (List (ClientsCall (R × W))))
+    (came : ℕ) (here : List (Client R W)) (call : ClientsCall (R × W))
+    (one : HaveMoved s given a (record { calls = t; came = came; here = here }))
+    (none : openings (call ∷ []) ≡ []) (left : closings (call ∷ []) ≡ []) (waits : AllByRecursion IsNoWait (call ∷ []))
+    (same : (ns : List ℕ) → here_after ns (call ∷ []) ≡ ns) (made : GrowsBy t t' (call ∷ []))
+    → Contains (moved_then one (nobody_came_in {t = t} {t' = t'} came here (call ∷ []) none left waits same made)).calls call
+unfolding moved_then nobody_came_in
+said_last t t' came here call one none left waits same made =
+    Contains-append_right one.calls (call ∷ []) call (0, omega arith, refl)

@@ -1,8 +1,8 @@
 -- The records of a batch, and messages that are answered while they are gathered.
 use Rattle.std.proofs.Common.{◌≡◌, ℕ, zero, suc, ◌+◌, ◌<◌, ◌≤◌, List, [], ◌∷◌, ◌++◌, length, drop, get_or, slice_set}
-use Rattle.std.proofs.Common.{Some, Result, Ok, Err, refl, sym, ap, subst, ◌∙◌, arith, inl, inr, add-one}
+use Rattle.std.proofs.Common.{Some, Result, Ok, Err, refl, sym, ap, subst, ◌∙◌, append_assoc, arith, inl, inr, add-one}
 use Rattle.std.proofs.{Math.Seq.drop-cons, lemmas.Option.slice_get_within}
-use Rattle.std.specs.{Prelude.◌⊎◌, List.AllByRecursion, List.slice_get}
+use Rattle.std.specs.{Prelude.◌⊎◌, Prelude.Contains, List.AllByRecursion, List.slice_get}
 use Rattle.posting_rules.specs.declared.fault.Fault.{Fault}
 use Rattle.posting_rules.specs.believed.{Commands.Command, Counter.Seen, Counter.Takes}
 use Rattle.posting_rules.proofs.Totals.{all_follow}
@@ -10,16 +10,19 @@ use Rattle.posting_core.proofs.StreamedBatches.{all_more}
 use Rattle.counter_http.specs.Connections.{Known}
 use Rattle.counter_http.specs.together.Order.{Step, is_read_under, submitted_by}
 use Rattle.counter_http.specs.declared.figures.Figures.{Figures}
-use Rattle.counter_http.specs.together.Rounds.{AllDiffer, numbers}
-use Rattle.counter_http.specs.together.Standing.{GivesRecord, IsAnswered}
-use Rattle.counter_http.specs.together.Submitting.{AddsIfRoom, AreApart, AreGiven, Gathers, GivesAt, IsAdded, IsBatchOf, IsElsewhere, IsFrom}
+use Rattle.counter_http.specs.together.Rounds.{AllDiffer, IsOfOneOf, fault_in, numbers}
+use Rattle.counter_http.specs.together.Standing.{AreRefused, GivesRecord, IsAnswered, StandsHere, StandsRefused}
+use Rattle.counter_http.specs.together.Submitting.{AddsIfRoom, AreApart, AreBeside, AreGiven, Gathers, GivesAt, IsAdded, IsBatchOf, IsElsewhere, IsFrom}
 use Rattle.counter_http.specs.together.Submitting.{MayAdd}
 use Rattle.counter_http.specs.declared.batch.Batch.{Batch}
 use Rattle.counter_http.specs.declared.batch.Sender.{Sender}
 use Rattle.counter_http.specs.declared.client.Client.{Client}
 use Rattle.counter_http.specs.declared.client.Record.{Record}
+use Rattle.counter_http.proofs.AnsweredTurns.{idle_commands}
 use Rattle.counter_http.proofs.Asked.{asked_as, asked_err, asked_none, asked_then, reads_submit_none}
-use Rattle.counter_http.proofs.Placed.{at_other, at_same, beside_none, beside_one, beside_then}
+use Rattle.counter_http.specs.believed.Answers.{asked_by}
+use Rattle.counter_http.proofs.Placed.{at_other, at_same, beside_none, beside_one, beside_then, found_too, numbers_apart}
+use Rattle.counter_http.proofs.Placed.{one_of_these, same_or_not, some_is, takes_then}
 
 -- ---- records that are given
 
@@ -183,6 +186,11 @@ gathers_nothing seen bank here batch gives = record {
   reads = [];
   are_reads = tt;
   asked = asked_none seen bank tt;
+  refused = [];
+  some = tt;
+  whose_refused = tt;
+  none_posted = refl;
+  are_told = λ p y y' at at' k first before takes is. tt;
   beside = beside_none seen bank bank here (λ h. h);
   gives = gives;
 }
@@ -192,14 +200,76 @@ pub gathers_then : {C R W X Y : Type 0} (seen : C → Seen) {reason : Fault → 
     {known : R × W → Known} {figures : Figures} (old mid new : C) (here one two : List (Client R W)) (b b' : Batch) {x : X}
     (result : Result Y Fault) → Gathers seen reason known figures old mid here one b (Ok x)
     → Gathers seen reason known figures mid new one two b' result → Gathers seen reason known figures old new here two b' result
-gathers_then seen {figures = figures} old mid new here one two b b' result p q = record {
+gathers_then seen {known = known} {figures} old mid new here one two b b' result p q = record {
   reads = p.reads ++ q.reads;
   are_reads = all_more (is_read_under figures) p.reads q.reads p.are_reads q.are_reads;
   asked = asked_then seen old mid new result p.asked q.asked;
+  refused = q.refused;
+  some = q.some;
+  whose_refused = subst (λ (ns : List ℕ). AllByRecursion (IsOfOneOf ns) q.refused) p.beside.same q.whose_refused;
+  none_posted = q.none_posted;
+  are_told = λ place y y' at at' k first before takes is.
+      let mids = found_too here one place y p.beside.same at in
+      subst (λ (l : List Step). AreRefused known k (seen first) (seen new) l (fault_in result) q.refused y')
+      (append_assoc before p.reads q.reads)
+      (q.are_told place mids.0 y' mids.1 at' k first (before ++ p.reads)
+      (takes_then seen first old mid before p.reads p.asked.honest takes
+      (takes_reads seen figures old mid p.reads p.are_reads p.asked.done))
+      (p.beside.stand place y mids.0 at mids.1 k first before takes is));
   beside = beside_then seen old mid new here one two p.reads q.reads
       (takes_reads seen figures old mid p.reads p.are_reads p.asked.done) p.asked.honest p.beside q.beside;
   gives = q.gives;
 }
+
+-- what was refused of the client at a place
+refused_at : {C R W X : Type 0} (seen : C → Seen) {reason : Fault → C → C → Type 0} {known : R × W → Known} {figures : Figures}
+    (old new : C) (here : List (Client R W)) (p : ℕ) (client client' : Client R W) (batch : Batch) (result : Result X Fault)
+    → AllDiffer (numbers here) → slice_get here p ≡ Some client
+    → (a : IsAnswered seen reason known figures old new client client' result)
+    → AreBeside seen known old new here (slice_set here p client') a.more → IsBatchOf (slice_set here p client') batch
+    → Gathers seen reason known figures old new here (slice_set here p client') batch result
+refused_at seen old new here p client client' batch (Ok x) all at a beside gives = record {
+  reads = a.more;
+  are_reads = a.reads;
+  asked = a.asked;
+  refused = [];
+  some = tt;
+  whose_refused = tt;
+  none_posted = refl;
+  are_told = λ q y y' at_q at_q' k first before takes is. tt;
+  beside = beside;
+  gives = gives;
+}
+refused_at {R = R} {W} seen {known = known} old new here p client client' batch (Err f) all at a beside gives =
+    let s = a.told.step in
+    record {
+      reads = a.more;
+      are_reads = a.reads;
+      asked = a.asked;
+      refused = s ∷ [];
+      some = λ none. cc none;
+      whose_refused = (subst (λ (n : ℕ). Contains (numbers here) n) (sym a.told.own) (one_of_these here p client at), tt);
+      none_posted = ap (λ (cs : List Command). cs ++ []) (idle_commands (asked_by s.turn.message) s.turn.moment a.told.reads);
+      are_told = λ q y y' at_q at_q' k first before takes is. (
+        (λ own. elim (same_or_not q p) [
+          | inl e ↦
+              let y_is : y ≡ client = some_is y client (sym at_q ∙ ap (λ (n : ℕ). slice_get here n) e ∙ at) in
+              let y'_is : client' ≡ y' =
+              some_is client' y' (sym (at_same here p client client' at)
+              ∙ ap (λ (n : ℕ). slice_get (slice_set here p client') n) (sym e) ∙ at_q') in
+              subst (λ (z : Client R W). StandsRefused known k (seen first) (seen new) (before ++ a.more) f s.turn z) y'_is
+              (a.told.told k first before takes
+              (subst (λ (z : Client R W). StandsHere known k (seen first) (seen old) before z) y_is is))
+          | inr ne ↦
+              let y_is : y ≡ y' = some_is y y' (sym at_q ∙ sym (at_other here p q client' ne) ∙ at_q') in
+              absurd (numbers_apart here p q client y all at at_q ne
+              (ap (λ (z : Client R W). z.number) y_is ∙ sym own ∙ a.told.own))
+        ]),
+        tt,
+      );
+      beside = beside;
+      gives = gives;
+    }
 
 -- the messages of the client at a place
 pub gathers_at : {C R W X : Type 0} (seen : C → Seen) {reason : Fault → C → C → Type 0} {known : R × W → Known} {figures : Figures}
@@ -207,13 +277,9 @@ pub gathers_at : {C R W X : Type 0} (seen : C → Seen) {reason : Fault → C �
     (result : Result X Fault) → AllDiffer (numbers here) → slice_get here p ≡ Some client
     → IsAnswered seen reason known figures old new client client' result → IsBatchOf (slice_set here p client') batch
     → Gathers seen reason known figures old new here (slice_set here p client') batch result
-gathers_at seen old new here p client client' batch result all at a gives = record {
-  reads = a.more;
-  are_reads = a.reads;
-  asked = a.asked;
-  beside = beside_one seen old new here p client client' a.more all at a.number a.own a.asked.honest a.stands;
-  gives = gives;
-}
+gathers_at seen old new here p client client' batch result all at a gives =
+    refused_at seen old new here p client client' batch result all at a
+    (beside_one seen old new here p client client' a.more all at a.number a.own a.asked.honest a.stands) gives
 
 -- the result stands for another
 pub gathers_as : {C R W X Y : Type 0} {seen : C → Seen} {reason : Fault → C → C → Type 0} {known : R × W → Known} {figures : Figures}
@@ -224,6 +290,11 @@ gathers_as y g = record {
   reads = g.reads;
   are_reads = g.are_reads;
   asked = asked_as y g.asked;
+  refused = g.refused;
+  some = tt;
+  whose_refused = g.whose_refused;
+  none_posted = g.none_posted;
+  are_told = λ p y y' at at' k first before takes is. tt;
   beside = g.beside;
   gives = g.gives;
 }
@@ -236,6 +307,11 @@ gathers_err g = record {
   reads = g.reads;
   are_reads = g.are_reads;
   asked = asked_err g.asked;
+  refused = g.refused;
+  some = g.some;
+  whose_refused = g.whose_refused;
+  none_posted = g.none_posted;
+  are_told = g.are_told;
   beside = g.beside;
   gives = g.gives;
 }

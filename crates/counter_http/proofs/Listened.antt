@@ -16,6 +16,7 @@ none_served seen reason k c n = record {
   are_rounds = tt;
   refused = [];
   clock = refl;
+  dated = tt;
   stood = c;
   honest_first = λ h. h;
   honest = λ h. h;
@@ -25,21 +26,19 @@ none_served seen reason k c n = record {
   survives = λ h log at. stop_all (seen c) log [] [] refl at;
   idle = λ d. refl;
   why = tt;
-  network = λ same. inl (record {
-    calls = Refused Interrupted ∷ [];
-    made = tt;
-    kind = Interrupted;
-    one = (0, omega arith, refl);
-  });
-  calls = [];
+  calls = Refused Interrupted ∷ [];
   made = tt;
+  traced = record { laps = []; last = Refused Interrupted ∷ []; calls_are = refl; no_more = (tt, tt); are_laps = tt };
+  network = λ same. inl (record { kind = Interrupted; one = (0, omega arith, refl) });
   visits = [];
   closed = refl;
   once = λ i j d before short. absurd (omega (arith, before, short));
   each = λ i d short. absurd (omega (arith, short));
   parted = λ i d short. absurd (omega (arith, short));
   all = refl;
+  some = tt;
   refusals = tt;
   whose = tt;
   many = omega arith;
+  come = tt;
 }

@@ -1,10 +1,10 @@
 -- A round: messages that were answered while records were gathered, and those records.
-use Rattle.std.proofs.Common.{◌≡◌, ℕ, List, [], ◌++◌, length, Option, Result, Ok, Err, refl, sym, ap, subst}
+use Rattle.std.proofs.Common.{◌≡◌, ℕ, List, [], ◌++◌, length, Option, Some, Result, Ok, Err, refl, sym, ap, subst}
 use Rattle.std.proofs.Common.{◌∙◌, append_assoc, append-nil, arith}
 use Rattle.std.specs.{List.AllByRecursion, Prelude.OnOk}
 use Rattle.posting_rules.specs.declared.fault.Fault.{Fault}
 use Rattle.posting_rules.specs.believed.Commands.{Command}
-use Rattle.posting_rules.specs.believed.Counter.{LeavesOnly, Seen, ShowsPrefix, StandsAt, Takes}
+use Rattle.posting_rules.specs.believed.Counter.{LeavesOnly, Refuses, Seen, ShowsPrefix, StandsAt, Takes}
 use Rattle.posting_rules.specs.believed.Runs.{followed_by, replies_to}
 use Rattle.posting_rules.proofs.CounterCalls.{idle_after, Takes-append}
 use Rattle.posting_core.proofs.Stops.{refused_stop, stop_all, stop_part}
@@ -100,6 +100,8 @@ round_submitted seen {reason} {known} old mid new here one two {t} {t'} seconds 
           (d.counts h log (g.asked.done.shows (d.honest_first (d.honest h)) log shown));
       moves = moves;
       refused = d.refused;
+      some = d.some;
+      dated = λ read. d.dated (s.some read);
       whose = both.whose;
       whose_refused = subst (λ (ns : List ℕ). AllByRecursion (IsOfOneOf ns) d.refused) g.beside.same d.whose_refused;
       are_told = λ p y y' at at' k first before takes is.
@@ -133,6 +135,8 @@ round_refused {Y = Y} seen {reason} {known} old new here one t seconds batch why
     let takes : Takes (seen old) (seen f.stood) (submitted_by (g.reads ++ [])) =
     subst (λ (ss : List Step). Takes (seen old) (seen f.stood) (submitted_by ss)) (sym (append-nil g.reads))
     (takes_reads seen (figures_at here t seconds) old f.stood g.reads g.are_reads f.takes) in
+    let refuses : Refuses why (seen f.stood) (seen new) (submitted_by g.refused) =
+    subst (λ (cs : List Command). Refuses why (seen f.stood) (seen new) cs) (sym g.none_posted) f.refuses in
     record {
       round = record { figures = figures_at here t seconds; reads = g.reads; readings = []; posts = []; commits = 0 };
       is_round = record {
@@ -146,18 +150,22 @@ round_refused {Y = Y} seen {reason} {known} old new here one t seconds batch why
       counts = λ h log shown. subst (λ (cs : List Command). Counts t t (replies_to log cs) 0)
           (sym (only_posts (figures_at here t seconds) g.reads [] g.are_reads)) (counts_none t);
       moves = tt;
-      refused = [];
+      refused = g.refused;
+      some = g.some;
+      dated = λ read. absurd (omega (arith, read));
       whose = all_more (IsOfOneOf (numbers here)) g.reads [] g.beside.whose tt;
-      whose_refused = tt;
-      are_told = λ p y y' at at' k first before takes is. tt;
+      whose_refused = g.whose_refused;
+      are_told = λ p y y' at at' k first before took is.
+          subst (λ (ss : List Step). AreRefused known k (seen first) (seen new) (before ++ ss) (Some why) g.refused y')
+          (sym (append-nil g.reads)) (g.are_told p y y' at at' k first before took is);
       clock = refl;
       stood = f.stood;
       honest_first = f.honest_first;
       honest = f.honest;
       up = f.up;
       takes = takes;
-      ends = f.refuses;
-      survives = survives_round {X = Y} seen old f.stood new (g.reads ++ []) [] (Err why) takes f.honest f.refuses;
+      ends = refuses;
+      survives = survives_round {X = Y} seen old f.stood new (g.reads ++ []) g.refused (Err why) takes f.honest refuses;
       idle = g.asked.idle;
       why = g.asked.why;
       same = g.beside.same;
@@ -177,6 +185,8 @@ round_as y a = record {
   figured = a.figured;
   counts = a.counts;
   refused = a.refused;
+  some = a.some;
+  dated = a.dated;
   whose = a.whose;
   whose_refused = a.whose_refused;
   are_told = a.are_told;
@@ -205,6 +215,8 @@ round_err a = record {
   figured = a.figured;
   counts = a.counts;
   refused = a.refused;
+  some = a.some;
+  dated = a.dated;
   whose = a.whose;
   whose_refused = a.whose_refused;
   are_told = a.are_told;

@@ -1,7 +1,7 @@
 -- What is done for the front of what was read from a client, and where it stands then.
 use Rattle.std.proofs.Common.{◌≡◌, ℕ, List, [], ◌∷◌, ◌++◌, drop, None, Option, Bool, Result, Ok, Err}
 use Rattle.std.proofs.Common.{true, false, refl, sym, ap, subst, ◌∙◌, append-nil, inl, inr}
-use Rattle.std.specs.Prelude.{IfOk}
+use Rattle.std.specs.Prelude.{IfErr, IfOk}
 use Rattle.std.specs.{Borrow.Bor, List.AllByRecursion}
 use Rattle.posting_rules.specs.declared.fault.Fault.{Fault}
 use Rattle.posting_rules.specs.declared.fault.Fault.TheVariants as fault
@@ -11,7 +11,7 @@ use Rattle.posting_rules.specs.believed.Runs.{followed_by}
 use Rattle.counter_http.specs.Asking.{said_in}
 use Rattle.counter_http.specs.Connections.{Known}
 use Rattle.counter_http.specs.Next.{IsHopeless, IsUnfinished, IsWhole, asked}
-use Rattle.counter_http.specs.together.Standing.{HasEndedWith, IsAnswered, IsHeadOf, IsRecordIn, IsToldOf, ReadsAnswer}
+use Rattle.counter_http.specs.together.Standing.{HasEndedWith, IsAnswered, IsHeadOf, IsRecordIn, IsToldOf, ReadsAnswer, StandsRefused, TellsRefusal}
 use Rattle.counter_http.specs.together.Standing.{SaysSo, StandsHere, pending, unread}
 use Rattle.counter_http.specs.Tasks.{IsTaskOf}
 use Rattle.counter_http.specs.Turns.{IsAsked}
@@ -31,11 +31,12 @@ use Rattle.counter_http.specs.declared.client.Head.{Head}
 use Rattle.counter_http.specs.declared.next.Whole.{Whole}
 use Rattle.counter_http.specs.declared.parting.Parting.TheVariants as parting
 use Rattle.counter_http.specs.declared.tasks.Task.TheVariants.{Submit}
-use Rattle.counter_http.proofs.Answering.{answered_refusal, step_told, waits_so}
+use Rattle.counter_http.proofs.Answering.{answered_refusal, step_of, step_told, waits_so}
 use Rattle.counter_http.proofs.AnsweredTurns.{submits_as}
 use Rattle.counter_http.proofs.Asked.{answered_nothing, asked_as, asked_err, asked_full}
 use Rattle.counter_http.proofs.Fronts.{answered_here, ends_by, going_here, going_of, gone_here, parted_here}
 use Rattle.counter_http.proofs.Fronts.{number_ended, refused_here, stands_after}
+use Rattle.counter_http.proofs.Refused.{refused_now}
 use Rattle.counter_http.proofs.Walking.{walks_always, walks_end}
 
 -- ---- the message at the front
@@ -65,17 +66,19 @@ pub says_answered : {C R W X : Type 0} (seen : C → Seen) {reason : Fault → C
     (figures : Figures) (bank new : C) (old after : Client R W) (m : Message) (head : Head) (answer : Answer) (done : Front)
     (result : Result X Fault) → SaysSo old after answer head done → IsHeadOf head (unread old) m
     → old.parting ≡ None → is_posting (asked_by m) ≡ false → IsAsked seen reason bank new result
+    → ((more : List Step) → IfErr result (TellsRefusal seen known bank new old after more))
     → ((seen new).honest → (log : List Command) → ShowsLog (seen bank) log
     → answer ≡ answer_with (told_to figures (asked_by m)) log (asked_by m))
     → IsAnswered seen reason known figures bank new old after result
 says_answered seen {known = known} figures bank new old after m head answer front.Answered result did is going reads asked
-    says =
+    told says =
     let given = told_to figures (asked_by m) in
     record {
       more = step_told given old.number 0 m ∷ [];
       reads = ((reads, refl), tt);
       own = (refl, tt);
       asked = asked;
+      told = told _;
       number = did.same.number;
       stands = λ k first steps takes stands.
           answered_here old after given 0 m head
@@ -85,10 +88,10 @@ says_answered seen {known = known} figures bank new old after m head answer fron
           ∙ ap (λ (a : Answer). answer_text a (shows (asked_by m)) (asked_by m).closes)
           (says h (followed_by log (submitted_by steps)) (takes.shows (asked.honest h) log s))) stands;
     }
-says_answered seen figures bank new old after m head answer front.Nothing result lost is going reads asked says =
-    answered_nothing seen bank new old after result asked lost.number
+says_answered seen figures bank new old after m head answer front.Nothing result lost is going reads asked told says =
+    answered_nothing seen bank new old after result asked (told []) lost.number
     (λ k c steps stands. gone_here old after lost (stands_after old asked.honest stands))
-says_answered seen figures bank new old after m head answer (front.Record r) result did is going reads asked says =
+says_answered seen figures bank new old after m head answer (front.Record r) result did is going reads asked told says =
     absurd did
 
 -- what is asked for is no figures
@@ -105,14 +108,31 @@ pub as_told : (figures : Figures) (a : Asked) (log : List Command) → asks_figu
     → figures_answer figures ≡ answer_with (told_to figures a) log a
 as_told figures a log asks = rw asks refl
 
-told_answered : {C R W X : Type 0} (seen : C → Seen) {reason : Fault → C → C → Type 0} {known : R × W → Known}
-    {figures : Figures} (bank new : C) (old after : Client R W) (m : Message) (head : Head) (why : Fault) (result : Result X Fault)
-    → HasEndedWith old after (answer_text (bare 503) head.shows_body true) (parting.Bank why)
-    → IsHeadOf head (unread old) m → old.parting ≡ None → IsAsked seen reason bank new result
-    → IsAnswered seen reason known figures bank new old after result
-told_answered seen bank new old after m head why result ended is going asked =
-    answered_nothing seen bank new old after result asked (number_ended old after ended)
-    (λ k c steps stands. refused_here old after m head why going is ended asked.honest stands)
+-- the bank refused it
+tells_refusal : {C R W : Type 0} (seen : C → Seen) {known : R × W → Known} (bank new : C) (old after : Client R W) (m : Message)
+    (head : Head) (why : Fault) → HasEndedWith old after (answer_text (bare 503) head.shows_body true) (parting.Bank why)
+    → IsHeadOf head (unread old) m → old.parting ≡ None → is_posting (asked_by m) ≡ false
+    → ((seen new).honest → (seen bank).honest) → TellsRefusal seen known bank new old after [] why
+tells_refusal seen {known} bank new old after m head why ended is going reads honest = record {
+  step = step_of old.number 0 m;
+  own = refl;
+  reads = reads;
+  told = λ k first steps takes stands.
+      subst (λ (ss : List Step). StandsRefused known k (seen first) (seen new) ss why (step_of old.number 0 m).turn after)
+      (sym (append-nil steps)) (refused_now old after 0 m head why going is ended honest stands);
+}
+
+refusal_told : {C R W : Type 0} (seen : C → Seen) {known : R × W → Known} (bank new : C) (old after : Client R W) (why : Fault)
+    (result : Result Front Fault) → IsToldOf why result → TellsRefusal seen known bank new old after [] why
+    → IfErr result (TellsRefusal seen known bank new old after [])
+refusal_told seen {known} bank new old after fault.Memory result is told =
+    subst (λ (r : Result Front Fault). IfErr r (TellsRefusal seen known bank new old after [])) (sym is) tt
+refusal_told seen {known} bank new old after fault.Store result is told =
+    subst (λ (r : Result Front Fault). IfErr r (TellsRefusal seen known bank new old after [])) (sym is) told
+refusal_told seen {known} bank new old after fault.Down result is told =
+    subst (λ (r : Result Front Fault). IfErr r (TellsRefusal seen known bank new old after [])) (sym is) told
+refusal_told seen {known} bank new old after (fault.Damaged rule) result is told =
+    subst (λ (r : Result Front Fault). IfErr r (TellsRefusal seen known bank new old after [])) (sym is) told
 
 refusal_asked : {C : Type 0} (seen : C → Seen) {reason : Fault → C → C → Type 0} (bank new : C) (why : Fault)
     (result : Result Front Fault) → IsToldOf why result → IsAsked {X = Reading} seen reason bank new (Err why)
@@ -138,10 +158,14 @@ read_answered seen {reason} {known} figures bank new old after m head (Ok readin
     says =
     says_answered seen figures bank new old after m head (said_in reading) did.0 result did.2 is going reads
     (subst (λ (r : Result Front Fault). IsAsked seen reason bank new r) (sym did.1) (asked_as did.0 asked))
+    (λ more. subst (λ (r : Result Front Fault). IfErr r (TellsRefusal seen known bank new old after more)) (sym did.1) tt)
     (λ h log s. as_untold figures (asked_by m) log (said_in reading) none (says h log s))
 read_answered seen figures bank new old after m head (Err why) result did is going reads none asked says =
-    told_answered seen bank new old after m head why result did.0 is going
-    (refusal_asked seen bank new why result did.1 asked)
+    let asks = refusal_asked seen bank new why result did.1 asked in
+    answered_nothing seen bank new old after result asks
+    (refusal_told seen bank new old after why result did.1
+    (tells_refusal seen bank new old after m head why did.0 is going reads asks.honest))
+    (number_ended old after did.0) (λ k c steps stands. refused_here old after m head why going is did.0 asks.honest stands)
 
 -- ---- no message is there
 

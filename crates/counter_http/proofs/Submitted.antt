@@ -2,7 +2,7 @@
 use Rattle.std.proofs.Common.{◌≡◌, ℕ, ◌+◌, ◌<◌, ◌≤◌, List, [], ◌∷◌, ◌++◌, length, Some, Result, Ok, Err}
 use Rattle.std.proofs.Common.{refl, sym, ap, subst, ◌∙◌, append_assoc, append-nil, arith, inl, inr}
 use Rattle.std.proofs.lemmas.List.{length-append}
-use Rattle.std.specs.{List.AllByRecursion, List.slice_get, Prelude.◌⊎◌, Prelude.IfErr, Prelude.OnOk}
+use Rattle.std.specs.{List.AllByRecursion, List.slice_get, Prelude.◌⊎◌, Prelude.◌≢◌, Prelude.IfErr, Prelude.OnOk}
 use Rattle.posting_rules.specs.declared.fault.Fault.{Fault}
 use Rattle.posting_rules.specs.declared.fault.Fault.TheVariants as fault
 use Rattle.posting_rules.specs.believed.{Commands.Command}
@@ -45,9 +45,11 @@ submitted_nothing seen readings bank here t = record {
   are_commits = no_commit;
   counts = λ h log shown. counts_none t;
   refused = [];
+  some = tt;
   together = tt;
   few = omega arith;
   moves = λ some. absurd (omega (arith, some));
+  dated = λ some. absurd (omega (arith, some));
   beside = beside_none seen bank bank here (λ h. h);
   whose_refused = tt;
   are_told = λ p y y' at at' k first before takes is. tt;
@@ -75,9 +77,11 @@ spared_all {X = X} seen contents reason readings old new here cs t why e it =
       are_commits = no_commit;
       counts = λ h log shown. counts_none t;
       refused = [];
+      some = tt;
       together = tt;
       few = omega arith;
       moves = λ some. absurd (omega (arith, some));
+      dated = λ some. absurd (omega (arith, some));
       beside = beside_none seen old new here call.honest;
       whose_refused = tt;
       are_told = λ p y y' at at' k first before takes is. tt;
@@ -122,9 +126,11 @@ module _ {C K R W X : Type 0} (seen : C → Seen) (contents : C → K) (reason :
     counts = λ h log shown. subst (λ (xs : List (List ℕ)). Counts t t' xs 1)
         (says h log shown ∙ ap (replies_to log) (sym (steps_submit moment here ss rs g))) counted;
     refused = [];
+    some = tt;
     together = steps_posted moment here ss rs g;
     few = omega (arith, steps_long moment here ss rs g);
     moves = λ some. inl (omega (arith, steps_long moment here ss rs g, some));
+    dated = λ some. inl (omega (arith, steps_long moment here ss rs g, some));
     beside = record {
       whose = steps_whose moment here ss rs g;
       same = numbers_all_answered here here' ss rs qs g apart chain;
@@ -148,17 +154,19 @@ module _ {C K R W X : Type 0} (seen : C → Seen) (contents : C → K) (reason :
   -- the bank refused it, and each sender was told so
   pub refused_all : (why : Fault) → AllDiffer (numbers here)
       → IsCounterCall {X = X} seen contents reason old new (posts moment rs) (Err why)
-      → RefusesEach here here' ss why
+      → RefusesEach here here' ss why → 0 < length rs
       → AreSubmitted {X = Unit {0}} seen reason known (moment ∷ []) old new here here' t t (length rs) (Err why)
-  refused_all why all call chain = record {
+  refused_all why all call chain some = record {
     posts = [];
     commits = 0;
     are_commits = no_commit;
     counts = λ h log shown. counts_none t;
     refused = steps_at moment here ss rs g;
+    some = λ none. absurd (omega (arith, some, steps_long moment here ss rs g, ap length none));
     together = tt;
     few = omega arith;
-    moves = λ some. tt;
+    moves = λ given. tt;
+    dated = λ given. inr (inr (omega (arith, steps_long moment here ss rs g, some)));
     beside = record {
       whose = tt;
       same = numbers_all_refused here here' ss rs why g apart chain;
@@ -194,9 +202,11 @@ module _ {C K R W X : Type 0} (seen : C → Seen) (contents : C → K) (reason :
         are_commits = no_commit;
         counts = λ h log shown. counts_none t;
         refused = [];
+        some = tt;
         together = tt;
         few = omega arith;
         moves = λ some. inr (told_first here here' ss rs why e g apart chain some);
+        dated = λ some. inr (inl (record { before = old; after = new; why = call.why }));
         beside = record {
           whose = tt;
           same = numbers_all_refused here here' ss rs why g apart chain;
@@ -232,6 +242,14 @@ more_posted here ss ts (Ok x) (inl some) = inl (omega (arith, length-append ss t
 more_posted here ss ts (Ok x) (inr lacks) = inr lacks
 more_posted here ss ts (Err f) none = tt
 
+more_dated : {P : Type 0} (ss ts : List Step) → (0 < length ts) ⊎ P → (0 < length (ss ++ ts)) ⊎ P
+more_dated ss ts (inl some) = inl (omega (arith, length-append ss ts, some))
+more_dated ss ts (inr other) = inr other
+
+pub positive : {A : Type 0} (xs : List A) → xs ≢ [] → 0 < length xs
+positive [] some = absurd (some refl)
+positive (x ∷ xs) some = omega arith
+
 pub submitted_then : {C R W X Y : Type 0} (seen : C → Seen) {reason : Fault → C → C → Type 0} {known : R × W → Known}
     (readings : List ℕ) (old mid new : C) (here one two : List (Client R W)) {t u v : Tally} (n m : ℕ) {x : X}
     (result : Result Y Fault) → AreSubmitted seen reason known readings old mid here one t u n (Ok x)
@@ -258,9 +276,11 @@ submitted_then {C = C} seen {reason} {known} readings old mid new here one two {
           (a.counts before log shown)
           (b.counts h (followed_by log (submitted_by a.posts)) (took.shows before log shown)));
       refused = b.refused;
+      some = b.some;
       together = all_more (is_posted_under readings) a.posts b.posts a.together b.together;
       few = omega (arith, length-append a.posts b.posts, a.few, b.few);
       moves = λ given. more_posted two a.posts b.posts result (b.moves (some given));
+      dated = λ given. more_dated a.posts b.posts (b.dated (some given));
       beside = beside_then seen old mid new here one two a.posts b.posts took honest a.beside b.beside;
       whose_refused = subst (λ (ns : List ℕ). AllByRecursion (IsOfOneOf ns) b.refused) a.beside.same b.whose_refused;
       are_told = λ p y y' at at' k first before takes is.
@@ -304,9 +324,11 @@ submitted_few n m le a = record {
   are_commits = a.are_commits;
   counts = a.counts;
   refused = a.refused;
+  some = a.some;
   together = a.together;
   few = omega (arith, a.few, le);
   moves = λ some. tt;
+  dated = λ given. inr (inr (positive a.refused a.some));
   beside = a.beside;
   whose_refused = a.whose_refused;
   are_told = a.are_told;

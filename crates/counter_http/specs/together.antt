@@ -6,3 +6,4 @@ pub mod Rounds
 pub mod Submitting
 pub mod Reading
 pub mod Crowd
+pub mod Tracing

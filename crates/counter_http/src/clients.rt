@@ -2,8 +2,8 @@
 ghost use Rattle.std.specs.Prelude.{◌∷◌, [], ℕ, List, Option, None};
 ghost use Rattle.std.specs.List.{AllByRecursion};
 ghost use Rattle.posting_core.specs.believed.EndCalls.{GrowsBy};
-ghost use Rattle.counter_http.specs.Clients.{ClientsCall, Closed, given_up_told, opened_told};
-ghost use Rattle.counter_http.specs.together.Rounds.{given_up, numbers};
+ghost use Rattle.counter_http.specs.Clients.{ClientsCall, Closed, opened_told, waited_told};
+ghost use Rattle.counter_http.specs.together.Rounds.{ends_here, given_up, numbers};
 ghost use Rattle.counter_http.specs.together.Standing.{IsUpToDate};
 
 use crate::client::Client;
@@ -28,7 +28,8 @@ pub trait Clients {
 
     type Writer: Sink + Drop;
 
-    /// What each opening returned so far, whom each wait gave up, and what each closing was given, where it is known.
+    /// For whom each wait was so far and whom it gave up, what each opening returned, and what each closing was given, where
+    /// it is known.
     ghost calls: { Self → Option (List (ClientsCall (Self.Reader × Self.Writer))) } = { λ _. None };
 
     /// Waits until a stream is ready, one more client has come where more are to come, or a limit has passed. It
@@ -42,7 +43,8 @@ pub trait Clients {
         readiness: &mut Vec<Readiness>,
     )
         requires { AllByRecursion IsUpToDate clients.now }
-        ensures { GrowsBy (calls self.old) (calls self.new) (given_up_told (given_up (numbers clients.now) readiness.new.items)) };
+        ensures { GrowsBy (calls self.old) (calls self.new)
+            (waited_told (ends_here clients.now) (given_up (numbers clients.now) readiness.new.items)) };
 
     /// The next client, the one before whom so many came; none where nobody waits to be taken in.
     fn open(&mut self, number: u64) -> io::Result<Option<(Self::Reader, Self::Writer)>>
@@ -56,6 +58,11 @@ pub trait Clients {
 
     /// So many postings were done in a round.
     fn posted(&mut self, _count: usize)
+        ensures { GrowsBy (calls self.old) (calls self.new) [] }
+    {}
+
+    /// No more clients are served: it may wait until their connections are closed.
+    fn ended(&mut self)
         ensures { GrowsBy (calls self.old) (calls self.new) [] }
     {}
 

@@ -26,7 +26,7 @@
 //!     let client = TcpStream::connect(rt, listener.local_addr()?)?;
 //!     io::copy(input, &mut &client)?;
 //!     client.shutdown(Shutdown::Write)?;
-//!     serve_connections(rt, &listener, 2, &mut clock, &mut bank)?;
+//!     serve_connections(rt, listener, 2, &mut clock, &mut bank)?;
 //!     io::copy(&mut &silent, output)?; // nothing
 //!     io::copy(&mut &client, output)?;
 //!     Ok(())
@@ -38,7 +38,7 @@
 ghost use Rattle.counter_http.specs.together.Listening.{ServesListener};
 
 use crate::listen_fault::ListenFault;
-use crate::serve_watch::{ServeWatch, Unwatched};
+use crate::serve_watch::Unwatched;
 use crate::tcp_clients::TcpClients;
 use crate::together::serve_together;
 use posting_core::{Clock, Followed};
@@ -59,7 +59,7 @@ use std::time;
 /// [`MOST_CLIENTS`]: crate::MOST_CLIENTS
 pub fn serve_connections<R: Alloc<A = Global> + time::Clock, K: Clock, C: Followed>(
     rt: &R,
-    listener: &TcpListener,
+    listener: TcpListener,
     connections: u64,
     clock: &mut K,
     bank: &mut C,
@@ -68,35 +68,8 @@ pub fn serve_connections<R: Alloc<A = Global> + time::Clock, K: Clock, C: Follow
         connections result }
     ensures spares { C.spares bank.old bank.new }
 {
-    serve_watched(rt, listener, connections, Unwatched, clock, bank)
-}
-
-/// So does this, and tells who watches how it goes.
-///
-/// # Errors
-///
-/// As of [`serve_connections`].
-pub fn serve_watched<
-    R: Alloc<A = Global> + time::Clock,
-    V: ServeWatch + Drop,
-    K: Clock,
-    C: Followed,
->(
-    rt: &R,
-    listener: &TcpListener,
-    connections: u64,
-    watch: V,
-    clock: &mut K,
-    bank: &mut C,
-) -> Result<(), ListenFault>
-    ensures serves { ServesListener C.seen C.reason (K.readings clock.old) (K.readings clock.new) bank.old bank.new
-        connections result }
-    ensures spares { C.spares bank.old bank.new }
-{
-    let Ok(mut clients) = TcpClients::new(rt.alloc(), listener, rt, watch) else {
+    let Ok(mut clients) = TcpClients::new(rt.alloc(), listener, rt, Unwatched) else {
         return Err(ListenFault::Network);
     };
-    let served = serve_together(rt.alloc(), &mut clients, connections, clock, bank);
-    clients.finish();
-    served
+    serve_together(rt.alloc(), &mut clients, connections, clock, bank)
 }

@@ -1,4 +1,5 @@
 //! Who is told how the serving goes.
+use std::io;
 use std::time::{Duration, Instant};
 
 /// How often it is told, in seconds.
@@ -8,6 +9,9 @@ const TOLD: u64 = 1;
 pub trait ServeWatch {
     /// So many clients are connected, and so many postings were done so far. It is told once a second at most.
     fn served(&mut self, connected: usize, postings: u64);
+
+    /// The system can take nobody in now, for this cause. Those who are here are served on.
+    fn lacking(&mut self, error: &io::Error);
 
     /// No more clients are served.
     fn ended(&mut self);
@@ -19,6 +23,8 @@ pub(crate) struct Unwatched;
 
 impl ServeWatch for Unwatched {
     fn served(&mut self, _connected: usize, _postings: u64) {}
+
+    fn lacking(&mut self, _error: &io::Error) {}
 
     fn ended(&mut self) {}
 }
@@ -63,6 +69,11 @@ impl<V: ServeWatch + Drop> Watched<V> {
             self.last = Some((connected, self.postings, now));
             self.watch.served(connected, self.postings);
         }
+    }
+
+    /// The system can take nobody in now.
+    pub fn lacking(&mut self, error: &io::Error) {
+        self.watch.lacking(error);
     }
 
     /// No more clients are served.

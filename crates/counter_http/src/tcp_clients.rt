@@ -22,13 +22,18 @@ const NOBODY: RawFd = -1;
 // How many connections are being closed at once: each is a descriptor, of which a process has some 1,000.
 const MOST_CLOSING: usize = 256;
 
+// How many milliseconds the listener isn't asked for more, after the system could take none in.
+const PAUSE: u64 = 200;
+
 /// The clients of a bound listener that doesn't block. The system is asked to send each answer at once, and not to
 /// wait until the one before it has arrived.
 #[derive(Drop)]
-pub struct TcpClients<'l, T, V: Drop> {
-    listener: &'l TcpListener,
-    time: &'l T,
+pub struct TcpClients<'t, T, V: Drop> {
+    listener: TcpListener,
+    time: &'t T,
     watch: Watched<V>,
+    // When the system could take nobody in last.
+    lacking: Option<Instant>,
     // Somebody may wait at the listener.
     is_waited_for: bool,
     // A client was ready when clients were looked at last.
@@ -85,23 +90,19 @@ fn sooner(one: Option<Duration>, other: Option<Duration>) -> Option<Duration> {
     }
 }
 
-impl<'l, T: Clock, V: ServeWatch + Drop> TcpClients<'l, T, V> {
+impl<'t, T: Clock, V: ServeWatch + Drop> TcpClients<'t, T, V> {
     /// Of a listener, which is told not to block.
     ///
     /// # Errors
     ///
     /// The system's, where it refuses that.
-    pub fn new(
-        alloc: Global,
-        listener: &'l TcpListener,
-        time: &'l T,
-        watch: V,
-    ) -> io::Result<Self> {
+    pub fn new(alloc: Global, listener: TcpListener, time: &'t T, watch: V) -> io::Result<Self> {
         listener.set_nonblocking(true)?;
         Ok(TcpClients {
             listener,
             time,
             watch: Watched::new(watch),
+            lacking: None,
             is_waited_for: true,
             is_busy: false,
             patience: Vec::new(alloc),
@@ -160,6 +161,12 @@ impl<'l, T: Clock, V: ServeWatch + Drop> TcpClients<'l, T, V> {
     fn until_all(&self, now: Instant) -> Option<Duration> {
         let passed = now.duration_since(self.looked?);
         Duration::from_millis(LOOK_AT_ALL).checked_sub(passed)
+    }
+
+    // How long the listener isn't asked for more.
+    fn pause_left(&self, now: Instant) -> Option<Duration> {
+        let passed = now.duration_since(self.lacking?);
+        Duration::from_millis(PAUSE).checked_sub(passed)
     }
 
     // Whether the client at a place may say something at once.
@@ -283,6 +290,7 @@ impl<'l, T: Clock, V: ServeWatch + Drop> TcpClients<'l, T, V> {
         let idle = self.longest_idle();
         let looks_for_more = awaits_more && (!is_full || idle.is_some());
         let left = sooner(self.time_left(now), self.watch.left(clients.len(), now));
+        let left = sooner(left, self.pause_left(now));
         if !self.look(clients, true, looks_for_more, left, readiness) {
             return;
         }
@@ -317,8 +325,8 @@ impl<'l, T: Clock, V: ServeWatch + Drop> TcpClients<'l, T, V> {
         self.closing.retain(|it| !it.is_over);
     }
 
-    /// Waits until all connections are closed, each within its limit.
-    pub fn finish(&mut self) {
+    // Waits until all connections are closed, each within its limit.
+    fn finish(&mut self) {
         self.watch.ended();
         self.places.clear();
         'closing: for _ in 0..u64::MAX {
@@ -341,7 +349,7 @@ impl<'l, T: Clock, V: ServeWatch + Drop> TcpClients<'l, T, V> {
     }
 }
 
-impl<'l, T: Clock, V: ServeWatch + Drop> Clients for TcpClients<'l, T, V> {
+impl<'t, T: Clock, V: ServeWatch + Drop> Clients for TcpClients<'t, T, V> {
     type Reader = StreamReader<TcpStream>;
 
     type Writer = StreamWriter<TcpStream>;
@@ -362,6 +370,7 @@ impl<'l, T: Clock, V: ServeWatch + Drop> Clients for TcpClients<'l, T, V> {
             self.began = self.now;
         }
         self.watch.look(clients.len(), now);
+        let awaits_more = awaits_more && self.pause_left(now).is_none();
         match self.until_all(now) {
             Some(left) => self.look_at_some(clients, awaits_more, left, readiness),
             None => self.look_at_all(clients, awaits_more, now, readiness),
@@ -375,6 +384,12 @@ impl<'l, T: Clock, V: ServeWatch + Drop> Clients for TcpClients<'l, T, V> {
         let stream = match self.listener.accept() {
             Ok((stream, _)) => stream,
             Err(e) if is_passing(e.kind()) => return Ok(None),
+            Err(e) if is_lacking(&e) => {
+                self.lacking = self.now;
+                self.is_waited_for = false;
+                self.watch.lacking(&e);
+                return Ok(None);
+            }
             Err(e) => return Err(e),
         };
         let _ = stream.set_nodelay(true);
@@ -390,6 +405,10 @@ impl<'l, T: Clock, V: ServeWatch + Drop> Clients for TcpClients<'l, T, V> {
 
     fn posted(&mut self, count: usize) {
         self.watch.posted(count);
+    }
+
+    fn ended(&mut self) {
+        self.finish();
     }
 
     fn close(&mut self, number: u64, reader: Self::Reader, _writer: Self::Writer) {
@@ -411,6 +430,15 @@ fn is_passing(kind: ErrorKind) -> bool {
     matches!(
         kind,
         ErrorKind::WouldBlock | ErrorKind::Interrupted | ErrorKind::ConnectionAborted
+    )
+}
+
+// The system lacks descriptors or memory now, or what came failed on its way: EPERM, ENOMEM, ENFILE, EMFILE, ENONET, EPROTO,
+// ENOPROTOOPT, EOPNOTSUPP, ENETDOWN, ENETUNREACH, ENOBUFS, EHOSTDOWN or EHOSTUNREACH.
+fn is_lacking(error: &io::Error) -> bool {
+    matches!(
+        error.raw_os_error(),
+        Some(1 | 12 | 23 | 24 | 64 | 71 | 92 | 95 | 100 | 101 | 105 | 112 | 113)
     )
 }
 

@@ -1,14 +1,14 @@
 //! Clients that are served at once, in one thread: the records that they sent while the bank was busy are
 //! submitted together, by one call. So the more clients wait for a commit, the more records the next one has.
 //! Nobody waits for more records.
-ghost use Rattle.std.specs.Prelude.{◌≡◌, ◌≢◌, ◌<◌, ◌≤◌, ℕ, [], Err, OnErr, OnOk, length};
+ghost use Rattle.std.specs.Prelude.{◌≡◌, ◌≢◌, ◌<◌, ◌≤◌, ℕ, [], OnOk, length};
 ghost use Rattle.std.specs.List.{AllByRecursion, AllZip};
 ghost use Rattle.counter_http.specs.Connections.{known_ends};
-ghost use Rattle.counter_http.specs.together.Crowd.{Closes, GoesOn, HaveCome, HaveMoved, ServesRounds};
+ghost use Rattle.counter_http.specs.together.Crowd.{Closes, GoesOn, HaveMoved, ServesRounds, TakesIn};
 ghost use Rattle.counter_http.specs.together.Rounds.{AllDiffer, AnswersRound, given_up, numbers};
 ghost use Rattle.counter_http.specs.together.Standing.{Writes};
 ghost use Rattle.counter_http.specs.together.Submitting.{Gathers, IsBatchOf, IsElsewhere, IsFrom, LooksAt, LooksOver, MayAdd};
-ghost use Rattle.counter_http.specs.together.Serving.{HasRefused, ServesTogether};
+ghost use Rattle.counter_http.specs.together.Tracing.{ServesTogether};
 
 use crate::batch::Batch;
 use crate::client::Client;
@@ -39,11 +39,8 @@ fn take_in<D: Clients>(
     here: &mut Vec<Client<D::Reader, D::Writer>>,
 ) -> Result<(), ListenFault>
     requires { came.old ≤ connections }
-    ensures come { HaveMoved ⊥ [] (record { calls = D.calls listener.old; came = came.old; here = here.old.items })
-        (record { calls = D.calls listener.new; came = came.new; here = here.new.items }) }
-    ensures few { came.new ≤ connections }
-    ensures fault { OnErr result (result ≡ Err ListenFault.Network) }
-    ensures refused { OnErr result (HasRefused (D.calls listener.old) (D.calls listener.new)) }
+    ensures { TakesIn connections (record { calls = D.calls listener.old; came = came.old; here = here.old.items })
+        (record { calls = D.calls listener.new; came = came.new; here = here.new.items }) result }
 {
     'openings: while *came < connections && here.len() < MOST_CLIENTS {
         match listener.open(*came) {
@@ -52,7 +49,6 @@ fn take_in<D: Clients>(
                 *came += 1;
                 if let Err(refused) = here.push(client) {
                     close(listener, refused.value, Parting::Memory);
-                    return Ok(());
                 }
             }
             Ok(None) => return Ok(()),
@@ -284,7 +280,7 @@ fn serve_rounds<D: Clients, K: Clock, C: Followed>(
         listener.wait(here, came < connections, readiness);
         go_on(here, readiness);
         give_up(listener, here, readiness);
-        take_in(alloc, listener, &mut came, connections, here)?;
+        let taken_in = take_in(alloc, listener, &mut came, connections, here);
         let seconds = listener.seconds();
         let answered = answer(
             alloc, routes, here, first, batch, &mut tally, seconds, clock, bank,
@@ -298,6 +294,9 @@ fn serve_rounds<D: Clients, K: Clock, C: Followed>(
             }
             Err(fault) => return Err(ListenFault::Bank(fault)),
         }
+        if let Err(fault) = taken_in {
+            return Err(fault);
+        }
     }
     Err(ListenFault::Network)
 }
@@ -310,7 +309,8 @@ fn serve_rounds<D: Clients, K: Clock, C: Followed>(
 ///
 /// # Errors
 ///
-/// - [`ListenFault::Network`]: an opening failed, or 2^64 - 1 rounds were made.
+/// - [`ListenFault::Network`]: an opening failed, and those who were here had their answers as far as they took them; or
+///   2^64 - 1 rounds were made.
 /// - [`ListenFault::Bank`]: the bank refused a call for another cause than memory, and this is that call's
 ///   fault; or, with `Memory`, memory was refused before any client was taken in.
 pub fn serve_together<D: Clients, K: Clock, C: Followed>(
@@ -324,7 +324,6 @@ pub fn serve_together<D: Clients, K: Clock, C: Followed>(
         (known_ends D.Reader.remaining D.Reader.calls D.Reader.beside D.Writer.contents D.Writer.calls)
         (D.calls listener.old) (D.calls listener.new) (K.readings clock.old) (K.readings clock.new) bank.old bank.new
         connections result }
-    ensures come { OnOk result (HaveCome (D.calls listener.old) (D.calls listener.new) connections) }
     ensures spares { C.spares bank.old bank.new }
 {
     let Some(routes) = Routes::new(alloc) else {
@@ -345,5 +344,6 @@ pub fn serve_together<D: Clients, K: Clock, C: Followed>(
         bank,
     );
     part_from_all(listener, &mut here);
+    listener.ended();
     served
 }

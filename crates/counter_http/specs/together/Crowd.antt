@@ -2,7 +2,8 @@
 -- began and as c' now, steps are the messages that were answered, and of the ends of a client known says what is
 -- known.
 use Rattle.std.specs.Prelude.{◌≡◌, ◌≢◌, ◌⊎◌, ◌<◌, ◌≤◌, ◌+◌, ℕ, List, [], ◌∷◌, ◌++◌, length, map, Option, Result, ⊤, Contains}
-use Rattle.std.specs.Prelude.{Err, IfErr, None, OnOk, Some}
+use Rattle.std.specs.Prelude.{Err, IfErr, None, OnErr, OnOk, Some}
+use Rattle.std.proofs.Common.{inl, inr}
 use Rattle.std.specs.List.{AllByRecursion}
 use Rattle.posting_rules.specs.declared.fault.Fault.{Fault}
 use Rattle.posting_rules.specs.believed.Commands.{Command}
@@ -12,15 +13,17 @@ use Rattle.posting_core.specs.believed.Clock.{AreReadings}
 use Rattle.posting_core.specs.believed.EndCalls.{GrowsBy}
 use Rattle.counter_http.specs.Clients.{ClientsCall, Gave, Gave_up, Closed}
 use Rattle.counter_http.specs.Connections.{Known}
-use Rattle.counter_http.specs.together.Order.{AreFigured, Step, Round, IsRound, steps_of, readings_of, submitted_by}
+use Rattle.counter_http.specs.together.Order.{AreDated, AreFigured, Step, Round, IsRound, steps_of, readings_of, submitted_by}
 use Rattle.counter_http.specs.together.Reading.{Reads}
 use Rattle.counter_http.specs.together.Rounds.{IsOfOneOf, numbers}
 use Rattle.counter_http.specs.together.Standing.{AreRefused, IsNew, IsOver, IsParting, StandsHere, Writes}
-use Rattle.counter_http.specs.together.Serving.{ClientIsRefused, EndsTogether, IfBank, IsCutOff, IsVisited, IsVisitWhy, Visit, closed_of}
+use Rattle.counter_http.specs.together.Serving.{ClientIsRefused, EndsTogether, IfBank, IsVisited, IsVisitWhy, Visit, closed_of}
 use Rattle.counter_http.specs.together.Serving.{closings, number_of, openings}
+use Rattle.counter_http.specs.together.Tracing.{AreLaps, GivesNone, HasRefused, IsCutOff, IsNoWait, Lap, calls_of, here_after}
 use Rattle.counter_http.specs.declared.client.Client.{Client}
 use Rattle.counter_http.specs.declared.listen_fault.ListenFault.{ListenFault}
-use Rattle.counter_http.specs.declared.listen_fault.ListenFault.TheVariants.{Bank}
+use Rattle.counter_http.specs.declared.listen_fault.ListenFault.TheVariants.{Bank, Network}
+use Rattle.counter_http.specs.declared.together.TheConstants.{MOST_CLIENTS}
 use Rattle.counter_http.specs.declared.parting.Parting.{Parting}
 use Rattle.counter_http.specs.declared.parting.Parting.TheVariants as parting
 
@@ -86,17 +89,39 @@ pub record Stays {R W : Type 0} (a b : Scene R W) : Type 0 where
   pub made : GrowsBy a.calls b.calls calls
   pub none_came : openings calls ≡ []
   pub none_left : closings calls ≡ []
+  pub none_waited : AllByRecursion IsNoWait calls
+  pub same : (ns : List ℕ) → here_after ns calls ≡ ns
   pub here : b.here ≡ a.here
   pub came : b.came ≡ a.came
 
--- one after another
-abbrev pub Moves : {R W : Type 0} → (stops : Type 0) → (given : List ℕ) → List (Scene R W) → (a b : Scene R W) → Type 0
-Moves stops given [] a b = b ≡ a
-Moves stops given (m ∷ ms) a b = (Comes a m ⊎ (Leaves stops given a m ⊎ Stays a m)) × Moves stops given ms m b
+-- the call or calls of that
+abbrev pub calls_by : {R W : Type 0} {stops : Type 0} {given : List ℕ} {a b : Scene R W}
+    → Comes a b ⊎ (Leaves stops given a b ⊎ Stays a b) → List (ClientsCall (R × W))
+calls_by {a = a} (inl came) = Gave a.came came.given ∷ []
+calls_by (inr (inl left)) = Closed left.client.number left.closes.left ∷ []
+calls_by (inr (inr stays)) = stays.calls
+
+-- one after another, by these calls
+abbrev pub Moves : {R W : Type 0} → (stops : Type 0) → (given : List ℕ) → List (Scene R W) → List (ClientsCall (R × W))
+    → (a b : Scene R W) → Type 0
+Moves stops given [] calls a b = (b ≡ a) × (calls ≡ [])
+Moves {R} {W} stops given (m ∷ ms) calls a b =
+    (one : Comes a m ⊎ (Leaves stops given a m ⊎ Stays a m)) × (rest : List (ClientsCall (R × W)))
+    × (calls ≡ calls_by one ++ rest) × Moves stops given ms rest m b
 
 pub record HaveMoved {R W : Type 0} (stops : Type 0) (given : List ℕ) (a b : Scene R W) : Type 0 where
   pub scenes : List (Scene R W)
-  pub moves : Moves stops given scenes a b
+  pub calls : List (ClientsCall (R × W))
+  pub moves : Moves stops given scenes calls a b
+
+-- those who waited were taken in, of n as far as there is room; or an opening was refused
+pub record TakesIn {R W : Type 0} (n : ℕ) (a b : Scene R W) (result : Result (Unit {0}) ListenFault) : Type 0 where
+  pub moved : HaveMoved ⊥ [] a b
+  pub few : b.came ≤ n
+  pub all : (b.came ≡ n) ⊎ ((MOST_CLIENTS ≤ length b.here)
+      ⊎ ((call : ClientsCall (R × W)) × Contains moved.calls call × GivesNone call))
+  pub fault : OnErr result (result ≡ Err Network)
+  pub refused : OnErr result (HasRefused moved.calls)
 
 -- ---- all who came
 
@@ -137,15 +162,16 @@ Differ (n ∷ ns) = AllByRecursion (λ m. n ≢ m) ns × Differ ns
 
 -- those who left were served, each once, and the others are here; the bank refused some messages at last, or none; these
 -- are to be given up, and clients may be stopped
-pub record IsCrowd {R W : Type 0} (stops : Type 0) (given : List ℕ) (known : R × W → Known) (g : Option (List (ClientsCall (R × W)))) (c c' : Seen)
-    (steps : List Step) (fault : Option Fault) (refused : List Step) (a : Scene R W) : Type 0 where
-  pub calls : List (ClientsCall (R × W))
+pub record IsCrowd {R W : Type 0} (stops : Type 0) (given : List ℕ) (known : R × W → Known) (g : Option (List (ClientsCall (R × W))))
+    (calls : List (ClientsCall (R × W))) (c c' : Seen) (steps : List Step) (fault : Option Fault) (refused : List Step)
+    (a : Scene R W) : Type 0 where
   pub made : GrowsBy g a.calls calls
   pub visits : List (Visit (R × W))
   pub closed : map closed_of visits ≡ closings calls
   pub visited : AllByRecursion (HasLeft stops known c c' steps fault refused calls) visits
   pub to_give_up : AreGivenUp fault calls given
   pub are_here : AllByRecursion (IsHere known c c' steps fault refused calls) a.here
+  pub now : numbers a.here ≡ here_after [] calls
   pub differ : Differ (all_numbers visits a.here)
   pub below : AllByRecursion (λ n. n < a.came) (all_numbers visits a.here)
   pub whose : AllByRecursion (IsOfOneOf (all_numbers visits a.here)) (steps ++ refused)
@@ -166,7 +192,9 @@ pub record ServesRounds {C R W : Type 0} (seen : C → Seen) (reason : Fault →
   pub are_rounds : AllByRecursion IsRound rounds
   pub figured : (seen new).honest → (log : List Command) → ShowsLog (seen old) log → AreFigured log [] rounds
   pub refused : List Step
+  pub some : IfErr result (λ fault. IfBank fault (λ f. refused ≢ []))
   pub clock : AreReadings k k' (readings_of rounds)
+  pub dated : AreDated reason rounds refused
   pub stood : C
   pub honest_first : (seen stood).honest → (seen old).honest
   pub honest : (seen new).honest → (seen stood).honest
@@ -178,15 +206,13 @@ pub record ServesRounds {C R W : Type 0} (seen : C → Seen) (reason : Fault →
       (length (submitted_by (steps_of rounds))))
   pub idle : (seen old).is_down → new ≡ old
   pub why : IfErr result (λ fault. IfBank fault (IsOfCall seen reason old new))
-  pub network : IsCutOff g g' result rounds
+  pub calls : List (ClientsCall (R × W))
+  pub laps : List (Lap (R × W))
+  pub calls_are : calls ≡ calls_of laps
+  pub are_laps : AreLaps known (seen old) (seen new) n [] [] laps rounds
+  pub network : IsCutOff result calls laps
   pub came : ℕ
   pub few : came ≤ n
   pub done : OnOk result ((came ≡ n) × (here ≡ []))
-  pub crowd : IsCrowd ⊥ [] known g (seen old) (seen new) (steps_of rounds) (fault_of_bank result) refused
+  pub crowd : IsCrowd ⊥ [] known g calls (seen old) (seen new) (steps_of rounds) (fault_of_bank result) refused
       (record { calls = g'; came = came; here = here })
-
--- so many clients were given by openings
-pub record HaveCome {E : Type 0} (g g' : Option (List (ClientsCall E))) (n : ℕ) : Type 0 where
-  pub calls : List (ClientsCall E)
-  pub made : GrowsBy g g' calls
-  pub many : length (openings calls) ≡ n

@@ -4,7 +4,7 @@ use Rattle.std.specs.declared.net.tcp.TcpStream.{TcpStream}
 use Rattle.posting_rules.specs.declared.fault.Fault.{Fault}
 use Rattle.posting_rules.specs.believed.Counter.{Seen}
 use Rattle.counter_http.specs.Connections.{unknown}
-use Rattle.counter_http.specs.together.Serving.{ServesTogether}
+use Rattle.counter_http.specs.together.Tracing.{ServesTogether}
 use Rattle.counter_http.specs.declared.listen_fault.ListenFault.{ListenFault}
 use Rattle.counter_http.specs.declared.stream_ends.StreamReader.{StreamReader}
 use Rattle.counter_http.specs.declared.stream_ends.StreamWriter.{StreamWriter}

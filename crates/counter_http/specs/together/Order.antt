@@ -1,9 +1,11 @@
 -- Clients that are served at once: there is one order of all their messages, in which the bank takes the
 -- records, and each client has its answers in it. The bank is old before and new after, and seen says what is
 -- seen of it. The ends of a client are known before as k and after as l.
-use Rattle.std.specs.Prelude.{◌≡◌, ◌<◌, ◌≤◌, ◌+◌, ℕ, ◌==◌, List, [], ◌∷◌, ◌++◌, length, map, Bool, true, false, Option, None}
+use Rattle.std.specs.Prelude.{◌≡◌, ◌⊎◌, ◌<◌, ◌≤◌, ◌+◌, ℕ, ◌==◌, List, [], ◌∷◌, ◌++◌, length, map, Bool, true, false, Option, None}
 use Rattle.std.specs.Prelude.{⊤}
 use Rattle.std.specs.List.{AllByRecursion, flat_map}
+use Rattle.posting_rules.specs.declared.fault.Fault.{Fault}
+use Rattle.posting_rules.specs.declared.fault.Fault.TheVariants.{Memory}
 use Rattle.posting_rules.specs.declared.limits.TheConstants.{RECORDS_PER_BATCH}
 use Rattle.posting_rules.specs.believed.Commands.{Command}
 use Rattle.posting_rules.specs.believed.Runs.{followed_by, replies_to}
@@ -77,6 +79,22 @@ pub record IsRound (r : Round) : Type 0 where
   pub together : AllByRecursion (is_posted_under r.readings) r.posts
   pub few : length r.posts ≤ RECORDS_PER_BATCH
   pub commits : AreCommits r.commits (length r.posts)
+
+-- the bank had no memory for a call, by the reason that it gives
+pub record HasSpared {C : Type 0} (reason : Fault → C → C → Type 0) : Type 0 where
+  pub before : C
+  pub after : C
+  pub why : reason Memory before after
+
+-- the clock is read only where records are posted, or the bank has no memory for that
+abbrev pub IsDated : {C : Type 0} → (reason : Fault → C → C → Type 0) → Round → Type 0
+IsDated reason r = 0 < length r.readings → (0 < length r.posts) ⊎ HasSpared reason
+
+-- so it is in each round, and in the last one it may be where they were refused
+abbrev pub AreDated : {C : Type 0} → (reason : Fault → C → C → Type 0) → List Round → (refused : List Step) → Type 0
+AreDated reason [] refused = ⊤
+AreDated reason (r ∷ []) refused = IsDated reason r ⊎ (0 < length refused)
+AreDated reason (r ∷ s ∷ rs) refused = IsDated reason r × AreDated reason (s ∷ rs) refused
 
 abbrev pub steps_in : Round → List Step
 steps_in r = r.reads ++ r.posts

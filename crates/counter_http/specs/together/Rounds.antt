@@ -11,7 +11,7 @@ use Rattle.posting_rules.specs.believed.Runs.{replies_to}
 use Rattle.posting_core.specs.Stream.{IsOfCall}
 use Rattle.posting_core.specs.believed.Clock.{AreReadings}
 use Rattle.counter_http.specs.Connections.{Known}
-use Rattle.counter_http.specs.together.Order.{IsRound, Round, Step, steps_in, submitted_by}
+use Rattle.counter_http.specs.together.Order.{HasSpared, IsRound, Round, Step, steps_in, submitted_by}
 use Rattle.counter_http.specs.together.Standing.{AreRefused, MovesOn, StandsHere}
 use Rattle.counter_http.specs.Figures.{Counts}
 use Rattle.counter_http.specs.declared.client.Client.{Client}
@@ -27,6 +27,13 @@ number_in client = client.number
 
 abbrev pub numbers : {R W : Type 0} → List (Client R W) → List ℕ
 numbers here = map number_in here
+
+-- the ends of those who are here, each by its number
+abbrev pub ends_in : {R W : Type 0} → Client R W → ℕ × (R × W)
+ends_in client = (client.number, (client.reader, client.writer))
+
+abbrev pub ends_here : {R W : Type 0} → List (Client R W) → List (ℕ × (R × W))
+ends_here here = map ends_in here
 
 -- whom a wait said to give up, where it said so of each in their order
 abbrev pub given_up : List ℕ → List Readiness → List ℕ
@@ -95,7 +102,10 @@ pub record AnswersRound {C R W X : Type 0} (seen : C → Seen) (reason : Fault �
   pub figured : round.figures ≡ record { tally = t; connections = length here; seconds = seconds }
   pub counts : (seen new).honest → (log : List Command) → ShowsLog (seen old) log
       → Counts t t' (replies_to log (submitted_by (steps_in round))) round.commits
+  -- the bank refused a call just where these messages were in it
   pub refused : List Step
+  pub some : IfErr result (λ fault. refused ≢ [])
+  pub dated : 0 < length round.readings → (0 < length round.posts) ⊎ (HasSpared reason ⊎ (0 < length refused))
   pub whose : AllByRecursion (IsOfOneOf (numbers here)) (steps_in round)
   pub whose_refused : AllByRecursion (IsOfOneOf (numbers here)) refused
   pub clock : AreReadings k k' round.readings

@@ -1,21 +1,19 @@
 -- What each client that is served beside others reads and is written, and what all of it together does to the
 -- bank. The bank is old before and new after, and seen says what is seen of it. Of the ends of a client k is known
 -- before and l after.
-use Rattle.std.specs.Prelude.{◌≡◌, ◌<◌, ◌≤◌, ◌≢◌, ◌-◌, ◌^◌, ◌⊎◌, ℕ, List, [], ◌∷◌, ◌++◌, length, map, take, get_or, Option}
-use Rattle.std.specs.Prelude.{Result, Err, ⊤, All, AllPairs, Contains, IfErr, IsErr}
+use Rattle.std.specs.Prelude.{◌≡◌, ◌<◌, ◌≢◌, ◌⊎◌, ℕ, List, [], ◌∷◌, ◌++◌, length, map, take, get_or, Option}
+use Rattle.std.specs.Prelude.{Result, Err, ⊤, Contains}
 use Rattle.std.specs.List.{AllByRecursion}
 use Rattle.std.specs.Io.KnownBytes.{Appends, Consumes}
-use Rattle.std.specs.declared.io.ErrorKind.{ErrorKind}
 use Rattle.posting_rules.specs.declared.fault.Fault.{Fault}
 use Rattle.posting_rules.specs.declared.fault.Fault.TheVariants.{Memory}
 use Rattle.posting_rules.specs.believed.Commands.{Command}
-use Rattle.posting_rules.specs.believed.Counter.{Seen, ShowsLog, StandsAt, LeavesOnly, ShowsPrefix, Takes, Refuses}
+use Rattle.posting_rules.specs.believed.Counter.{Seen, ShowsLog, Refuses}
 use Rattle.posting_core.specs.Stream.{given, IsOfCall}
 use Rattle.posting_core.specs.believed.Batches.{joined}
-use Rattle.posting_core.specs.believed.Clock.{AreReadings}
 use Rattle.posting_core.specs.believed.EndCalls.{EndsWith, GrowsBy, ReadCall}
 use Rattle.posting_core.specs.EndCalls.{Beside, HasWriteFailed, IsReadFailure, IsThrough, WriteCall, unknown}
-use Rattle.counter_http.specs.Clients.{ClientsCall, Gave, Gave_up, Refused, Closed}
+use Rattle.counter_http.specs.Clients.{ClientsCall, Gave, Gave_up, Nobody, Refused, Closed, Waited}
 use Rattle.counter_http.specs.Connections.{Known}
 use Rattle.counter_http.specs.declared.listen_fault.ListenFault.{ListenFault}
 use Rattle.counter_http.specs.declared.listen_fault.ListenFault.TheVariants.{Network, Bank}
@@ -25,8 +23,7 @@ use Rattle.counter_http.specs.believed.Ends.{HasEnded}
 use Rattle.counter_http.specs.believed.Turns.{Turn, texts_of}
 use Rattle.counter_http.specs.believed.Serving.{KeepsConnection, BeginsWithNoMessage, IsWalked, IsBrokenOff}
 use Rattle.counter_http.specs.believed.Serving.{ServingIsCutOff}
-use Rattle.counter_http.specs.together.Order.{Step, Round, IsRound, of_client, answers_at, submitted_by}
-use Rattle.counter_http.specs.together.Order.{AreFigured, steps_of, readings_of}
+use Rattle.counter_http.specs.together.Order.{Step, of_client, answers_at, submitted_by}
 
 -- ---- where a client stands
 
@@ -159,6 +156,8 @@ OfOthers v u = v.number ≢ u.number
 -- the openings among calls, and the closings
 abbrev pub openings : {E : Type 0} → List (ClientsCall E) → List (ℕ × E)
 openings [] = []
+openings (Waited es ∷ cs) = openings cs
+openings (Nobody ∷ cs) = openings cs
 openings (Gave n e ∷ cs) = (n, e) ∷ openings cs
 openings (Closed n e ∷ cs) = openings cs
 openings (Refused kind ∷ cs) = openings cs
@@ -166,6 +165,8 @@ openings (Gave_up n ∷ cs) = openings cs
 
 abbrev pub closings : {E : Type 0} → List (ClientsCall E) → List (ℕ × E)
 closings [] = []
+closings (Waited es ∷ cs) = closings cs
+closings (Nobody ∷ cs) = closings cs
 closings (Gave n e ∷ cs) = closings cs
 closings (Closed n e ∷ cs) = (n, e) ∷ closings cs
 closings (Refused kind ∷ cs) = closings cs
@@ -212,57 +213,3 @@ EndsTogether seen _ stood new refused = (refused ≡ []) × (new ≡ stood)
 -- why the bank refused a call, or it was asked nothing, since memory was refused before
 abbrev pub IsWhyRefused : {C : Type 0} → (C → Seen) → (Fault → C → C → Type 0) → (old new : C) → Fault → Type 0
 IsWhyRefused seen reason old new fault = IsOfCall seen reason old new fault ⊎ ((fault ≡ Memory) × (new ≡ old))
-
--- an opening was refused, among the calls that were made since
-pub record HasRefused {E : Type 0} (g g' : Option (List (ClientsCall E))) : Type 0 where
-  pub calls : List (ClientsCall E)
-  pub made : GrowsBy g g' calls
-  pub kind : ErrorKind
-  pub one : Contains calls (Refused kind)
-
--- the network failed only where an opening was refused, or after 2 ^ 64 - 1 rounds
-abbrev pub IsCutOff : {E : Type 0} → (g g' : Option (List (ClientsCall E))) → Result (Unit {0}) ListenFault
-    → List Round → Type 0
-IsCutOff g g' result rounds = result ≡ Err Network → HasRefused g g' ⊎ (2 ^ 64 - 1 ≤ length rounds)
-
-pub record ServesTogether {C E : Type 0} (seen : C → Seen) (reason : Fault → C → C → Type 0) (known : E → Known)
-    (g g' : Option (List (ClientsCall E))) (k k' : Option (List ℕ)) (old new : C) (n : ℕ)
-    (result : Result (Unit {0}) ListenFault) : Type 0 where
-  -- what the bank took, round by round, and what it refused last
-  pub rounds : List Round
-  pub are_rounds : AllByRecursion IsRound rounds
-  -- who asks for the figures is told how many replies were given before
-  pub figured : (seen new).honest → (log : List Command) → ShowsLog (seen old) log → AreFigured log [] rounds
-  pub refused : List Step
-  pub clock : AreReadings k k' (readings_of rounds)
-  -- the bank stood here when it had taken the messages, and it was down then only where it was down before
-  pub stood : C
-  pub honest_first : (seen stood).honest → (seen old).honest
-  pub honest : (seen new).honest → (seen stood).honest
-  pub up : (seen stood).is_down → (seen old).is_down
-  pub takes : Takes (seen old) (seen stood) (submitted_by (steps_of rounds))
-  pub ends : EndsTogether seen result stood new refused
-  -- a crash leaves all that it took
-  pub survives : (seen new).honest → (log : List Command) → StandsAt (seen old) log
-      → LeavesOnly (seen new) (ShowsPrefix log (submitted_by (steps_of rounds ++ refused))
-      (length (submitted_by (steps_of rounds))))
-  pub idle : (seen old).is_down → new ≡ old
-  -- a fault of the bank says why a call was refused
-  pub why : IfErr result (λ fault. IfBank fault (IsWhyRefused seen reason old new))
-  pub network : IsCutOff g g' result rounds
-  -- the clients, as their connections were closed: each one that was taken in, once
-  pub calls : List (ClientsCall E)
-  pub made : GrowsBy g g' calls
-  pub visits : List (Visit E)
-  pub closed : map closed_of visits ≡ closings calls
-  pub once : AllPairs OfOthers visits
-  pub each : All (IsVisited known (seen old) (seen new) (steps_of rounds) calls) visits
-  pub all : length visits ≡ length (openings calls)
-  -- nobody else is given up than a wait says, and nobody is stopped where the serving ends well
-  pub parted : All (IsVisitWhy (IsErr result) calls) visits
-  -- each message that was refused is its client's own, who was told so
-  pub refusals : IfErr result (λ fault. IfBank fault
-      (λ f. AllByRecursion (IsToldTo known (seen old) (seen new) (steps_of rounds) visits f) refused))
-  -- no message is of anybody else
-  pub whose : AllByRecursion (IsOfVisit visits) (steps_of rounds ++ refused)
-  pub many : length visits ≤ n

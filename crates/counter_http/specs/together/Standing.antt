@@ -2,7 +2,7 @@
 -- when it was taken in, and l now. The bank is seen as c when the serving began, and as c' now; steps are the
 -- messages that were answered.
 use Rattle.std.specs.Prelude.{◌≡◌, ◌≢◌, ◌<◌, ℕ, List, [], ◌∷◌, ◌++◌, length, take, drop, Bool, false, true, Option, Some, None}
-use Rattle.std.specs.Prelude.{Result, Ok, Err, ⊤, ◌⊎◌}
+use Rattle.std.specs.Prelude.{IfErr, Result, Ok, Err, ⊤, ◌⊎◌}
 use Rattle.std.specs.List.{AllByRecursion}
 use Rattle.std.specs.Io.KnownBytes.{Appends, Consumes}
 use Rattle.posting_rules.specs.declared.fault.Fault.{Fault}
@@ -159,6 +159,16 @@ pub record IsRecordIn (buf bytes : List ℕ) (head : Head) : Type 0 where
   pub posting : is_posting (asked_by message) ≡ true
   pub body : bytes ≡ message.body
 
+-- the bank refused its next message, which submits nothing, after these were answered, and it was told so
+pub record TellsRefusal {C R W : Type 0} (seen : C → Seen) (known : R × W → Known) (old new : C)
+    (client client' : Client R W) (more : List Step) (fault : Fault) : Type 0 where
+  pub step : Step
+  pub own : step.client ≡ client.number
+  pub reads : is_posting (asked_by step.turn.message) ≡ false
+  pub told : (k : Known) (first : C) (steps : List Step) → Takes (seen first) (seen old) (submitted_by steps)
+      → StandsHere known k (seen first) (seen old) steps client
+      → StandsRefused known k (seen first) (seen new) (steps ++ more) fault step.turn client'
+
 -- messages at the front were answered, which submit nothing, while the bank went from old to new; those that ask for the
 -- figures were told these
 pub record IsAnswered {C R W X : Type 0} (seen : C → Seen) (reason : Fault → C → C → Type 0) (known : R × W → Known)
@@ -167,6 +177,7 @@ pub record IsAnswered {C R W X : Type 0} (seen : C → Seen) (reason : Fault →
   pub reads : AllByRecursion (is_read_under figures) more
   pub own : AllByRecursion (λ s. s.client ≡ client.number) more
   pub asked : IsAsked seen reason old new result
+  pub told : IfErr result (TellsRefusal seen known old new client client' more)
   pub number : client'.number ≡ client.number
   pub stands : (k : Known) (first : C) (steps : List Step) → Takes (seen first) (seen old) (submitted_by steps)
       → StandsHere known k (seen first) (seen old) steps client

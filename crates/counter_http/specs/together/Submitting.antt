@@ -11,7 +11,7 @@ use Rattle.posting_rules.specs.believed.Runs.{replies_to}
 use Rattle.posting_core.specs.Stream.{IsOfCall}
 use Rattle.posting_core.specs.believed.Clock.{AreReadings}
 use Rattle.counter_http.specs.Connections.{Known}
-use Rattle.counter_http.specs.together.Order.{AreCommits, Step, is_posted_under, is_read_under, submitted_by}
+use Rattle.counter_http.specs.together.Order.{AreCommits, HasSpared, Step, is_posted_under, is_read_under, submitted_by}
 use Rattle.counter_http.specs.together.Rounds.{AreToldAt, EndsRound, IsOfOneOf, PostsSome, fault_in, numbers}
 use Rattle.counter_http.specs.together.Standing.{AnswersRecord, GivesRecord, HasEndedWith, MovesOn, StandsHere}
 use Rattle.counter_http.specs.Turns.{IsAsked}
@@ -138,6 +138,12 @@ pub record Gathers {C R W X : Type 0} (seen : C → Seen) (reason : Fault → C 
   pub reads : List Step
   pub are_reads : AllByRecursion (is_read_under figures) reads
   pub asked : IsAsked seen reason old new result
+  -- the one that the bank refused last, and its client was told so
+  pub refused : List Step
+  pub some : IfErr result (λ fault. refused ≢ [])
+  pub whose_refused : AllByRecursion (IsOfOneOf (numbers here)) refused
+  pub none_posted : submitted_by refused ≡ []
+  pub are_told : AreToldAt seen known old new here here' reads (fault_in result) refused
   pub beside : AreBeside seen known old new here here' reads
   pub gives : IsBatchOf here' batch
 
@@ -152,9 +158,11 @@ pub record AreSubmitted {C R W X : Type 0} (seen : C → Seen) (reason : Fault �
   pub counts : (seen new).honest → (log : List Command) → ShowsLog (seen old) log
       → Counts t t' (replies_to log (submitted_by posts)) commits
   pub refused : List Step
+  pub some : IfErr result (λ fault. refused ≢ [])
   pub together : AllByRecursion (is_posted_under readings) posts
   pub few : length posts ≤ n
   pub moves : PostsSome n posts here' result
+  pub dated : 0 < n → (0 < length posts) ⊎ (HasSpared reason ⊎ (0 < length refused))
   pub beside : AreBeside seen known old new here here' posts
   pub whose_refused : AllByRecursion (IsOfOneOf (numbers here)) refused
   pub are_told : AreToldAt seen known old new here here' posts (fault_in result) refused
@@ -173,6 +181,7 @@ pub record SubmitsBatch {C R W X : Type 0} (seen : C → Seen) (reason : Fault �
     (n : ℕ) (result : Result X Fault) : Type 0 where
   pub readings : List ℕ
   pub once : length readings ≤ 1
+  pub some : 0 < length readings → 0 < n
   pub clock : AreReadings k k' readings
   pub few : n ≤ RECORDS_PER_BATCH
   pub did : AreSubmitted seen reason known readings old new here here' t t' n result

@@ -33,7 +33,7 @@ returns-in_default g c = record {
   submits = refused_all {X = List ℕ} g.C.Counter.seen g.C.Counter.contents g.C.Counter.reason c.args.moment
       c.args.bank.now c.submit.new.self c.args.here.now.items c.refuse_at.new.here.items c.args.tally.now
       c.args.tally.now (c.args.sender ∷ []) (c.args.bytes.now ∷ []) (c.requires.gives, tt) (tt, tt) c.in-Err.fault c.requires.others c.in-Err.ensures.call
-      (c.refuse_at.new.here.items, c.refuse_at.ensures, refl);
+      (c.refuse_at.new.here.items, c.refuse_at.ensures, refl) (omega arith);
   only = record { client = c.refuse_at.ensures.after; is = c.refuse_at.ensures.is };
   spares = c.in-Err.ensures.spares;
 }

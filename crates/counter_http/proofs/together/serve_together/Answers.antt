@@ -1,4 +1,4 @@
-use Rattle.counter_http.proofs.CrowdRounds.{all_came, nobody_came, serves_together}
+use Rattle.counter_http.proofs.Rounding.{nobody_came, serves_together}
 use Rattle.counter_http.proofs.together.serve_together.Goals as goal
 
 -- memory was refused before anybody came
@@ -10,11 +10,4 @@ pub returns-clause-serves : goal.returns-clause-serves
 returns-clause-serves g c =
     let served = c.serve_rounds-served in
     serves_together g.C.Counter.seen c.args.bank.now served.new.bank served.new.here.items c.part_from_all.new.here.items
-    served.result served.ensures.serves c.part_from_all.ensures.leave c.part_from_all.ensures.none
-
--- all came that were to come
-pub returns-clause-come : goal.returns-clause-come
-returns-clause-come g c =
-    let served = c.serve_rounds-served in
-    all_came g.C.Counter.seen c.args.bank.now served.new.bank served.new.here.items c.part_from_all.new.here.items
-    served.result served.ensures.serves c.part_from_all.ensures.leave
+    served.result served.ensures.serves c.part_from_all.ensures.leave c.part_from_all.ensures.none _ c.ended.ensures

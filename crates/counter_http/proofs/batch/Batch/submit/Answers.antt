@@ -14,6 +14,9 @@ not_none : {P : Type 0} {rs all : List (List ℕ)} {empty : Bool} → rs ≡ all
     → length all ≡ 0 → P
 not_none {rs = rs} same is some none = absurd (omega (arith, ap length same, some_of rs (sym is ∙ some), none))
 
+holds_some : {rs all : List (List ℕ)} → rs ≡ all → eqb (length rs) 0 ≡ false → 0 < length all
+holds_some {rs = rs} same some = omega (arith, ap length same, some_of rs some)
+
 -- there is no record
 pub returns-then-is_empty : goal.returns-then-is_empty
 returns-then-is_empty g c =
@@ -23,6 +26,7 @@ returns-then-is_empty g c =
       submits = record {
         readings = [];
         once = omega arith;
+        some = λ read. absurd (omega (arith, read));
         clock = refl;
         few = omega (arith, c.as_slice-records.ensures.fits, ap length c.as_slice-records.ensures.value);
         did = rw (sym c.as_slice-records.ensures.value, none)
@@ -46,6 +50,7 @@ returns-in-Ok g c =
       submits = record {
         readings = c.now-moment.result ∷ [];
         once = omega arith;
+        some = λ read. holds_some c.as_slice-records.ensures.value (sym c.is_empty.ensures ∙ c.if-is_empty.false);
         clock = (c.now-moment.ensures.0, c.now-moment.ensures.1);
         few = omega (arith, c.as_slice-records.ensures.fits, ap length c.as_slice-records.ensures.value);
         did = rw (sym c.as_slice-records.ensures.value)
@@ -66,6 +71,7 @@ returns-in-Err-Memory g c =
       submits = record {
         readings = c.now-moment.result ∷ [];
         once = omega arith;
+        some = λ read. holds_some c.as_slice-records.ensures.value (sym c.is_empty.ensures ∙ c.if-is_empty.false);
         clock = (c.now-moment.ensures.0, c.now-moment.ensures.1);
         few = omega (arith, c.as_slice-records.ensures.fits, ap length c.as_slice-records.ensures.value);
         did = submitted_after g.C.Counter.seen (c.now-moment.result ∷ []) c.args.bank.now c.submit_all.new.self
@@ -92,13 +98,15 @@ returns-in-Err g c =
       submits = record {
         readings = c.now-moment.result ∷ [];
         once = omega arith;
+        some = λ read. holds_some c.as_slice-records.ensures.value (sym c.is_empty.ensures ∙ c.if-is_empty.false);
         clock = (c.now-moment.ensures.0, c.now-moment.ensures.1);
         few = omega (arith, c.as_slice-records.ensures.fits, ap length c.as_slice-records.ensures.value);
         did = rw (sym c.as_slice-records.ensures.value)
             (refused_all g.C.Counter.seen g.C.Counter.contents g.C.Counter.reason c.now-moment.result c.args.bank.now
             c.submit_all.new.self here c.refuse.new.here.items c.args.tally.now c.args.tally.now ss rs given
             c.requires.gives.apart c.in-Err.fault
-            c.requires.others c.in-Err.ensures.call c.refuse.ensures);
+            c.requires.others c.in-Err.ensures.call c.refuse.ensures
+            (some_of rs (sym c.is_empty.ensures ∙ c.if-is_empty.false)));
       };
       none = not_none c.as_slice-records.ensures.value c.is_empty.ensures c.if-is_empty.false;
       spares = c.in-Err.ensures.spares;

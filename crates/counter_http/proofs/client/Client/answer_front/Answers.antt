@@ -29,7 +29,7 @@ none_if (Some x) b e f = absurd (true≢false (sym e ∙ f))
 pub returns-then-not-self-clause-answers : goal.returns-then-not-self-clause-answers
 returns-then-not-self-clause-answers g c =
     answered_nothing g.C.Counter.seen c.args.bank.now c.args.bank.now c.args.self.now c.args.self.now _
-    (asked_none g.C.Counter.seen c.args.bank.now _) refl (λ k first steps is. is)
+    (asked_none g.C.Counter.seen c.args.bank.now _) tt refl (λ k first steps is. is)
 
 -- a record
 pub returns-in-Submit : goal.returns-in-Submit
@@ -39,7 +39,7 @@ returns-in-Submit g c =
     let task : IsTaskOf (asked c.in-Message.message) (Submit c.in-Submit.bytes) = c.in-Submit.ensures in
     record {
       answers = answered_nothing g.C.Counter.seen c.args.bank.now c.args.bank.now c.args.self.now c.args.self.now _
-          (asked_none g.C.Counter.seen c.args.bank.now _) refl (λ k first steps is. is);
+          (asked_none g.C.Counter.seen c.args.bank.now _) tt refl (λ k first steps is. is);
       «record» = record {
         going = none_if c.args.self.now.parting c.is_some.result c.is_some.ensures c.if-is_some.false;
         is = record_of _ whole c.in-Submit.bytes (head_of _ whole refl (ap not c.is_head.ensures) refl) task;
@@ -60,7 +60,7 @@ returns-in-Say g c =
           (head_of _ whole refl (ap not c.is_head.ensures) refl)
           (none_if c.args.self.now.parting c.is_some.result c.is_some.ensures c.if-is_some.false)
           (ap is_posting (sym whole.asks) ∙ submits_as a false c.in-Say.ensures.0)
-          (asked_none g.C.Counter.seen c.args.bank.now c.say.result)
+          (asked_none g.C.Counter.seen c.args.bank.now c.say.result) (λ more. tt)
           (λ h log s. as_untold c.args.figures.now (asked_by whole.message) log (said c.in-Say.response)
           (ap asks_figures (sym whole.asks) ∙ asks_as a false c.in-Say.ensures.2)
           (sym (ap (answer_to log) (sym whole.asks)
@@ -83,7 +83,7 @@ returns-in-Metrics g c =
           (Ok c.say_figures.result) c.say_figures.ensures (head_of _ whole refl (ap not c.is_head.ensures) refl)
           (none_if c.args.self.now.parting c.is_some.result c.is_some.ensures c.if-is_some.false)
           (ap is_posting (sym whole.asks) ∙ submits_as a false c.in-Metrics.ensures.0)
-          (asked_none g.C.Counter.seen c.args.bank.now c.say_figures.result)
+          (asked_none g.C.Counter.seen c.args.bank.now c.say_figures.result) (λ more. tt)
           (λ h log s. as_told c.args.figures.now (asked_by whole.message) log
           (ap asks_figures (sym whole.asks) ∙ asks_as a true c.in-Metrics.ensures.2));
       «record» = says_gives c.args.self.now c.say_figures.new.self (figures_answer c.args.figures.now) _ c.say_figures.result c.say_figures.ensures;
@@ -138,7 +138,7 @@ returns-in-Unfinished g c =
     let going = none_if old.parting c.is_some.result c.is_some.ensures c.if-is_some.false in
     record {
       answers = answered_nothing g.C.Counter.seen c.args.bank.now c.args.bank.now old _ _
-          (asked_none g.C.Counter.seen c.args.bank.now _) refl
+          (asked_none g.C.Counter.seen c.args.bank.now _) tt refl
           (λ k first steps is. unfinished_here old _ c.in-Unfinished.shows refl refl refl going going refl refl refl refl
           waits is);
       «record» = tt;
@@ -154,7 +154,7 @@ returns-in-Refused g c =
     rw c.deref.ensures.value at c.in-Refused.ensures in
     record {
       answers = answered_nothing g.C.Counter.seen c.args.bank.now c.args.bank.now old c.end_with.new.self _
-          (asked_none g.C.Counter.seen c.args.bank.now _) (number_ended old c.end_with.new.self c.end_with.ensures)
+          (asked_none g.C.Counter.seen c.args.bank.now _) tt (number_ended old c.end_with.new.self c.end_with.ensures)
           (λ k first steps stands. hopeless_here old c.end_with.new.self c.in-Refused.shows _ c.bad_request.ensures
           (none_if old.parting c.is_some.result c.is_some.ensures c.if-is_some.false) is c.end_with.ensures stands);
       «record» = tt;

@@ -7,7 +7,7 @@ use Rattle.counter_http.proofs.client.Client.next_record.Goals as goal
 pub messages-init : goal.messages-init
 messages-init g c = record {
   answered = answered_nothing g.C.Counter.seen c.args.bank.now c.args.bank.now c.args.self.now c.args.self.now (Ok tt)
-      (asked_none g.C.Counter.seen c.args.bank.now tt) refl (λ k first steps is. is);
+      (asked_none g.C.Counter.seen c.args.bank.now tt) tt refl (λ k first steps is. is);
   few = omega arith;
   spares = g.met.C.Counter.spares_itself c.args.bank.now;
 }

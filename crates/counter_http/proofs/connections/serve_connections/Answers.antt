@@ -1,6 +1,6 @@
 -- No client was taken in, or those of the listener were served.
 use Rattle.counter_http.proofs.Listened.{none_served}
-use Rattle.counter_http.proofs.connections.serve_watched.Goals as goal
+use Rattle.counter_http.proofs.connections.serve_connections.Goals as goal
 
 pub returns-in_default-clause-serves : goal.returns-in_default-clause-serves
 returns-in_default-clause-serves g c =
