@@ -16,7 +16,9 @@ use Rattle.load_driver.specs.believed.Drives.{Drives}
 use Rattle.load_driver.specs.Drives.{IfRefused}
 use Rattle.load_driver.specs.declared.drive.Driven.{Driven}
 use Rattle.load_driver.specs.declared.drive_fault.DriveFault.{DriveFault}
-use Rattle.counter_http.specs.together.Listening.{ServesListener}
+use Rattle.counter_http.specs.Clients.{ClientsCall}
+use Rattle.counter_http.specs.Connections.{Known}
+use Rattle.counter_http.specs.together.Tracing.{ServesTogether}
 use Rattle.counter_http.specs.declared.listen_fault.ListenFault.{ListenFault}
 use Rattle.posting_core.specs.Stream.{IsOfCall}
 use Rattle.posting_core.specs.believed.EndCalls.{ReadCall}
@@ -149,20 +151,23 @@ DrivesOver seen reason k k' w w' seed count Ends old new =
     × IfErr answer (λ fault. IfRefused fault (IsOfCall seen reason old new))
 
 -- The counter listened at an address, said so, and served so many clients by a bank, or as many as it and the
--- network let; or the line couldn't be written, and nothing was served.
-abbrev pub ServesAt : {C : Type 0} → (C → Seen) → (reason : Fault → C → C → Type 0) → SocketAddr
-    → (k k' w w' : Option (List ℕ)) → (count : ℕ) → (Ends : Result Status CommandFault → Type 0) → (old new : C)
-    → Type 0
-ServesAt seen reason address k k' w w' count Ends old new =
+-- network let; or the line couldn't be written, and nothing was served. The calls of what gives clients had returned g
+-- before and g' after, and of the ends of a client known says what is known.
+abbrev pub ServesAt : {C E : Type 0} → (C → Seen) → (reason : Fault → C → C → Type 0) → (known : E → Known)
+    → (g g' : Option (List (ClientsCall E))) → SocketAddr → (k k' w w' : Option (List ℕ)) → (count : ℕ)
+    → (Ends : Result Status CommandFault → Type 0) → (old new : C) → Type 0
+ServesAt seen reason known g g' address k k' w w' count Ends old new =
     (Ends (Err Write) × AppendsPart w w' (listening_line address) × (k' ≡ k) × (new ≡ old))
     ⊎ (Appends w w' (listening_line address) × (answer : Result (Unit {0}) ListenFault) × TellsServing Ends answer
-    × ServesListener seen reason k k' old new count answer)
+    × ServesTogether seen reason known g g' k k' old new count answer)
 
--- So it did at the address that it was told; or it doesn't listen there, and nothing was done. No clause says of a
--- listener where it is bound, so that any address may stand here: review `bind` of `src/serving` by hand.
-abbrev pub ServesOver : {C : Type 0} → (C → Seen) → (reason : Fault → C → C → Type 0)
-    → (k k' w w' : Option (List ℕ)) → (count : ℕ) → (Ends : Result Status CommandFault → Type 0) → (old new : C)
-    → Type 0
-ServesOver seen reason k k' w w' count Ends old new =
+-- So it did with the clients that come to the address that it was told; or it doesn't listen there, and nothing was done.
+-- IsBound says of clients that they come there. No clause says of a listener of the system where it is bound, so that any
+-- address may stand in the line: review `bind` of `bank_commands` by hand.
+abbrev pub ServesOver : {C D E : Type 0} → (C → Seen) → (reason : Fault → C → C → Type 0) → (IsBound : D → Type 0)
+    → (known : E → Known) → (calls : D → Option (List (ClientsCall E))) → (k k' w w' : Option (List ℕ)) → (count : ℕ)
+    → (Ends : Result Status CommandFault → Type 0) → (old new : C) → Type 0
+ServesOver {D = D} seen reason IsBound known calls k k' w w' count Ends old new =
     (Ends (Err Network) × Keeps w w' × (k' ≡ k) × (new ≡ old))
-    ⊎ ((address : SocketAddr) × ServesAt seen reason address k k' w w' count Ends old new)
+    ⊎ ((clients : D) × (left : D) × IsBound clients × (address : SocketAddr)
+    × ServesAt seen reason known (calls clients) (calls left) address k k' w w' count Ends old new)

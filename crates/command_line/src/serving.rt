@@ -1,93 +1,87 @@
 //! What `serve` does with a bank.
-ghost use Rattle.std.specs.Prelude.{◌≡◌, IfErr};
+ghost use Rattle.std.specs.Prelude.{⊤, ◌≡◌, ℕ, List, IfErr, IfOk};
 ghost use Rattle.std.specs.Result.{IsErrOf};
+ghost use Rattle.counter_http.specs.Connections.{known_ends};
 ghost use Rattle.command_line.specs.Working.{ServesAt, ServesOver, done_after};
 ghost use Rattle.posting_core.specs.EndCalls.{HasWriteFailed};
 
 use crate::{CommandFault, ListeningLine, print_listening};
-use counter_http::{ServeWatch, serve_watched};
+use counter_http::{Clients, serve_together};
 use posting_core::{Clock, Followed, Sink};
-use std::net::TcpListener;
-use std::{io, time};
+use std::alloc::Global;
+use std::io;
+use std::net::SocketAddr;
 
-/// What gives clients, and the time and the memory that they take. It opens no file.
-pub trait Network: time::Clock + AllocGlobal {
-    /// A listener at the address.
+/// What gives the clients that come to an address. It opens no file. A type of its own may also know which clients are which
+/// address's.
+pub trait Network {
+    type Clients: Clients + Drop;
+
+    /// The clients are those that come to this address, where it is known.
+    ghost is_bound: { Self → List ℕ → Self.Clients → Type 0 } = { λ _ _ _. ⊤ };
+
+    /// The clients that come to the address, and where it is bound: where it leaves the port open, with the one it got.
     ///
     /// # Errors
     ///
     /// Those of the system.
-    fn bind(&self, address: &str) -> io::Result<TcpListener>;
-}
-
-impl Network for HostRuntime {
-    fn bind(&self, address: &str) -> io::Result<TcpListener> {
-        TcpListener::bind(self, address)
-    }
+    fn bind(&self, address: &str) -> io::Result<(Self::Clients, SocketAddr)>
+        ensures { IfOk result (λ it. is_bound self.now address.now it.0) };
 }
 
 /// Binds the address, prints where it listens, and serves so many clients by a bank.
-pub fn listen<N: Network, V: ServeWatch + Drop, C: Followed, W: Sink, K: Clock>(
+pub fn listen<N: Network, C: Followed, W: Sink, K: Clock>(
+    alloc: Global,
     network: &N,
     address: &str,
     connections: u64,
-    watch: V,
     bank: &mut C,
     output: &mut W,
     clock: &mut K,
 ) -> Result<(), CommandFault>
-    ensures serves { ServesOver C.seen C.reason (K.readings clock.old) (K.readings clock.new)
+    ensures serves { ServesOver C.seen C.reason (N.is_bound network.now address.now)
+        (known_ends N.Clients.Reader.remaining N.Clients.Reader.calls N.Clients.Reader.beside N.Clients.Writer.contents
+        N.Clients.Writer.calls) N.Clients.calls (K.readings clock.old) (K.readings clock.new)
         (W.contents output.old) (W.contents output.new) connections (λ end. done_after result ≡ end)
         bank.old bank.new }
     ensures unprinted { IsErrOf result CommandFault.Write
         → HasWriteFailed (W.calls output.old) (W.calls output.new) }
     ensures spares { C.spares bank.old bank.new }
 {
-    let (listener, line) = bind(network, address)?;
-    serve_at(
-        network,
-        &listener,
-        &line,
-        connections,
-        watch,
-        bank,
-        output,
-        clock,
-    )
+    let (mut clients, line) = bind(network, address)?;
+    serve_at(alloc, &mut clients, &line, connections, bank, output, clock)
 }
 
-// A listener at the address, and the line that says where it is bound: where the address leaves the port open,
-// with the one it got.
+// The clients that come to the address, and the line that says where it is bound.
 fn bind<N: Network>(
     network: &N,
     address: &str,
-) -> Result<(TcpListener, ListeningLine), CommandFault>
-    ensures { IfErr result (λ fault. fault ≡ CommandFault.Network) }
+) -> Result<(N::Clients, ListeningLine), CommandFault>
+    ensures bound { IfOk result (λ it. N.is_bound network.now address.now it.0) }
+    ensures fault { IfErr result (λ fault. fault ≡ CommandFault.Network) }
 {
-    let Ok(listener) = network.bind(address) else {
-        return Err(CommandFault::Network);
-    };
-    let Ok(bound) = listener.local_addr() else {
+    let Ok((clients, bound)) = network.bind(address) else {
         return Err(CommandFault::Network);
     };
     match ListeningLine::new(bound) {
-        Some(line) => Ok((listener, line)),
+        Some(line) => Ok((clients, line)),
         None => Err(CommandFault::Network),
     }
 }
 
-// Prints where a bound listener listens, and serves so many of its clients by a bank.
-fn serve_at<N: Network, V: ServeWatch + Drop, C: Followed, W: Sink, K: Clock>(
-    network: &N,
-    listener: &TcpListener,
+// Prints where clients come to, and serves so many of them by a bank.
+fn serve_at<D: Clients, C: Followed, W: Sink, K: Clock>(
+    alloc: Global,
+    clients: &mut D,
     line: &ListeningLine,
     connections: u64,
-    watch: V,
     bank: &mut C,
     output: &mut W,
     clock: &mut K,
 ) -> Result<(), CommandFault>
-    ensures serves { ServesAt C.seen C.reason line.now (K.readings clock.old) (K.readings clock.new)
+    ensures serves { ServesAt C.seen C.reason
+        (known_ends D.Reader.remaining D.Reader.calls D.Reader.beside D.Writer.contents D.Writer.calls)
+        (D.calls clients.old) (D.calls clients.new) line.now (K.readings clock.old) (K.readings clock.new)
         (W.contents output.old) (W.contents output.new) connections (λ end. done_after result ≡ end)
         bank.old bank.new }
     ensures unprinted { IsErrOf result CommandFault.Write
@@ -95,6 +89,6 @@ fn serve_at<N: Network, V: ServeWatch + Drop, C: Followed, W: Sink, K: Clock>(
     ensures spares { C.spares bank.old bank.new }
 {
     print_listening(line, output)?;
-    serve_watched(network, listener, connections, watch, clock, bank)?;
+    serve_together(alloc, clients, connections, clock, bank)?;
     Ok(())
 }
