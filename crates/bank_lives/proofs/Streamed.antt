@@ -20,7 +20,8 @@ use Rattle.counter_http.specs.{believed.Outputs.acknowledged_records, declared.f
 use Rattle.counter_http.specs.believed.Serving.{Exits, At_message, At_last, At_refusal, ServesConnection}
 use Rattle.counter_http.specs.believed.Turns.{Turn, commands_of, answers_to}
 use Rattle.counter_http.specs.declared.fault.ServeFault.TheVariants as serving
-use Rattle.counter_http.specs.together.{Listening.ServesListener, Order.steps_of, Order.submitted_by}
+use Rattle.counter_http.specs.{Clients.ClientsCall, Connections.Known}
+use Rattle.counter_http.specs.together.{Order.steps_of, Order.submitted_by, Tracing.ServesTogether}
 use Rattle.counter_http.specs.declared.listen_fault.ListenFault.{ListenFault}
 use Rattle.counter_http.specs.declared.listen_fault.ListenFault.TheVariants as listening
 use Rattle.counter_http.proofs.Outputs.{commands_of_first}
@@ -190,19 +191,20 @@ answered_left seen old new result did log h stood = leaves_weaker (seen new) _ _
     (commands_of_first (acknowledged (answers_to log did.taken) (length did.written)) did.taken) b)
     (did.survives h log stood)
 
--- ---- clients of a listener
+-- ---- clients that are served at once
 
-pub listened_is_stream : {C : Type 0} (seen : C → Seen) (reason : Fault → C → C → Type 0) (k k' : Option (List ℕ))
-    (old new : C) (count : ℕ) (result : Result (Unit {0}) ListenFault)
-    (did : ServesListener seen reason k k' old new count result) → ((seen old).is_down → ⊥)
+pub listened_is_stream : {C E : Type 0} (seen : C → Seen) (reason : Fault → C → C → Type 0) (known : E → Known)
+    (g g' : Option (List (ClientsCall E))) (k k' : Option (List ℕ)) (old new : C) (count : ℕ)
+    (result : Result (Unit {0}) ListenFault)
+    (did : ServesTogether seen reason known g g' k k' old new count result) → ((seen old).is_down → ⊥)
     → IsStream (seen old) (seen new) (submitted_by (steps_of did.rounds)) (submitted_by did.refused)
-listened_is_stream seen reason k k' old new count (Err (listening.Bank fault)) did up =
+listened_is_stream seen reason known g g' k k' old new count (Err (listening.Bank fault)) did up =
     refused_is_stream fault (seen old) (seen did.stood) (seen new) (submitted_by (steps_of did.rounds))
     (submitted_by did.refused) did.takes did.ends up (λ h. did.honest_first (did.honest h)) did.honest
-listened_is_stream seen reason k k' old new count (Err listening.Network) did up =
+listened_is_stream seen reason known g g' k k' old new count (Err listening.Network) did up =
     stays_is_stream seen old did.stood new (submitted_by (steps_of did.rounds)) (submitted_by did.refused)
     did.ends.1 did.takes up did.honest_first
-listened_is_stream seen reason k k' old new count (Ok done) did up =
+listened_is_stream seen reason known g g' k k' old new count (Ok done) did up =
     stays_is_stream seen old did.stood new (submitted_by (steps_of did.rounds)) (submitted_by did.refused)
     did.ends.1 did.takes up did.honest_first
 

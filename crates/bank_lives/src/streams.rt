@@ -1,6 +1,8 @@
 //! Streams as calls of a life. A stream makes many calls; what its contract says of them all is here one call
 //! of its life (`IsStream`): it took some commands, and may then have been refused others.
 ghost use Rattle.std.specs.Prelude.{◌≡◌, ◌≤◌, ◌++◌, ℕ, List, Option, Result, IfErr, drop, length, take};
+ghost use Rattle.counter_http.specs.Clients.{ClientsCall};
+ghost use Rattle.counter_http.specs.Connections.{known_ends};
 ghost use Rattle.posting_rules.specs.believed.Commands.{Command};
 ghost use Rattle.posting_rules.specs.believed.Counter.{LeavesOnly, ShowsLog, ShowsPrefix, StandsAt};
 ghost use Rattle.posting_rules.specs.believed.Runs.{replies_to};
@@ -12,8 +14,8 @@ ghost use Rattle.posting_core.specs.declared.stream.StreamFault.{StreamFault};
 ghost use Rattle.counter_http.specs.believed.Outputs.{acknowledged_records};
 ghost use Rattle.counter_http.specs.believed.Serving.{ServesConnection};
 ghost use Rattle.counter_http.specs.believed.Turns.{commands_of};
-ghost use Rattle.counter_http.specs.together.Listening.{ServesListener};
 ghost use Rattle.counter_http.specs.together.Order.{steps_of, submitted_by};
+ghost use Rattle.counter_http.specs.together.Tracing.{ServesTogether};
 ghost use Rattle.counter_http.specs.declared.fault.ServeFault.{ServeFault};
 ghost use Rattle.counter_http.specs.declared.listen_fault.ListenFault.{ListenFault};
 ghost use Rattle.branch_loader.specs.believed.Loading.{IsRefusedAfter};
@@ -22,6 +24,7 @@ ghost use Rattle.load_driver.specs.declared.drive.Driven.{Driven};
 ghost use Rattle.load_driver.specs.declared.drive_fault.DriveFault.{DriveFault};
 ghost use Rattle.bank_lives.specs.believed.Lives.{IsStream};
 
+use counter_http::Clients;
 use posting_rules::Counter;
 
 /// A stream over a counter that was up is a call of its life, whatever its result, by the contracts of
@@ -60,11 +63,13 @@ pub fn streams_law<C: Counter>(_counter: &C)
         → IsStream (C.seen old) (C.seen new) (posts_of did.submits.taken) (posts_of did.submits.refused) }
 {}
 
-/// So are clients that are served at once, by the contract of `serve_connections`: all that they sent is taken in
+/// So are clients that are served at once, by the contract of `serve_together`: all that they sent is taken in
 /// one order, and what was taken counts as acknowledged.
-pub fn clients_law<C: Counter>(_counter: &C)
-    ensures { (k k' : Option (List ℕ)) (old new : _) (count : ℕ) (result : Result (Unit {0}) ListenFault)
-        → (did : ServesListener C.seen C.reason k k' old new count result)
+pub fn clients_law<C: Counter, D: Clients>(_counter: &C, _clients: &D)
+    ensures { (g g' : Option (List (ClientsCall _))) (k k' : Option (List ℕ)) (old new : _) (count : ℕ)
+        → (result : Result (Unit {0}) ListenFault) → (did : ServesTogether C.seen C.reason
+        (known_ends D.Reader.remaining D.Reader.calls D.Reader.beside D.Writer.contents D.Writer.calls)
+        g g' k k' old new count result)
         → ((C.seen old).is_down → ⊥)
         → IsStream (C.seen old) (C.seen new) (submitted_by (steps_of did.rounds)) (submitted_by did.refused) }
 {}
