@@ -35,6 +35,8 @@ use Rattle.command_line.specs.declared.reading.Command.TheVariants as commands
 use Rattle.command_line.specs.declared.status.Status.TheVariants.{Differs, Done, Inconsistent, Input, System, Usage}
 use Rattle.load_driver.specs.believed.Drives.{Drives}
 use Rattle.load_driver.specs.declared.{drive.Driven.Driven, drive_fault.DriveFault.DriveFault}
+use Rattle.counter_http.specs.Clients.{ClientsCall}
+use Rattle.counter_http.specs.Connections.{Known}
 use Rattle.command_line.specs.Translating.{ended_by_replies, ended_by_sheet}
 use Rattle.command_line.specs.Working.{DrivesOver, LoadsAnswer, LoadsOver, ServesOver, TellsDrive, TellsLoad}
 use Rattle.command_line.specs.Working.{TellsServing, done_after, ended_by_load}
@@ -148,13 +150,14 @@ module _ (w w' : Option (List ℕ)) (end : Result Status CommandFault) where
   tells_serve address line (Ok done) ends = rw ends (refl, address, line)
   tells_serve address line (Err f) ends = rw ends (inr (address, inl line))
 
-  pub prints_serve : {C : Type 0} (seen : C → Seen) (reason : Fault → C → C → Type 0) (old new : C)
-      (k k' : Option (List ℕ)) (count : ℕ)
-      → ServesOver seen reason k k' w w' count (λ other. end ≡ other) old new → PrintsServe w w' end
-  prints_serve seen reason old new k k' count (inl none) = rw none.0 (inl none.1)
-  prints_serve seen reason old new k k' count (inr (address, inl part)) =
+  pub prints_serve : {C D E : Type 0} (seen : C → Seen) (reason : Fault → C → C → Type 0) (old new : C)
+      (IsBound : D → Type 0) (known : E → Known) (calls : D → Option (List (ClientsCall E))) (k k' : Option (List ℕ)) (count : ℕ)
+      → ServesOver seen reason IsBound known calls k k' w w' count (λ other. end ≡ other) old new → PrintsServe w w' end
+  prints_serve seen reason old new IsBound known calls k k' count (inl none) = rw none.0 (inl none.1)
+  prints_serve seen reason old new IsBound known calls k k' count (inr (clients, left, bound, address, inl part)) =
       rw part.0 (inr (address, inr (refl, part.1)))
-  prints_serve seen reason old new k k' count (inr (address, inr it)) = tells_serve address it.0 it.1 it.2
+  prints_serve seen reason old new IsBound known calls k k' count (inr (clients, left, bound, address, inr it)) =
+      tells_serve address it.0 it.1 it.2
 
 -- a stream never ends with a fault of a file
 not_of_file : {Q : Type 0} (f : StreamFault) → IsOfFile (fault_of_stream f) → Q

@@ -36,6 +36,8 @@ use Rattle.command_line.specs.CommandFaults.{IsOfFile, fault_of_bank, fault_of_s
 use Rattle.command_line.specs.Lines.{already_line, created_line, driven_line, listening_line, loaded_line}
 use Rattle.command_line.specs.Lines.{migrated_line, usable_line}
 use Rattle.command_line.specs.Statuses.{status_of_loaded}
+use Rattle.counter_http.specs.Clients.{ClientsCall}
+use Rattle.counter_http.specs.Connections.{Known}
 use Rattle.command_line.specs.Working.{DrivesOver, LoadsOver, ServesOver}
 use Rattle.command_line.specs.declared.queries.QueryFault.{QueryFault}
 use Rattle.command_line.specs.declared.fault.CommandFault.{CommandFault}
@@ -100,11 +102,12 @@ DrivesBank g conn back w w' k k' seed count end =
     FindsOver g conn back end ((w' ≡ w) × (k' ≡ k))
     (DrivesOver (bank_seen g) (bank_reason g) k k' w w' seed count (λ other. end ≡ other))
 
-abbrev pub Serves : {S : Type 0} (g : Ghosts S) → (conn back : Held S) → (w w' k k' : Option (List ℕ))
-    → (count : ℕ) → Result Status CommandFault → Type 0
-Serves g conn back w w' k k' count end =
+abbrev pub Serves : {S D E : Type 0} (g : Ghosts S) → (conn back : Held S) → (IsBound : D → Type 0) → (known : E → Known)
+    → (calls : D → Option (List (ClientsCall E))) → (w w' k k' : Option (List ℕ)) → (count : ℕ)
+    → Result Status CommandFault → Type 0
+Serves g conn back IsBound known calls w w' k k' count end =
     FindsOver g conn back end ((w' ≡ w) × (k' ≡ k))
-    (ServesOver (bank_seen g) (bank_reason g) k k' w w' count (λ other. end ≡ other))
+    (ServesOver (bank_seen g) (bank_reason g) IsBound known calls k k' w w' count (λ other. end ≡ other))
 
 -- ---- reports
 

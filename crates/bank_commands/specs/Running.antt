@@ -16,6 +16,8 @@ use Rattle.report_contents.specs.declared.audit.Audit.{Audit}
 use Rattle.bank_store.specs.declared.migration.Migrated.{Migrated}
 use Rattle.bank_replays.specs.declared.chain.Digest.{Digest}
 use Rattle.bank_replays.specs.declared.difference.Replay.{Replay}
+use Rattle.counter_http.specs.Clients.{ClientsCall}
+use Rattle.counter_http.specs.Connections.{Known}
 use Rattle.command_line.specs.Auditing.{Prints}
 use Rattle.command_line.specs.CommandLine.{bank_app}
 use Rattle.command_line.specs.CommandFaults.{status_of}
@@ -50,41 +52,43 @@ ALL_THAT_COME = 18_446_744_073_709_551_615
 
 -- ---- what a command does with the connection conn, which it hands back as back
 
--- IsNamed says of a source that it is that of the plan of a name, and known what is known of one
-abbrev pub DoesOver : {S P : Type 0} (g : Ghosts S) → (conn back : Held S) → (IsNamed : List ℕ → P → Type 0)
-    → (known : P → Option (List ℕ) × Option (List ReadCall)) → (r r' w w' k k' : Option (List ℕ))
+-- IsNamed says of a source that it is that of the plan of a name, and known what is known of one; IsBound says of clients
+-- that they come to an address, calls what is known of their calls, and ends what is known of the ends of one
+abbrev pub DoesOver : {S P D E : Type 0} (g : Ghosts S) → (conn back : Held S) → (IsNamed : List ℕ → P → Type 0)
+    → (known : P → Option (List ℕ) × Option (List ReadCall)) → (IsBound : List ℕ → D → Type 0) → (ends : E → Known)
+    → (calls : D → Option (List (ClientsCall E))) → (r r' w w' k k' : Option (List ℕ))
     → Command → Result Status CommandFault → Type 0
-DoesOver g conn back IsNamed known r r' w w' k k' (commands.Init file) end = Inits g conn back w w' end
-DoesOver g conn back IsNamed known r r' w w' k k' (commands.Load file plan) end =
+DoesOver g conn back IsNamed known IsBound ends calls r r' w w' k k' (commands.Init file) end = Inits g conn back w w' end
+DoesOver g conn back IsNamed known IsBound ends calls r r' w w' k k' (commands.Load file plan) end =
     Loads g conn back (IsNamed plan.now) known w w' end
-DoesOver g conn back IsNamed known r r' w w' k k' (commands.Post file) end =
+DoesOver g conn back IsNamed known IsBound ends calls r r' w w' k k' (commands.Post file) end =
     Posts g conn back r r' None None None None w w' None None k k' end
-DoesOver g conn back IsNamed known r r' w w' k k' (commands.Drive file seed count) end =
+DoesOver g conn back IsNamed known IsBound ends calls r r' w w' k k' (commands.Drive file seed count) end =
     DrivesBank g conn back w w' k k' seed count end
-DoesOver g conn back IsNamed known r r' w w' k k' (commands.Audit file) end = AuditsOver g conn back w w' end
-DoesOver g conn back IsNamed known r r' w w' k k' (commands.Statement file account query) end =
+DoesOver g conn back IsNamed known IsBound ends calls r r' w w' k k' (commands.Audit file) end = AuditsOver g conn back w w' end
+DoesOver g conn back IsNamed known IsBound ends calls r r' w w' k k' (commands.Statement file account query) end =
     StatesAsked g conn back account query w w' None None end
-DoesOver g conn back IsNamed known r r' w w' k k' (commands.Statements file query) end =
+DoesOver g conn back IsNamed known IsBound ends calls r r' w w' k k' (commands.Statements file query) end =
     StatesAllAsked g conn back query w w' None None end
-DoesOver g conn back IsNamed known r r' w w' k k' (commands.Serve file address connections) end =
-    Serves g conn back w w' k k' (unwrap_or connections ALL_THAT_COME) end
-DoesOver g conn back IsNamed known r r' w w' k k' (commands.Replay file) end =
+DoesOver g conn back IsNamed known IsBound ends calls r r' w w' k k' (commands.Serve file address connections) end =
+    Serves g conn back (IsBound address.now) ends calls w w' k k' (unwrap_or connections ALL_THAT_COME) end
+DoesOver g conn back IsNamed known IsBound ends calls r r' w w' k k' (commands.Replay file) end =
     ReplaysOver g conn back w w' None None end
-DoesOver g conn back IsNamed known r r' w w' k k' (commands.Digest file requests) end =
+DoesOver g conn back IsNamed known IsBound ends calls r r' w w' k k' (commands.Digest file requests) end =
     DigestsOver g conn back requests w w' None None end
-DoesOver g conn back IsNamed known r r' w w' k k' (commands.Export file after) end =
+DoesOver g conn back IsNamed known IsBound ends calls r r' w w' k k' (commands.Export file after) end =
     ExportsOver g conn back after w w' None None end
-DoesOver g conn back IsNamed known r r' w w' k k' (commands.Log file after) end =
+DoesOver g conn back IsNamed known IsBound ends calls r r' w w' k k' (commands.Log file after) end =
     LogsOver g conn back after w w' None None end
-DoesOver g conn back IsNamed known r r' w w' k k' (commands.Follow file plan) end =
+DoesOver g conn back IsNamed known IsBound ends calls r r' w w' k k' (commands.Follow file plan) end =
     Follows g conn back (IsNamed plan.now) known r r' None None w w' end
-DoesOver g conn back IsNamed known r r' w w' k k' (commands.Plan file) end =
+DoesOver g conn back IsNamed known IsBound ends calls r r' w w' k k' (commands.Plan file) end =
     PlansOver g conn back w w' None None end
-DoesOver g conn back IsNamed known r r' w w' k k' (commands.Migrate file) end = Migrates g conn back w w' end
-DoesOver g conn back IsNamed known r r' w w' k k' (commands.Why file) end = LooksOver g conn back w w' end
-DoesOver g conn back IsNamed known r r' w w' k k' commands.Encode end =
+DoesOver g conn back IsNamed known IsBound ends calls r r' w w' k k' (commands.Migrate file) end = Migrates g conn back w w' end
+DoesOver g conn back IsNamed known IsBound ends calls r r' w w' k k' (commands.Why file) end = LooksOver g conn back w w' end
+DoesOver g conn back IsNamed known IsBound ends calls r r' w w' k k' commands.Encode end =
     (back ≡ conn) × EncodesSheet r r' None None w w' None None end
-DoesOver g conn back IsNamed known r r' w w' k k' (commands.Decode money sheet) end =
+DoesOver g conn back IsNamed known IsBound ends calls r r' w w' k k' (commands.Decode money sheet) end =
     (back ≡ conn)
     × DecodesIn money (option_map (λ s. s.now) sheet) IsNamed known r r' None None w w' None None end
 

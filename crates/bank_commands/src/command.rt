@@ -1,5 +1,6 @@
 //! A command over a connection, by its words.
 ghost use Rattle.std.specs.Prelude.{◌≡◌, false};
+ghost use Rattle.counter_http.specs.Connections.{known_ends};
 ghost use Rattle.command_line.specs.Words.{AreInRange};
 ghost use Rattle.command_line.specs.Working.{known_source};
 ghost use Rattle.bank_commands.specs.Running.{DoesOver, LeavesClock, LeavesInput, Tells};
@@ -13,7 +14,6 @@ use crate::{
 use bank_replays::Watch;
 use branch_loader::FollowWatch;
 use command_line::{Command, Network, Plans, translate_replies, translate_sheet};
-use counter_http::ServeWatch;
 use posting_core::Clock;
 use sqlite::{Alter, Connection};
 use sqlite_trees::store::Store;
@@ -22,12 +22,12 @@ use std::io::{Read, Write};
 
 /// Does the command with the bank of a connection, whatever the command's file is, and hands the connection back. A
 /// command that needs no bank hands it back as it was given. It reaches plans, and sheets, by their names, the network, and who
-/// watches a replay, a log that is followed or the serving, and no file.
+/// watches a replay or a log that is followed, and no file.
 pub fn command_over<
     S: Alter + Drop,
     P: Plans,
     N: Network,
-    V: Watch + ServeWatch + FollowWatch + Drop,
+    V: Watch + FollowWatch + Drop,
     R: Read,
     W: Write,
     K: Clock,
@@ -45,7 +45,9 @@ pub fn command_over<
     requires mode { conn.in_transaction ≡ false }
     requires range { AreInRange command.now }
     ensures does { DoesOver S.Store conn result.conn (P.is_named plans.now)
-        (known_source P.Plan.remaining P.Plan.calls) (R.remaining input.old) (R.remaining input.new)
+        (known_source P.Plan.remaining P.Plan.calls) (N.is_bound network.now)
+        (known_ends N.Clients.Reader.remaining N.Clients.Reader.calls N.Clients.Reader.beside N.Clients.Writer.contents
+        N.Clients.Writer.calls) N.Clients.calls (R.remaining input.old) (R.remaining input.new)
         (W.contents output.old) (W.contents output.new) (K.readings clock.old) (K.readings clock.new)
         command.now result.end }
     ensures tells { Tells command.now (R.remaining input.old) (R.remaining input.new)
@@ -80,7 +82,7 @@ pub fn command_over<
             ..
         } => {
             let most = connections.unwrap_or(u64::MAX);
-            serve_over(alloc, conn, network, address, most, watch, output, clock)
+            serve_over(alloc, conn, network, address, most, output, clock)
         }
         Command::Migrate { .. } => migrate_over(alloc, conn, output),
         Command::Why { .. } => why_over(alloc, conn, output),

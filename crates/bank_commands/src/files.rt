@@ -8,6 +8,7 @@ ghost use Rattle.bank_commands.specs.Running.{LeavesClock, LeavesInput, PrintsNo
 
 use crate::command::command_over;
 use crate::ended::Ended;
+use crate::network::HostNetwork;
 use crate::notes::Notes;
 use crate::opened::tell_opened;
 use crate::progress::Progress;
@@ -121,7 +122,7 @@ pub(crate) fn command_in<S: Start, R: Read, W: Write, K: Clock>(
         conn,
         command,
         &PlanFiles::new(rt),
-        rt,
+        &HostNetwork::new(rt),
         watch,
         input,
         output,

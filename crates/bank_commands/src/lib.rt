@@ -63,6 +63,7 @@ mod ended;
 mod files;
 mod following;
 mod migration;
+mod network;
 mod notes;
 mod opened;
 mod progress;

@@ -4,7 +4,7 @@ use bank_replays::Watch;
 use branch_loader::FollowWatch;
 use counter_http::ServeWatch;
 use posting_core::{Clock, Count};
-use std::io::Write;
+use std::io::{self, Write};
 
 /// Says on standard error how far a replay, a log that is followed or the serving is, where that is a terminal: a line
 /// that is written over, once a second at most, and wiped at the end. One that can't be written is given up.
@@ -73,6 +73,12 @@ impl<E: Write, K: Clock> ServeWatch for Progress<E, K> {
                 self.faults,
                 "\r{connected:>3} connected, {postings:>12} postings"
             );
+        }
+    }
+
+    fn lacking(&mut self, error: &io::Error) {
+        if self.is_terminal && self.is_due() {
+            let _ = writeln!(self.faults, "\rnobody can be taken in now: {error}");
         }
     }
 

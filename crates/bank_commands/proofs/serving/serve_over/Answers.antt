@@ -34,7 +34,7 @@ returns g c =
             (call_spares g.S.Store c.in-Ok.bank c.listen.new.bank it.spares) c.release.ensures.same,
       );
       prints = prints_serve _ _ c.done-end.result (bank_seen g.S.Store) (bank_reason g.S.Store) c.in-Ok.bank
-          c.listen.new.bank (g.K.Clock.readings c.args.clock.now) (g.K.Clock.readings c.listen.new.clock)
+          c.listen.new.bank _ _ _ (g.K.Clock.readings c.args.clock.now) (g.K.Clock.readings c.listen.new.clock)
           c.args.connections (rw c.done-end.ensures it.serves);
       unprinted = rw c.done-end.ensures (done_not_written c.listen.result it.unprinted);
       idle = c.release.ensures.idle;
