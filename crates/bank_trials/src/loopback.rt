@@ -3,14 +3,13 @@ ghost use Rattle.std.specs.Prelude.{◌≡◌, false};
 
 use bank_commands::{Ended, serve_over};
 use command_line::Network;
-use counter_http::ServeWatch;
+use counter_http::{ServeWatch, TcpClients};
 use posting_core::StoredClock;
 use sqlite::{Alter, Connection};
 use std::alloc::{Alloc, Global};
 use std::cell::Cell;
 use std::io;
 use std::net::{Shutdown, SocketAddr, TcpListener, TcpStream};
-use std::time::{Clock, Duration};
 
 /// A network on which each client has sent its message, once a listener is bound.
 #[derive(Drop)]
@@ -44,31 +43,26 @@ impl<'a> Alloc for Clients<'a> {
     }
 }
 
-impl<'a> Clock for Clients<'a> {
-    fn monotonic(&self) -> io::Result<Duration> {
-        self.rt.monotonic()
-    }
-
-    fn since_1970(&self) -> io::Result<Duration> {
-        self.rt.since_1970()
-    }
-}
-
 impl<'a> Network for Clients<'a> {
-    fn bind(&self, address: &str) -> io::Result<TcpListener> {
+    type Clients = TcpClients<'a, HostRuntime, Unseen>;
+
+    fn bind(&self, address: &str) -> io::Result<(Self::Clients, SocketAddr)> {
         let listener = TcpListener::bind(self.rt, address)?;
-        let streams = send_all(self.rt, listener.local_addr()?, self.messages.as_slice())?;
+        let bound = listener.local_addr()?;
+        let streams = send_all(self.rt, bound, self.messages.as_slice())?;
         self.streams.set(Some(streams));
-        Ok(listener)
+        Ok((TcpClients::new(self.rt.alloc(), listener, self.rt, Unseen)?, bound))
     }
 }
 
 // Nobody watches.
 #[derive(Drop)]
-struct Unseen;
+pub struct Unseen;
 
 impl ServeWatch for Unseen {
     fn served(&mut self, _connected: usize, _postings: u64) {}
+
+    fn lacking(&mut self, _error: &io::Error) {}
 
     fn ended(&mut self) {}
 }
@@ -118,7 +112,6 @@ pub fn serve_clients<S: Alter + Drop>(
         clients,
         "127.0.0.1:0",
         count,
-        Unseen,
         output,
         &mut clock,
     )

@@ -20,7 +20,7 @@ pub fn first_connections<R: Read, W: Write>(
     let client = TcpStream::connect(rt, listener.local_addr()?)?;
     io::copy(input, &mut &client)?;
     client.shutdown(Shutdown::Write)?;
-    serve_connections(rt, &listener, 2, &mut clock, &mut bank)?;
+    serve_connections(rt, listener, 2, &mut clock, &mut bank)?;
     io::copy(&mut &silent, output)?; // nothing
     io::copy(&mut &client, output)?;
     Ok(())
