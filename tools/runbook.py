@@ -9,7 +9,6 @@ a whole machine. At each end every posting that was answered stands in the bank.
 It needs root, the built program, and Debian's nginx, nftables, apache2-utils, openssl, sqlite3, curl, logrotate, psmisc,
 rsync and openssh-server. It is bounded in time, uses no network, and stands outside the gate. Each unit is 2 or better by
 `systemd-analyze security`."""
-import contextlib
 import os
 import re
 import shutil
