@@ -6,17 +6,13 @@
 #     bench/program.sh branches [COUNT]                on 1, 10, 40 and 100 branches (BRANCHES: other counts) of 100,000
 #                                                      accounts: `load`, opening (`post` of no record), `drive` of COUNT
 #                                                      records (200,000), opening after them, and `audit`
-#     bench/program.sh replay [POSTINGS [ACCOUNTS]]    `replay` of a million postings on 100,000 accounts, without a disk:
-#                                                      at most three times the processor of `drive`, and two openings' memory
-#     bench/program.sh follow [COUNT]                  `post` of a million records, as of `records`, and then `log` of that
-#                                                      file in a pipe to `follow` of a second one: at most 1.3 times as long
 #
 # It needs Python and GNU time, and stands outside the gate. TMPDIR picks the disk, BANK names another program.
 set -eu
 here=$(cd "$(dirname "$0")/.." && pwd)
 bank=${BANK:-$here/crates/bank/out/bank}
 test -x "$bank" || { echo "program.sh: build the program first: (cd crates/bank && rt run -- --help)" >&2; exit 2; }
-work=$(mktemp -d -p "$(if [ "${1:-}" = replay ]; then echo "${TMPDIR:-/dev/shm}"; else echo "${TMPDIR:-/tmp}"; fi)")
+work=$(mktemp -d)
 trap 'rm -rf "$work"' EXIT
 cd "$work"
 
@@ -68,31 +64,7 @@ branches() {
     done
 }
 
-replay() {
-    begin 1 "${2:-100000}"
-    timed drive bank.db --seed 7 --count "${1:-1000000}"
-    is_driven "${1:-1000000}"
-    timed post bank.db </dev/null
-    timed replay bank.db
-    test "$(tail -n 1 said)" = AGREES
-    for it in drive post replay; do tell $it; done
-    awk '{ seconds[FILENAME] = $2 + $3; memory[FILENAME] = $4 }
-        END { printf("replay: %.2f times the processor of drive, %.2f times the memory of an opening\n",
-            seconds["replay"] / seconds["drive"], memory["replay"] / memory["post"]) }' drive post replay
-}
-
-follow() {
-    local count=${1:-1000000}
-    posted "$count"
-    "$bank" init second.db >said
-    command time -f '%e %U %S %M' -o log "$bank" log bank.db | timed follow second.db plan.csv
-    cmp <("$bank" digest bank.db "$count") <("$bank" digest second.db "$count")
-    for it in log follow; do tell $it; done
-    awk '{ seconds[FILENAME] = $1 } END { printf("follow: %.2f times as long as post\n", seconds["follow"] / seconds["post"]) }' \
-        post log follow
-}
-
 case "${1:-}" in
-records | branches | replay | follow) what=$1; shift; "$what" "$@" ;;
-*) echo "program.sh: records, branches, replay or follow" >&2; exit 2 ;;
+records | branches) what=$1; shift; "$what" "$@" ;;
+*) echo "program.sh: records or branches" >&2; exit 2 ;;
 esac

@@ -5,9 +5,8 @@ Each file is a bank of drawn branches, some with floors, some opened between rec
 refused, some with references and some that come again, and driven ones; beside its tables is one of somebody else. A
 third are then set back to version 1 or 2 by SQL, and migrated, with the rows that they had. Half are changed by SQL, in
 ways that are drawn too. To SQLite's library the file is sound, and the other table as it was. What `replay`, `digest`
-and `audit` say has to be to the byte what the oracle says, as has the status. Where a file agrees, a second bank is made
-from its plan and its records, which agrees too; then its postings get drawn moments, and what `statement` and
-`statements` say of drawn days has to be what the oracle says.
+and `audit` say has to be to the byte what the oracle says, as has the status. Where a file agrees its postings then get
+drawn moments, and what `statement` and `statements` say of drawn days has to be what the oracle says.
 
     tools/drawn_files.py [FILES [SEED]]
 """
@@ -144,21 +143,6 @@ def compare(file, words, lines, status):
         fail(file, f"{' '.join(words)}: {told}, not {wanted}")
 
 
-def again(work, file, requests):
-    """A second bank from the plan and the records of one, in which each branch is open before the first record."""
-    records = done("export", file)
-    if len(records) != 100 * requests:
-        fail(file, f"{len(records)} bytes of records, not {requests} records")
-    second = file + ".second"
-    with open(os.path.join(work, "second.csv"), "wb") as out:
-        out.write(done("plan", file))
-    done("init", second)
-    done("load", second, os.path.join(work, "second.csv"))
-    done("post", second, data=records)
-    if len(done("export", second)) != len(records) or run("replay", second)[2]:
-        fail(file, "its second bank")
-
-
 def draw_word(draw, *words):
     return draw.choice(["", "", *words])
 
@@ -210,7 +194,6 @@ def main():
                 some = draw.randint(0, len(requests))
                 compare(file, ("digest", file, str(some)), oracle.digest_lines(requests[:some]), 0)
                 compare(file, ("digest", file, str(len(requests) + 1)), [f"bank: no request {len(requests) + 1}"], 4)
-                again(work, file, len(requests))
                 state(file, draw)
     print(f"drawn_files: {files} files, of which {agree} agree and {consistent} are consistent: each replay and each "
           "audit is that of tools/oracle.py")

@@ -6,11 +6,10 @@ nothing had happened: each acknowledged posting stands once, with its first repl
 
 posts           `post` is killed at random moments (LIVES times), and sent again from the first record with no reply
 serves          the same of `serve`, by TELLERS clients at once, each with 8 messages on their way
-inits           `init` is stopped at each call that writes or syncs, and made again where there is no bank; needs strace
-full, taken_away, unreadable
-                the disk is full, files lose their names or can't be read. What is told is a store fault, and a prefix of
-                the replies was written; once the cause is mended the same records get the replies of a run that nothing
-                disturbed, the audit is CONSISTENT, and the tables are those of that run. Needs root
+full, unreadable
+                the disk is full, or files can't be read. What is told is a store fault, and a prefix of the replies was
+                written; once the cause is mended the same records get the replies of a run that nothing disturbed, the
+                audit is CONSISTENT, and the tables are those of that run. Needs root
 
 LIVES, RECORDS and TELLERS in the environment say how often, of how many records, and by how many."""
 import os
@@ -22,8 +21,7 @@ import tempfile
 import threading
 import time
 
-from serve_client import (BANK, Failed, Sender, Server, clear, ensure, make_bank, need_program, post, record, rows_of,
-                          run)
+from serve_client import BANK, Failed, Sender, Server, ensure, make_bank, need_program, post, record, rows_of, run
 
 LIVES, RECORDS, TELLERS = (int(os.environ.get(name, usual)) for name, usual in
                            (("LIVES", 100), ("RECORDS", 20_000), ("TELLERS", 16)))
@@ -31,7 +29,7 @@ AHEAD = 8
 
 PLAN = [(1, 3), (2, 200)]
 ACCOUNTS = [1, 2, 3, 100001, 100050, 100200]
-STORE, NO_BANK = b"bank: store fault\n", b"bank: no bank\n"
+STORE = b"bank: store fault\n"
 NOBODY = 65534
 
 
@@ -120,30 +118,6 @@ def killed(bench, file):
     process.wait()
     process.stdin.close()
     process.stdout.close()
-
-
-def taken_away(bench):
-    """Both files lose their names while a run answers, and get them back behind it: all that it answered is found."""
-    bench.cause = "files that lose their names beneath a run"
-    # The replies to the first part wait in a pipe, which has no room for more.
-    for part in range(0, 76_000, 4_000):
-        file = bench.new_bank("beneath")
-        process = subprocess.Popen([BANK, "post", file], stdin=subprocess.PIPE, stdout=subprocess.PIPE,
-                                   stderr=subprocess.PIPE)
-        process.stdin.write(bench.given[:part])
-        process.stdin.flush()
-        time.sleep(0.02)
-        kept = [end for end in ("", "-wal") if os.path.exists(file + end)]
-        for end in kept:
-            os.link(file + end, file + ".kept" + end)
-            os.remove(file + end)
-        output, fault = process.communicate(bench.given[part:])
-        bench.runs += 1
-        bench.is_told((process.returncode, output, fault))
-        clear(file)
-        for end in kept:
-            os.rename(file + ".kept" + end, file + end)
-        bench.is_mended(file)
 
 
 def unreadable(bench):
@@ -236,28 +210,7 @@ def serves(bench):
     bench.note(0, b"each is posted once, with its first reply")
 
 
-def inits(bench):
-    """Stops `init` at each call that writes or syncs."""
-    file, found, stops = bench.path + "/made.db", 0, 0
-    for call in ("pwrite64", "ftruncate", "fdatasync", "fsync"):
-        for at in range(1, 1000):
-            clear(file)
-            stopped = subprocess.run(["strace", "-f", "-o", bench.path + "/trace", "-e",
-                                      f"inject={call}:error=EIO:signal=KILL:when={at}", BANK, "init", file],
-                                     capture_output=True, check=False)
-            if stopped.returncode == 0:
-                break
-            stops += 1
-            told = run("post", file)
-            found += told[2] == 0
-            if told[2]:
-                ensure(told[1] == NO_BANK and run("init", file)[2] == 0, f"{call} {at}: {told}")
-            ensure(run("load", file, bench.path + "/whole.db.csv")[2] == 0, f"{call} {at}: not loaded")
-    bench.cause = f"{stops} stops of init"
-    bench.note(0, b"after %d of them the bank was there, after the others none, and it was made" % found)
-
-
-CAUSES = (posts, serves, inits, full, taken_away, unreadable)
+CAUSES = (posts, serves, full, unreadable)
 
 
 def main():

@@ -7,7 +7,6 @@ bank that runs, copy both files and ask the copy.
 
     tools/oracle.py FILE        prints what `bank replay FILE` prints, and ends with its status
     tools/oracle.py FILE N      prints what `bank digest FILE N` prints
-    tools/oracle.py FILE N log  writes what `bank log FILE --after N` writes
 """
 import csv
 import datetime
@@ -491,10 +490,6 @@ def statement(file, aid, first="", last="", zone="", reference="", layout=""):
 
 
 def main():
-    if sys.argv[3:] == ["log"]:
-        requests = list(requests_of(tables_of(sys.argv[1])))[int(sys.argv[2]):]
-        sys.stdout.buffer.write(b"".join(entry_of(*kept) for kept in requests))
-        return
     if len(sys.argv) > 2:
         requests, first = list(requests_of(tables_of(sys.argv[1]))), int(sys.argv[2])
         few = first > len(requests)

@@ -2,7 +2,7 @@
 """Tries examples/teller.html in real browsers, behind nginx as in examples/nginx.conf, with the real counter: a teller
 who uses the keyboard alone enters postings while the counter, nginx and the browser are killed at random. Each is
 posted once, with the amounts and the balances that the page shows. Before that come the page's words for what is
-refused, undoing, a second tab, and another server's page that tries to post.
+refused, undoing, and a second tab.
     tools/teller_page.py [POSTINGS [KILLS [BROWSER]]]
                                      in Chromium and Firefox, as far as they are installed, or in one of them; 300
                                      postings, and 100 kills of the counter, 10 of nginx and 7 of the browser
@@ -12,7 +12,6 @@ It needs nginx, openssl, and Debian's `chromium-driver` or `firefox-esr`, and us
 import base64
 import contextlib
 import hashlib
-import http.server
 import json
 import os
 import random
@@ -226,34 +225,6 @@ class Page:
         self.browser = None
 
 
-def strangers_page(place, page):
-    """Another server's page tries to post as the teller who is signed in, with what such a page may send."""
-    class Answer(http.server.BaseHTTPRequestHandler):
-        def do_GET(self):
-            self.send_response(200)
-            self.send_header("Content-Type", "text/html")
-            self.end_headers()
-            self.wfile.write(b"<title>A stranger</title>")
-
-        def log_message(self, *_):
-            pass
-
-    body = record(1, 1, 1, 77, 7777).decode()
-    with http.server.ThreadingHTTPServer(("127.0.0.1", 0), Answer) as server:
-        threading.Thread(target=server.serve_forever, daemon=True).start()
-        page.browser.open(f"http://localhost:{server.server_port}/")
-        for more in ("mode: 'no-cors'", "mode: 'no-cors', headers: {'Content-Type': 'text/plain'}",
-                     "headers: {'Content-Type': 'application/octet-stream'}"):
-            page.browser.run(f"fetch('{place.address(path='/post')}', {{method: 'POST', credentials: 'include', body: "
-                             f"{json.dumps(body)}, {more}}}).then(got => got.type, fault => String(fault))")
-        server.shutdown()
-    with open(place.folder + "/access.log", encoding="utf-8") as log:
-        tries = [line.split('"') for line in log if f'"http://localhost:{server.server_port}/"' in line]
-    # A browser asks before it sends the third.
-    same("another server's page", [(it[1].split()[0], it[2].split()[0]) for it in tries],
-         [("POST", "403"), ("POST", "403"), ("OPTIONS", "405")])
-
-
 def words(place, page):
     """What the page says of refusals, and all else that it does beside sending."""
     page.sign_in("teller11", "counter11")
@@ -341,7 +312,6 @@ def words(place, page):
     page.until("a second tab", "document.getElementById('who').textContent.includes('another tab')")
     same("its form", page.browser.run(element("form") + ".hidden"), True)
     page.browser.close_tab(before)
-    strangers_page(place, page)
     page.kill()
 
 
