@@ -25,7 +25,7 @@ def shown(book, path):
     holder, number = path[1:].split("/")
     if holder == "log":
         after = int(number)
-        kept = oracle.requests_of(book.rows)[after:after + 192]
+        kept = list(oracle.requests_of(book.rows))[after:after + 192]
         return without_moments(b"".join(oracle.entry_of(*it) for it in kept)) if after <= book.decided else NONE
     row = book.rows[holder].get(int(number))
     return b"%s %s balance %d\n" % (holder.encode(), number.encode(), *row) if row else NONE

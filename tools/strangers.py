@@ -74,7 +74,7 @@ def guesses(place, tls):
     with connect(tls, place.front) as connection:
         connection.sendall(with_fields(asking(b"/branches"), (signed_in(2),)))
         last = read_answer(connection, b"")[0]
-    is_well = 150 < looked_at <= most and looked_at + statuses.count(429) == 300
+    is_well = 50 < looked_at <= most and looked_at + statuses.count(429) == 300
     return [] if is_well and last in (200, 429) else [f"{looked_at} of 300 wrong passwords are looked at"]
 
 
