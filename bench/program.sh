@@ -6,8 +6,7 @@
 #     bench/program.sh branches [COUNT]                on 1, 10, 40 and 100 branches (BRANCHES: other counts) of 100,000
 #                                                      accounts: `load`, opening (`post` of no record), `drive` of COUNT
 #                                                      records (200,000), opening after them, and `audit`
-#
-# It needs Python and GNU time, and stands outside the gate. TMPDIR picks the disk, BANK names another program.
+# It needs Python and GNU time. TMPDIR picks the disk, BANK names another program.
 set -eu
 here=$(cd "$(dirname "$0")/.." && pwd)
 bank=${BANK:-$here/crates/bank/out/bank}

@@ -4,7 +4,7 @@ answer: this program, another (BEFORE names it), and pgbench's TPC-B script on P
 that go from one to the other. On a disk (TMPDIR), without one, and with syncs that take 5 milliseconds longer, for all
 alike. It prints a row for each: the medians of postings a second, and of the median, the 99th percentile and the latest
 answer in microseconds, and the ratio to the program before and to one client. Each run's bank is audited, and has as many
-postings as were answered. It needs the built program and a C compiler.
+postings as were answered.
 
     bench/serve.py [ROUNDS [SECONDS [CLIENTS,.. [IDLE]]]]        IDLE clients beside them say nothing
     bench/serve.py beside [SECONDS]    how long tellers wait who post so often, 20 and 100 of them, alone, and 20 beside

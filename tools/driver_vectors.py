@@ -2,7 +2,6 @@
 """The first requests of a load driver, made from the published definitions of its generators.
 
 It shares no code with the crate `load_driver`, whose tests have its output as expected values.
-
 - PCG32 (XSH-RR 64/32) and PCG64 (XSL-RR 128/64): O'Neill, "PCG: A Family of Simple Fast Space-Efficient
   Statistically Good Algorithms for Random Number Generation", as Lcg64Xsh32 and Lcg128Xsl64 of the crate rand_pcg.
 - seed_from_u64: as rand_core gives it to a generator with no rule of its own: the seed's bytes are words of PCG32.
@@ -11,7 +10,6 @@ It shares no code with the crate `load_driver`, whose tests have its output as e
 usage: driver_vectors.py SEED COUNT BRANCH:ACCOUNTS..
 """
 import sys
-
 import oracle
 
 MASK32, MASK64 = 2**32 - 1, 2**64 - 1

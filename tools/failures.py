@@ -4,13 +4,10 @@ nothing had happened: each acknowledged posting stands once, with its first repl
 
     tools/failures.py [CAUSE..]      all causes, or these
 
-posts           `post` is killed at random moments (LIVES times), and sent again from the first record with no reply
-serves          the same of `serve`, by TELLERS clients at once, each with 8 messages on their way
-full, unreadable
-                the disk is full, or files can't be read. What is told is a store fault, and a prefix of the replies was
-                written; once the cause is mended the same records get the replies of a run that nothing disturbed, the
-                audit is CONSISTENT, and the tables are those of that run. Needs root
-
+posts       `post` is killed at random moments (LIVES times), and sent again from the first record with no reply
+serves      the same of `serve`, by TELLERS clients at once, each with 8 messages on their way
+full, unreadable    What is told is a store fault, and a prefix of the replies was written; once the cause is mended the same
+            records get the replies of a run that nothing disturbed, and its tables stand. Needs root
 LIVES, RECORDS and TELLERS in the environment say how often, of how many records, and by how many."""
 import os
 import random

@@ -1,8 +1,6 @@
 #!/usr/bin/env python3
 """Eight connections to a running `bank serve` at once, beside the rules of tools/oracle.py: what one of them asks after
-another was answered has to show it, and the order that the log has of postings at once is the one of their replies. It
-needs the built program, and stands outside the gate.
-
+another was answered has to show it, and the order that the log has of postings at once is the one of their replies.
     tools/http_model.py [COUNT] [SEED]
 """
 import random

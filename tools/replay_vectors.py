@@ -6,7 +6,6 @@ such a step, up to the last one, and prints what `stdout` has to have there, and
 `balance` and `number`. With --check it ends with status 1 unless `stdout` has it. That a call meets a fault, and which, is
 taken from `stdout`. Mixed records are drawn as in `bank_scenarios/src/draws`; those of the driver are made by
 tools/driver_vectors.py.
-
     tools/replay_vectors.py [--check]
 """
 import re
@@ -232,7 +231,7 @@ def main():
             elif lines[place] != said:
                 print(f"replay_vectors: {head}: step {place + 1}: {said}")
                 wrong += 1
-    sys.exit(1 if wrong else 0)
+    sys.exit(wrong > 0)
 
 
 if __name__ == "__main__":

@@ -4,11 +4,8 @@ namespaces of this one with a root of their own over its system, a link between 
 the package of the built program. Between the pages something is broken: the file's rights, its rows, room on the disk,
 a whole machine. At each end every posting that was answered stands in the bank.
 
-    tools/runbook.py
-
-It needs root, the built program, and Debian's nginx, nftables, apache2-utils, openssl, sqlite3, curl, logrotate, psmisc,
-rsync and openssh-server. It is bounded in time, uses no network, and stands outside the gate. Each unit is 2 or better by
-`systemd-analyze security`."""
+It needs root, and Debian's nginx, nftables, apache2-utils, openssl, sqlite3, curl, logrotate, psmisc, rsync and
+openssh-server. Each unit is 2 or better by `systemd-analyze security`."""
 import os
 import re
 import shutil

