@@ -10,7 +10,7 @@ set -eu
 cd "$(dirname "$0")/.."
 bank=crates/bank/out/bank
 
-echo "Proving and building the program: some 36 minutes on four cores if nothing is cached"
+echo "Proving and building the program: some 55 minutes on four cores if nothing is cached"
 python3 tools/build.py bank
 
 play() {
