@@ -2,12 +2,16 @@
 #![tactic(auto)]
 
 mod cell_log;
+mod etcd;
+mod first_log;
 mod first_machine;
 mod scenes;
 
+use etcd::play_etcd;
 use scenes::play;
 use std::io;
 
 fn main(rt: HostRuntime) -> io::Result<()> {
-    play(rt)
+    play(rt)?;
+    play_etcd(rt)
 }
