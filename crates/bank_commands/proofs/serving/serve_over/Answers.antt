@@ -1,5 +1,5 @@
 -- The bank that was found is the one that connections were served by.
-use Rattle.std.proofs.{Common.inl, Common.inr, Common.refl, KnownBytes.Keeps-refl, lemmas.Result.err_from_is_err_and}
+use Rattle.std.proofs.{Common.inl, Common.inr, Common.refl, Common.sym, KnownBytes.Keeps-refl, lemmas.Result.err_from_is_err_and}
 use Rattle.bank_store.specs.believed.{Down.bank_reason, Seen.bank_seen}
 use Rattle.bank_store.proofs.Spared.{call_spares}
 use Rattle.bank_commands.proofs.Spared.{found_spares, refused_spares}
@@ -35,7 +35,7 @@ returns g c =
       );
       prints = prints_serve _ _ c.done-end.result (bank_seen g.S.Store) (bank_reason g.S.Store) c.in-Ok.bank
           c.listen.new.bank _ _ _ (g.K.Clock.readings c.args.clock.now) (g.K.Clock.readings c.listen.new.clock)
-          c.args.connections (rw c.done-end.ensures it.serves);
+          c.args.connections (rw (sym c.done-end.ensures) at it.serves);
       unprinted = rw c.done-end.ensures (done_not_written c.listen.result it.unprinted);
       idle = c.release.ensures.idle;
     }
