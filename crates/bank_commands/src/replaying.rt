@@ -4,9 +4,7 @@ ghost use Rattle.bank_commands.specs.Replaying.{DigestsOver, ExportsOver, PlansO
 ghost use Rattle.bank_commands.specs.Replaying.{ReplaysOver, ended_by_writing, ended_with};
 
 use crate::ended::{Ended, find};
-use bank_replays::{
-    Digest, Replay, ReplayFault, Watch, digest, export, replay, write_plan,
-};
+use bank_replays::{Digest, Replay, ReplayFault, Watch, digest, export, replay, write_plan};
 use command_line::{CommandFault, Status, print_agreeing, print_differing, print_digest};
 use posting_core::{Fault, Sink};
 use sqlite::{Alter, Connection};

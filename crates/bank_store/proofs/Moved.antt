@@ -54,44 +54,44 @@ unmoved_known g old new e why = elim (cases_Bool (of_the_store e)) [
 -- ---- the version is written
 
 module _ (from : ℕ) (earlier : IsEarlier from) (old mid new : State) (made : LackingAreMade from old.now mid.now)
-    where
-  moved_tables : SetsVersion VERSION mid new (Ok true) → (t : Tables) → ShowsLess from old.now t
-      → Shows new.now t × SparesStanding old.now new.now meta.name
-  moved_tables set t was =
-      let done = set.1 (pos from) t (made.tables t was) in
-      let holds = held old.now (tables_of from) (contents_of from t) was.shows.each 0 meta
-      (meta_entry (pos from) t.decided ∷ []) (meta_there from) refl in
-      let place = made.places meta _ refl holds in (
-        record { sound = done.0.sound; each = done.0.each },
-        λ u stands apart.
-            let then = done.2 u (made.keeps.stands u stands) (λ same. apart (same ∙ place)) in
-            (then.0, then.1 ∙ made.keeps.rows u stands.listed),
-      )
+  where
+    moved_tables : SetsVersion VERSION mid new (Ok true) → (t : Tables) → ShowsLess from old.now t
+        → Shows new.now t × SparesStanding old.now new.now meta.name
+    moved_tables set t was =
+        let done = set.1 (pos from) t (made.tables t was) in
+        let holds = held old.now (tables_of from) (contents_of from t) was.shows.each 0 meta
+        (meta_entry (pos from) t.decided ∷ []) (meta_there from) refl in
+        let place = made.places meta _ refl holds in (
+          record { sound = done.0.sound; each = done.0.each },
+          λ u stands apart.
+              let then = done.2 u (made.keeps.stands u stands) (λ same. apart (same ∙ place)) in
+              (then.0, then.1 ∙ made.keeps.rows u stands.listed),
+        )
 
-  -- whatever the rows
-  moved_rows : SparesAllBut (meta.name ∷ []) mid.now new.now → KeepsRows old.now new.now
-  moved_rows spares u stands apart =
-      let stood = made.keeps.stands u stands in (
-        subst (λ s. Stands s u) (sym spares.schema) stood,
-        spares.rows u stood ((λ same. apart (same ∙ ap (λ s. tree_of s meta.name) (sym spares.schema))), tt)
-            ∙ made.keeps.rows u stands.listed,
-      )
+    -- whatever the rows
+    moved_rows : SparesAllBut (meta.name ∷ []) mid.now new.now → KeepsRows old.now new.now
+    moved_rows spares u stands apart =
+        let stood = made.keeps.stands u stands in (
+          subst (λ s. Stands s u) (sym spares.schema) stood,
+          spares.rows u stood ((λ same. apart (same ∙ ap (λ s. tree_of s meta.name) (sym spares.schema))), tt)
+              ∙ made.keeps.rows u stands.listed,
+        )
 
-  pub moved : SetsVersion VERSION mid new (Ok true) → SparesAllBut (meta.name ∷ []) mid.now new.now
-      → ChangesTables from old.now new.now (Ok tt)
-  moved set spares = (
-    moved_tables set,
-    moved_rows spares,
-    λ all. subst HasBankTables (sym spares.schema) (completed from old.now mid.now earlier all made),
-  )
+    pub moved : SetsVersion VERSION mid new (Ok true) → SparesAllBut (meta.name ∷ []) mid.now new.now
+        → ChangesTables from old.now new.now (Ok tt)
+    moved set spares = (
+      moved_tables set,
+      moved_rows spares,
+      λ all. subst HasBankTables (sym spares.schema) (completed from old.now mid.now earlier all made),
+    )
 
-  none_there : (o : Option StoredMeta) → false ≡ is_some o → o ≡ None
-  none_there None h = refl
-  none_there (Some x) h = absurd (cc)
+    none_there : (o : Option StoredMeta) → false ≡ is_some o → o ≡ None
+    none_there None h = refl
+    none_there (Some x) h = absurd (cc)
 
-  pub not_there : SetsVersion VERSION mid new (Ok false) → IsUnmoved from old.now (Damaged Meta)
-  not_there set rows has = none_there (meta_in rows)
-      (set.0 rows (record { sound = made.empty.sound; holds = made.holds meta rows refl has.holds }))
+    pub not_there : SetsVersion VERSION mid new (Ok false) → IsUnmoved from old.now (Damaged Meta)
+    not_there set rows has = none_there (meta_in rows)
+        (set.0 rows (record { sound = made.empty.sound; holds = made.holds meta rows refl has.holds }))
 
 -- ---- what is kept
 

@@ -184,8 +184,7 @@ impl<S: Alter> Bank<S> {
     /// was made or taken up, and no call changes a definition.
     pub fn tables_law(&self)
         ensures { HasFileTables S.Store (connection_of self.now) }
-    {
-    }
+    {}
 
     /// The allocator that the bank was made or taken up with.
     #[must_use]

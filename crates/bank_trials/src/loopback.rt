@@ -51,7 +51,10 @@ impl<'a> Network for Clients<'a> {
         let bound = listener.local_addr()?;
         let streams = send_all(self.rt, bound, self.messages.as_slice())?;
         self.streams.set(Some(streams));
-        Ok((TcpClients::new(self.rt.alloc(), listener, self.rt, Unseen)?, bound))
+        Ok((
+            TcpClients::new(self.rt.alloc(), listener, self.rt, Unseen)?,
+            bound,
+        ))
     }
 }
 

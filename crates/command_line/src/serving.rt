@@ -53,10 +53,7 @@ pub fn listen<N: Network, C: Followed, W: Sink, K: Clock>(
 }
 
 // The clients that come to the address, and the line that says where it is bound.
-fn bind<N: Network>(
-    network: &N,
-    address: &str,
-) -> Result<(N::Clients, ListeningLine), CommandFault>
+fn bind<N: Network>(network: &N, address: &str) -> Result<(N::Clients, ListeningLine), CommandFault>
     ensures bound { IfOk result (λ it. N.is_bound network.now address.now it.0) }
     ensures fault { IfErr result (λ fault. fault ≡ CommandFault.Network) }
 {

@@ -22,11 +22,14 @@ returns-in-Some g c =
     let found = rw c.in-Some.is at c.in_ok-find_beyond.ensures in
     record {
       looks = reads_met Key (find_tells (beyond c.args.table c.args.decided) (λ _. Ok (tt {0})) {So = λ _. Unit {0}} {w = λ _. tt {0}}
-    (Some (tt {0})) found (λ t so finds. refl)) (λ clean. inr (refl, λ rows has none.
-    let row = found.answers clean rows has in
-    let no = none_of c.args.decided rows
-    (none.numbered c.args.decided (c.requires.held (clean_at found.survives clean) rows has)) c.args.table in
-    absurd (let both = sym row.0.1 ∙ no in cc)));
+          (Some (tt {0})) found (λ t so finds. refl)) (λ clean. inr (
+            refl,
+            λ rows has none.
+                let row = found.answers clean rows has in
+                let no = none_of c.args.decided rows
+                (none.numbered c.args.decided (c.requires.held (clean_at found.survives clean) rows has)) c.args.table in
+                absurd (let both = sym row.0.1 ∙ no in cc),
+          ));
       none = tt;
     }
 

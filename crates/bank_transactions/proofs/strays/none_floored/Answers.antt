@@ -16,11 +16,14 @@ pub returns-in-Some : goal.returns-in-Some
 returns-in-Some g c =
     let it = c.in_ok-floor_at.ensures in
     record {
-      looks = reads_met Key it.says (λ clean. inr (refl, λ rows has none.
-    let row = subst (λ n. HoldsFloor rows n (Some c.in-Some.field-0)) c.get.ensures.value
-    ((rw c.in-Some.is at it.stored) clean rows has) in
-    let no = none.floors c.args.branch (c.requires (clean_at it.says.says.survives clean) rows has) in
-    absurd (let both = sym row.2 ∙ no in cc)));
+      looks = reads_met Key it.says (λ clean. inr (
+        refl,
+        λ rows has none.
+            let row = subst (λ n. HoldsFloor rows n (Some c.in-Some.field-0)) c.get.ensures.value
+            ((rw c.in-Some.is at it.stored) clean rows has) in
+            let no = none.floors c.args.branch (c.requires (clean_at it.says.says.survives clean) rows has) in
+            absurd (let both = sym row.2 ∙ no in cc),
+      ));
       none = tt;
     }
 

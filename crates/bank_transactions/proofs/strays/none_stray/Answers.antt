@@ -54,8 +54,7 @@ returns-clause-none g c = on_ok_weaker c.none_beyond-3.result (λ none clean row
     let clean2 = clean_at c.none_beyond-3.ensures.looks.says.survives clean in
     let clean1 = clean_at two.looks.says.survives clean2 in
     let has1 = subst (λ (db : Database). HoldsBank db rows) (sym (one.looks.says.leaves clean1).0.now) has in
-    let has2 = subst (λ (db : Database). HoldsBank db rows) (sym (two.looks.says.leaves clean2).0.now) has1 in
-    (
+    let has2 = subst (λ (db : Database). HoldsBank db rows) (sym (two.looks.says.leaves clean2).0.now) has1 in (
       none_found c.args.decided rows.requests (one.none clean1 rows has),
       none_found c.args.decided rows.history (two.none clean2 rows has1),
       none_found c.args.decided rows.references (none clean rows has2),

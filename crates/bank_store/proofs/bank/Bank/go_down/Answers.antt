@@ -62,9 +62,9 @@ invariant_of-self-in-Err g c =
     let old = state g.S.Store c.args.self.now.conn in
     let idle = c.args.self.now.idle in
     record {
-  idle = c.in-Err.ensures.mode c.args.self.now.idle;
-  remembers = blank g.S.Store c.probe_table.new.conn c.forget.new.self c.forget.ensures.blank;
-  tables = tables_read g.S.Store c.args.self.now.conn c.probe_table.new.conn c.in-Err.ensures.survives
-      (λ clean. back old old (state g.S.Store c.probe_table.new.conn) c.in-Err.e c.note_settled.ensures (untouched old)
-      (c.in-Err.ensures.mode idle ∙ sym idle) (c.in-Err.ensures.answers clean)) c.args.self.now.tables;
-}
+      idle = c.in-Err.ensures.mode c.args.self.now.idle;
+      remembers = blank g.S.Store c.probe_table.new.conn c.forget.new.self c.forget.ensures.blank;
+      tables = tables_read g.S.Store c.args.self.now.conn c.probe_table.new.conn c.in-Err.ensures.survives
+          (λ clean. back old old (state g.S.Store c.probe_table.new.conn) c.in-Err.e c.note_settled.ensures (untouched old)
+          (c.in-Err.ensures.mode idle ∙ sym idle) (c.in-Err.ensures.answers clean)) c.args.self.now.tables;
+    }
