@@ -36,7 +36,7 @@ pub has_tables : (old new : State) (migrated : Migrated) → IsFromEarlier migra
 has_tables old new Already from found =
     subst (λ (db : Database). HasBankTables db.schema) (sym found.there.same.now_is) found.there.made
 has_tables old new (Moved version) (from, is) moved =
-    let it = moved from is in it.2.2 it.1.there.made
+    let it = moved from is in (it.2.2 it.1.there.made).tables
 
 module _ {S : Type 0} (g : Ghosts S) (conn : Held S) (bank : Bank S g) (up : (bank_seen g bank).is_down → ⊥) where
   pub is_migrated : (migrated : Migrated)

@@ -1,6 +1,6 @@
 -- What the changed tables show, why they aren't changed, and what a transaction leaves that changes them.
-use Rattle.std.proofs.Common.{◌≡◌, ℕ, pos, [], ◌∷◌, true, false, None, Some, Option, is_some, Ok, Err, refl, ap, ◌∙◌}
-use Rattle.std.proofs.Common.{subst, sym, inl, inr}
+use Rattle.std.proofs.Common.{◌≡◌, ◌≢◌, ℕ, zero, suc, pos, arith, map, take, [], ◌∷◌, true, false, None, Some, Option}
+use Rattle.std.proofs.Common.{is_some, Ok, Err, refl, ap, ◌∙◌, subst, sym, inl, inr}
 use Rattle.std.specs.Prelude.{IsTrue}
 use Rattle.std.proofs.lemmas.Bool.{cases_Bool}
 use Rattle.sqlite.specs.{Effect.Database, Held.Held, Held.state, Tree.Trees, declared.error.Error.Error}
@@ -9,18 +9,22 @@ use Rattle.sqlite_trees.specs.declared.store.Store.{Ghosts}
 use Rattle.posting_rules.specs.believed.Tables.{Tables}
 use Rattle.posting_rules.specs.declared.{open_fault.OpenFault.TheVariants.Damaged, fault.Rule.TheVariants.Meta}
 use Rattle.sql_meanings.specs.{Making.SparesStanding, believed.Making.Stands, believed.Sparing.SparesAllBut}
-use Rattle.sql_meanings.specs.{believed.Tables.tree_of}
-use Rattle.sql_meanings.proofs.Contents.{held}
-use Rattle.store_rows.specs.{believed.BankTables.HasBankTables, believed.BankTables.meta, believed.Columns.meta_in}
-use Rattle.store_rows.specs.{Failures.HasFailedAtLast}
-use Rattle.store_rows.proofs.BankTables.{completed}
+use Rattle.sql_meanings.specs.believed.Tables.{Defines, Holds, placed_at, tree_of, width_of}
+use Rattle.sql_meanings.specs.believed.{Contents.HoldsEach, Entries.IsTree}
+use Rattle.sql_meanings.proofs.{Contents.held, Defining.defined_stands, TablesBeside.trees_apart}
+use Rattle.sqlite.specs.Table.{Table}
+use Rattle.sqlite_rules.specs.Lists.{Has}
+use Rattle.store_rows.specs.believed.BankTables.{HasBankTables, floor, meta, reference}
+use Rattle.store_rows.specs.{believed.Columns.meta_in, Creation.no_rows, Definitions.AreMade, Failures.HasFailedAtLast}
+use Rattle.store_rows.specs.{Lying.IsBankFile, Lying.SetsItsVersion, Probes.all_tables}
+use Rattle.store_rows.proofs.BankTables.{completed, is_file, lie_still}
 use Rattle.store_rows.specs.{declared.metas.StoredMeta.StoredMeta, declared.metas.TheConstants.VERSION}
-use Rattle.store_rows.specs.Migration.{IsEarlier, LackingAreMade, MakesLacking, SetsVersion, ShowsLess}
+use Rattle.store_rows.specs.Migration.{IsEarlier, LackingAreMade, MakesLacking, SetsVersion, ShowsLess, lacking}
 use Rattle.store_rows.specs.believed.View.{Shows, ShowsTrees, contents_of, meta_entry, tables_of}
 use Rattle.bank_transactions.proofs.Blamed.{comes, same_moment}
 use Rattle.bank_store.specs.Migration.{BankIsMoved, ChangesTables, Completes, HasMoved, IsUnmoved, KeepsRows}
 use Rattle.bank_store.specs.{OpenFaults.of_the_store, OpenFaults.unmoved_by, StoreFaults.KnowsCause}
-use Rattle.bank_store.proofs.{FoundEarlier.meta_there, Settled.begun_survives, Settled.live, Unmade.own_error}
+use Rattle.bank_store.proofs.{FoundEarlier.meta_there, FoundEarlier.one_and, Settled.begun_survives, Settled.live, Unmade.own_error}
 
 -- ---- a table isn't made
 
@@ -61,7 +65,7 @@ module _ (from : ℕ) (earlier : IsEarlier from) (old mid new : State) (made : L
         let done = set.1 (pos from) t (made.tables t was) in
         let holds = held old.now (tables_of from) (contents_of from t) was.shows.each 0 meta
         (meta_entry (pos from) t.decided ∷ []) (meta_there from) refl in
-        let place = made.places meta _ refl holds in (
+        let place = made.places meta refl holds.defined in (
           record { sound = done.0.sound; each = done.0.each },
           λ u stands apart.
               let then = done.2 u (made.keeps.stands u stands) (λ same. apart (same ∙ place)) in
@@ -77,13 +81,45 @@ module _ (from : ℕ) (earlier : IsEarlier from) (old mid new : State) (made : L
               ∙ made.keeps.rows u stands.listed,
         )
 
-    pub moved : SetsVersion VERSION mid new (Ok true) → SparesAllBut (meta.name ∷ []) mid.now new.now
-        → ChangesTables from old.now new.now (Ok tt)
-    moved set spares = (
-      moved_tables set,
-      moved_rows spares,
-      λ all. subst HasBankTables (sym spares.schema) (completed from old.now mid.now earlier all made),
+    -- a new table has no row still
+    still_empty : SparesAllBut (meta.name ∷ []) mid.now new.now → Defines mid.now.schema meta → (t : Table)
+        → t.references ≡ [] → t.name ≢ meta.name → Holds mid.now t [] → Holds new.now t []
+    still_empty spares is t free other holds =
+        let same = ap (λ s. new.now.trees (tree_of s t.name)) spares.schema
+        ∙ spares.rows (placed_at t (tree_of mid.now.schema t.name)) (defined_stands mid.now.schema t free holds.defined)
+        (trees_apart mid.now.schema t meta free refl holds.defined is other, tt) in
+        record {
+          defined = subst (λ s. Defines s t) (sym spares.schema) holds.defined;
+          rows = subst (λ rows. IsTree (width_of t) rows []) (sym same) holds.rows;
+        }
+
+    all_empty : (n : ℕ) → IsEarlier n → SparesAllBut (meta.name ∷ []) mid.now new.now → Defines mid.now.schema meta
+        → HoldsEach mid.now (map (λ it. it.1) (lacking n)) (no_rows (lacking n))
+        → HoldsEach new.now (map (λ it. it.1) (lacking n)) (no_rows (lacking n))
+    all_empty zero is spares its each = absurd (omega (arith, is.0))
+    all_empty (suc zero) is spares its each = (
+      still_empty spares its floor refl (λ same. cc) each.0,
+      (still_empty spares its reference refl (λ same. cc) each.1.0, tt),
     )
+    all_empty (suc (suc zero)) is spares its each = (still_empty spares its reference refl (λ same. cc) each.0, tt)
+    all_empty (suc (suc (suc n))) is spares its each = absurd (omega (arith, is.1))
+
+    completes : SparesAllBut (meta.name ∷ []) mid.now new.now
+        → (IsBankFile mid.now → SetsItsVersion VERSION mid.now new.now) → Completes from old.now new.now
+    completes spares lies all =
+        let here = completed from old.now mid.now earlier all made in
+        let first = subst (λ n. AreMade old.now.schema (take n all_tables)) (sym (one_and from)) all in
+        let same = lie_still from old.now mid.now made meta refl first.0 (pos 1) in
+        record {
+          tables = subst HasBankTables (sym spares.schema) here;
+          empty = all_empty from earlier spares here.0 made.empty.each;
+          meta = λ row it. lies (is_file mid.now made.empty.sound here) row
+              (it.0, subst (λ rows. Has rows it.0) (sym same) it.1, it.2);
+        }
+
+    pub moved : SetsVersion VERSION mid new (Ok true) → SparesAllBut (meta.name ∷ []) mid.now new.now
+        → (IsBankFile mid.now → SetsItsVersion VERSION mid.now new.now) → ChangesTables from old.now new.now (Ok tt)
+    moved set spares lies = (moved_tables set, moved_rows spares, completes spares lies)
 
     none_there : (o : Option StoredMeta) → false ≡ is_some o → o ≡ None
     none_there None h = refl
@@ -136,7 +172,7 @@ module _ {S : Type 0} (from : ℕ) (g : Ghosts S) (old begun last new : Held S)
       begun_survives g old begun last new is (MayLeave (state g last).now) (HasMoved from (state g old).now)
       (λ clean left made.
       let it = changed_at changed clean in
-      ((λ t was. made.1 t (it.0 t was).0), ((state g last).now, made.0, it.1)))
+      ((λ t was. made.1 t (it.0 t was).0), ((state g last).now, made.0, it.1, it.2)))
       first then
 
   -- the bank is moved once it is committed

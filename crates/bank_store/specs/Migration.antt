@@ -22,7 +22,9 @@ use Rattle.sql_meanings.specs.Making.{SparesStanding}
 use Rattle.sql_meanings.specs.believed.Tables.{tree_of}
 use Rattle.store_rows.specs.believed.BankTables.{HasBankTables, meta}
 use Rattle.store_rows.specs.Definitions.{AreMade, IsFirstOther}
-use Rattle.store_rows.specs.Migration.{IsEarlier, RefusesLacking, ShowsLess, TakesLacking}
+use Rattle.sql_meanings.specs.believed.Contents.{HoldsEach}
+use Rattle.store_rows.specs.{Creation.no_rows, Lying.MetaLies, declared.metas.TheConstants.VERSION}
+use Rattle.store_rows.specs.Migration.{IsEarlier, RefusesLacking, ShowsLess, TakesLacking, lacking}
 use Rattle.store_rows.specs.Probes.{all_tables, probe_of}
 use Rattle.store_rows.specs.Statements.{HasOtherValue}
 use Rattle.store_rows.specs.believed.View.{Shows, ShowsAs, ShowsTrees}
@@ -83,13 +85,20 @@ abbrev pub KeepsRows : Database → Database → Type 0
 KeepsRows old new = (t : Table) → Stands old.schema t → t.tree ≢ tree_of new.schema meta.name
     → Stands new.schema t × (new.trees t.tree ≡ old.trees t.tree)
 
--- the same of bare trees
-abbrev pub LeavesRows : Database → Trees → Type 0
-LeavesRows old left = (after : Database) × (left ≡ after.trees) × KeepsRows old after
+-- The tables of this version are there. Those that the version lacked have no rows, and the row of the bank has this
+-- version, and the count that it had.
+pub record IsComplete (from : ℕ) (old new : Database) : Type 0 where
+  pub tables : HasBankTables new.schema
+  pub empty : HoldsEach new (map (λ it. it.1) (lacking from)) (no_rows (lacking from))
+  pub meta : (row : StoredMeta) → MetaLies old (Some row) → MetaLies new (Some (record row { version = VERSION }))
 
--- where the tables of that version were defined as a bank's are made, those of this version are
+-- so it is, whatever the rows, where the tables of that version were defined as a bank's are made
 abbrev pub Completes : ℕ → Database → Database → Type 0
-Completes from old new = AreMade old.schema (take (5 + from) all_tables) → HasBankTables new.schema
+Completes from old new = AreMade old.schema (take (5 + from) all_tables) → IsComplete from old new
+
+-- both, of bare trees
+abbrev pub LeavesRows : ℕ → Database → Trees → Type 0
+LeavesRows from old left = (after : Database) × (left ≡ after.trees) × KeepsRows old after × Completes from old after
 
 -- a bank of that version is one of this version, with the same rows; and so are the tables of any file. The tables of
 -- this version are there, where those of that version were.
@@ -99,7 +108,7 @@ BankIsMoved from old new = ((t : Tables) → ShowsLess from old t → IsMoved ol
 
 -- the same of what a crash may leave
 abbrev pub HasMoved : ℕ → Database → Trees → Type 0
-HasMoved from old left = ((t : Tables) → ShowsLess from old t → ShowsTrees left t) × LeavesRows old left
+HasMoved from old left = ((t : Tables) → ShowsLess from old t → ShowsTrees left t) × LeavesRows from old left
 
 -- Why the tables aren't changed: one that the version lacks is refused, by an error that isn't the store's own;
 -- or `meta` lacks its row; or the store failed.

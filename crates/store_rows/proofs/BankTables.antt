@@ -1,11 +1,16 @@
 -- That a schema has the tables of a bank has one proof at most, and which files have them.
 use Rattle.std.proofs.Common.{◌+◌, ℕ, zero, suc, List, [], ◌∷◌, map, take, refl, arith}
-use Rattle.sqlite.specs.{Effect.Database, Schema.Schema}
+use Rattle.std.proofs.Common.{◌≡◌, ◌∙◌, ℤ, ap}
+use Rattle.std.specs.Prelude.{filter}
+use Rattle.sqlite.specs.{Effect.Database, Effect.IsDatabase, Schema.Schema, Table.Table, Tree.has_rowid}
 use Rattle.sql_meanings.specs.Names.{AllByRecursion-prop}
 use Rattle.posting_rules.specs.believed.Tables.{Tables}
 use Rattle.posting_rules.specs.declared.open_fault.BankTable.{BankTable}
 use Rattle.sql_meanings.specs.believed.{Contents.HoldsEach, Entries.Entry, Tables.Defines}
-use Rattle.sql_meanings.proofs.Defining.{Defines-prop}
+use Rattle.sql_meanings.specs.Under.{rows_under}
+use Rattle.sql_meanings.proofs.Defining.{Defines-prop, defined_stands}
+use Rattle.sql_meanings.proofs.TablesBeside.{is_stored}
+use Rattle.store_rows.specs.Lying.{IsBankFile}
 use Rattle.store_rows.specs.believed.{BankTables.HasBankTables, BankTables.bank_tables, View.Shows}
 use Rattle.store_rows.specs.believed.BankTables as bank
 use Rattle.store_rows.specs.{Definitions.AreMade, Definitions.made, Migration.IsEarlier, Migration.LackingAreMade}
@@ -70,3 +75,35 @@ completed (suc (suc zero)) old new earlier all lacking =
       ),
     )
 completed (suc (suc (suc n))) old new earlier all made = absurd (omega (arith, earlier.1))
+
+-- the rows of a table that was there lie as they lay
+pub lie_still : (from : ℕ) (old new : Database) → LackingAreMade from old new → (t : Table) → t.references ≡ []
+    → Defines old.schema t → (k : ℤ) → rows_under new t k ≡ rows_under old t k
+lie_still from old new made t free defined k =
+    ap (filter (has_rowid k)) (ap (λ n. new.trees n) (made.places t free defined)
+    ∙ made.keeps.rows _ (defined_stands old.schema t free defined).listed)
+
+-- a sound database with the tables of a bank is a bank's file
+pub is_file : (db : Database) → ∥ IsDatabase db ∥₁ → HasBankTables db.schema → IsBankFile db
+is_file db sound all = (
+  is_stored db bank.meta refl sound all.0,
+  (
+    is_stored db bank.branch refl sound all.1.0,
+    (
+      is_stored db bank.teller refl sound all.1.1.0,
+      (
+        is_stored db bank.account refl sound all.1.1.1.0,
+        (
+          is_stored db bank.history refl sound all.1.1.1.1.0,
+          (
+            is_stored db bank.request refl sound all.1.1.1.1.1.0,
+            (
+              is_stored db bank.floor refl sound all.1.1.1.1.1.1.0,
+              (is_stored db bank.reference refl sound all.1.1.1.1.1.1.1.0, tt),
+            ),
+          ),
+        ),
+      ),
+    ),
+  ),
+)

@@ -127,4 +127,4 @@ puts_added old new text params (Err e) h key rest is among = go (is_taken_key e)
     go : (b : Bool) → is_taken_key e ≡ b
         → Puts {X = Unit {0}} text params old new (cond b (Err (Damaged Key)) (Err (Sqlite e)))
     go true taken = (fails, (refl, (key, rest, e, among, is, h, taken)))
-    go false free = (fails, Putting text params h free)
+    go false free = (fails, Putting text params among h free)

@@ -16,7 +16,7 @@ use Rattle.sql_meanings.proofs.{Contents.HoldsEach-prop, ListedTexts.listing_tes
 use Rattle.sql_meanings.proofs.Defining.{Defines-prop, defined_stands, stands_defined}
 use Rattle.sql_meanings.specs.believed.Tables.{placed_at, tree_of}
 use Rattle.sql_meanings.proofs.FreeNames.{free_beside, free_understood, needs_none, only_full}
-use Rattle.sql_meanings.proofs.StayHeld.{held_after, same_place, still_held, still_hold}
+use Rattle.sql_meanings.proofs.StayHeld.{held_after, still_held, still_hold}
 use Rattle.sql_meanings.proofs.Trees.{Holds-prop, nat_set}
 use Rattle.store_rows.specs.believed.BankTables as bank
 use Rattle.store_rows.specs.believed.BankTables.{bank_tables}
@@ -90,8 +90,10 @@ module _ (from : ℕ) (old new : Database) (made : TablesAreMade (lacking from) 
         record { found = found.1.found; apart = found.1.apart });
     holds = λ table es free holds. ∥∥₁_elim made.empty.sound (Holds-prop new table es)
         (λ sound. still_held old new sound made.keeps table es free holds);
-    places = λ table es free holds. ∥∥₁_elim made.empty.sound (nat_set _ _)
-        (λ sound. same_place old new sound made.keeps table es free holds);
+    places = λ table free defined. ∥∥₁_elim made.empty.sound (nat_set _ _)
+        (λ sound.
+        (stands_defined new.schema new.trees (placed_at table (tree_of old.schema table.name)) sound
+        (made.keeps.stands _ (defined_stands old.schema table free defined))).0);
     tables = λ t was. record {
       sound = made.empty.sound;
       each = ∥∥₁_elim made.empty.sound (HoldsEach-prop new bank_tables ((meta_entry (pos from) t.decided ∷ []) ∷ rows_of t))

@@ -24,7 +24,7 @@ use Rattle.posting_rules.specs.declared.rows.FloorRow.{FloorRow}
 use Rattle.store_rows.specs.declared.holders.Holder.TheVariants as holder
 use Rattle.store_rows.specs.declared.metas.{StoredMeta.StoredMeta, TheConstants.META_ID}
 use Rattle.store_rows.specs.declared.texts.TheConstants as text
-use Rattle.store_rows.specs.Lying.{BalanceLies, BranchLies, FindsLying, FloorLies, MetaLies, SetsBalance, SetsDecided, SetsLying}
+use Rattle.store_rows.specs.Lying.{BalanceLies, BranchLies, FindsLying, FloorLies, MetaLies, SetsBalance, SetsDecided, SetsItsVersion, SetsLying}
 use Rattle.store_rows.specs.Lying.{PutsLying}
 use Rattle.store_rows.specs.{Statements.PutsRow, believed.SeveralRows.given}
 use Rattle.store_rows.specs.believed.View.{history_entry, reference_entry, request_entry}
@@ -35,7 +35,8 @@ use Rattle.store_rows.proofs.{Puts.puts, SeveralTexts.eight_postings, SeveralTex
 use Rattle.store_rows.proofs.{SeveralWrites.HoldsOfEight, TheTables.history, TheTables.references, TheTables.requests}
 use Rattle.store_rows.proofs.Lying.{finds_lying, in_limit, puts_lying, sets_lying, whole_kept}
 use Rattle.store_rows.proofs.Readings.{balance_back, branch_back, branch_parts, then_ok}
-use Rattle.store_rows.proofs.{Getting.gets, Setting.first_set, Setting.second_set, Setting.writes}
+use Rattle.store_rows.proofs.{Getting.gets, Setting.first_set, Setting.second_set, Setting.version_set}
+use Rattle.store_rows.proofs.Setting.{writes}
 
 -- the only one of a list
 only_one : {X : Type 0} (xs : List X) (x y : X) → xs ≡ x ∷ [] → Has xs y → y ≡ x
@@ -166,6 +167,37 @@ decided_set g old new n result =
       second_made (pos n) was,
       there,
       meta_made n was row
+          (subst (λ (r : Row). meta_of (column r 2 ∷ column r 3 ∷ []) ≡ Ok row) own lies.2),
+    ))
+    g old new result
+
+-- ---- the version
+
+-- the first of two numbers is this one
+abbrev version_row : ℤ → Row → Row
+version_row v r = cast Integer (column r 0) ∷ cast Integer Null ∷ cast Integer (Int v) ∷ cast Integer (column r 3) ∷ []
+
+version_made : (v : ℤ) (r : Row) (m : StoredMeta) → meta_of (column r 2 ∷ column r 3 ∷ []) ≡ Ok m
+    → meta_of (column (version_row v r) 2 ∷ column (version_row v r) 3 ∷ []) ≡ Ok (record m { version = v })
+version_made v r m is =
+    let one = then_ok (number (column r 2)) _ m is in
+    let two = then_ok (number (column r 3)) _ m one.2 in
+    let its : StoredMeta = record { version = one.0; decided = two.0 } in
+    let same : its ≡ m = (let last = two.2 in cc) in
+    rw (whole_kept (column r 3) two.0 (number_ok (column r 3) two.0 two.1), cast_int v)
+    (ap (λ (it : StoredMeta). Ok (record it { version = v })) same)
+
+pub version_lies : {S : Type 0} (g : Ghosts S) (old new : Transaction S) (v : ℤ) (result : Result Bool Error)
+    → RunsUnder g old new text.SET_VERSION.now META_ID v result
+    → SetsLying g old new bank.meta META_ID (SetsItsVersion v) result
+version_lies g old new v result =
+    sets_lying 0 bank.meta refl text.SET_VERSION.now META_ID v version_set (writes.version v)
+    (λ r. (refl, refl)) (version_row v) (λ tree r. refl) (SetsItsVersion v)
+    (λ before after was only there row lies.
+    let own = only_one (rows_under before bank.meta (pos META_ID)) was lies.0 only lies.1 in (
+      version_row v was,
+      there,
+      version_made v was row
           (subst (λ (r : Row). meta_of (column r 2 ∷ column r 3 ∷ []) ≡ Ok row) own lies.2),
     ))
     g old new result

@@ -4,17 +4,18 @@ use Rattle.sqlite.specs.{Order.Row, declared.error.Error.Error, declared.error.E
 use Rattle.sqlite.specs.State.{State, QueriesRowInside}
 use Rattle.sql_meanings.specs.StatementAnswers.{ReadKept, WriteFails}
 use Rattle.sql_meanings.proofs.OnlyShowing.{kept_none}
-use Rattle.store_rows.specs.believed.Failures.{Asking}
+use Rattle.sqlite_rules.specs.Lists.{Has}
+use Rattle.store_rows.specs.believed.Failures.{Asking, queries}
 use Rattle.store_rows.specs.Failures.{Asks, HasReason, Looks, ReadsAnswer}
 use Rattle.store_rows.specs.believed.Readings.{Reading}
 use Rattle.store_rows.specs.declared.fault.TableFault.{TableFault, TheVariants.Sqlite, TheVariants.Damaged}
 
 -- a query that was made
 pub asked : (old new : State) (text : List ℕ) (params : Row) (r : Result Row Error)
-    → QueriesRowInside text params old new r → ReadKept old new r
+    → Has queries text → QueriesRowInside text params old new r → ReadKept old new r
     → Asks old new r
-asked old new text params (Ok row) h kept = kept
-asked old new text params (Err e) h kept = (kept, λ more. Asking text params h more)
+asked old new text params (Ok row) ours h kept = kept
+asked old new text params (Err e) ours h kept = (kept, λ more. Asking text params ours h more)
 
 module _ (old new : State) where
   -- a query that failed is a read that failed

@@ -56,7 +56,7 @@ first_as v (a ∷ more) = v ∷ more
 abbrev pub set_version : ℤ → Entry → Entry
 set_version v e = record e { values = first_as v e.values; texts = [] }
 
-abbrev version_set : List Term
+abbrev pub version_set : List Term
 version_set = col 1 0 ∷ col 1 0 ∷ lit Null ∷ col 0 1 ∷ col 1 3 ∷ []
 
 version_shown : (k v key : ℤ) (values : List ℤ) (texts : List (List ℕ)) → length values ≡ 2

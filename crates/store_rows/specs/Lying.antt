@@ -117,6 +117,11 @@ abbrev pub SetsDecided : ℕ → Database → Database → Type 0
 SetsDecided decided old new = (row : StoredMeta) → MetaLies old (Some row)
     → MetaLies new (Some (record row { decided = pos decided }))
 
+-- this is the version of the bank's row now, and it has the count that it had
+abbrev pub SetsItsVersion : ℤ → Database → Database → Type 0
+SetsItsVersion version old new = (row : StoredMeta) → MetaLies old (Some row)
+    → MetaLies new (Some (record row { version = version }))
+
 -- after a call inside a transaction the row of the bank counts so many, if the file is a bank's
 abbrev pub Counts : {S : Type 0} → Ghosts S → Transaction S → Transaction S → ℕ → Type 0
 Counts g old new n = HasCleanDisk (state g new.conn.now) → IsTrue (state g old.conn.now).in_transaction

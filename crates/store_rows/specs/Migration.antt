@@ -51,7 +51,7 @@ pub record LackingAreMade (from : ℕ) (old new : Database) : Type 0 where
   pub keeps : KeepsWhatStood old new
   pub defines : (table : Table) → table.references ≡ [] → Defines old.schema table → Defines new.schema table
   pub holds : (table : Table) (es : List Entry) → table.references ≡ [] → Holds old table es → Holds new table es
-  pub places : (table : Table) (es : List Entry) → table.references ≡ [] → Holds old table es
+  pub places : (table : Table) → table.references ≡ [] → Defines old.schema table
       → tree_of new.schema table.name ≡ tree_of old.schema table.name
   pub tables : (t : Tables) → ShowsLess from old t → HoldsTables (pos from) new t
 

@@ -6,7 +6,8 @@ ghost use Rattle.sqlite.specs.Held.{state};
 ghost use Rattle.sql_meanings.specs.Calls.{Says, Inside};
 ghost use Rattle.sql_meanings.specs.Making.{CreatesOnly, KeepsTables};
 ghost use Rattle.sql_meanings.specs.StatementAnswers.{WriteKept, WritesKept, MakesTold};
-ghost use Rattle.store_rows.specs.believed.Failures.{HasFailed};
+ghost use Rattle.sqlite_rules.specs.Lists.{Has};
+ghost use Rattle.store_rows.specs.believed.Failures.{HasFailed, changes};
 ghost use Rattle.store_rows.specs.Failures.{HasFailedAtLast};
 ghost use Rattle.store_rows.specs.believed.View.{Shows};
 ghost use Rattle.store_rows.specs.Creation.{AreEmpty, all_texts, new_tables, MakesAll, StartsBank};
@@ -18,6 +19,7 @@ use sqlite::{Alter, Connection, Error, Transaction, params};
 
 // Makes the table that the text defines.
 fn make_table<S: Alter>(tx: &mut Transaction<'_, S>, text: &str) -> Result<usize, Error>
+    requires { Has changes text.now }
     ensures { Says S.Store tx.old tx.new
         (Inside (λ old new. (table : Table) → CreatesOnly text.now table
         → MakesTold old new text.now table result))

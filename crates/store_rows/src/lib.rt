@@ -82,4 +82,7 @@ pub use posting_rules::BankTable;
 pub use probes::{AFTER_META, probe_table};
 pub use references::{add_reference, find_reference};
 pub use requests::{add_eight_requests, add_request, find_request};
-pub use texts::MAKE_TABLES;
+pub use texts::{
+    ACCOUNTS_FROM, BRANCHES_FROM, FLOORS_FROM, MAKE_TABLES, METAS_FROM, POSTINGS_FROM, POSTINGS_OF,
+    REFERENCE_UNDER, REFERENCES_FROM, REQUESTS_FROM, TELLERS_FROM,
+};

@@ -11,7 +11,7 @@ ghost use Rattle.sqlite.specs.declared.types.Value.TheVariants.{Int};
 ghost use Rattle.store_rows.specs.believed.Columns.{meta_in};
 ghost use Rattle.store_rows.specs.Columns.{meta_shown};
 ghost use Rattle.store_rows.specs.Failures.{Asks, Changes, Looks};
-ghost use Rattle.store_rows.specs.Lying.{FindsLying, MetaLies, SetsCount, SetsDecided, SetsLying};
+ghost use Rattle.store_rows.specs.Lying.{FindsLying, MetaLies, SetsCount, SetsDecided, SetsItsVersion, SetsLying};
 ghost use Rattle.store_rows.specs.Migration.{SetsVersion};
 ghost use Rattle.store_rows.specs.TableAnswers.{FindsMeta};
 ghost use Rattle.store_rows.specs.declared.texts.TheConstants.{SET_META, SET_VERSION};
@@ -97,10 +97,12 @@ pub fn set_decided<S: Alter>(tx: &mut Transaction<'_, S>, decided: u64) -> Resul
 
 /// Writes the version of the tables, and reports whether meta has its row.
 pub fn set_version<S: Alter>(tx: &mut Transaction<'_, S>, version: i64) -> Result<bool, Error>
-    ensures { Says S.Store tx.old tx.new
+    ensures sets { Says S.Store tx.old tx.new
         (Inside (λ old new. SetsVersion version old new result))
         (Inside (λ old new. Changes SET_VERSION.now (under id version) old new result
         × OnOk result (SparesAllBut (table.name ∷ []) old.now new.now))) }
+    // Whatever rows the file holds.
+    ensures lies { SetsLying S.Store tx.old tx.new table id (SetsItsVersion version) result }
 {
     write_under(tx, SET_VERSION, META_ID, version)
 }

@@ -4,9 +4,11 @@ ghost use Rattle.sqlite.specs.Listing.{understood};
 ghost use Rattle.sqlite.specs.State.{QueriesRowInside};
 ghost use Rattle.sqlite.specs.Values.{bound};
 ghost use Rattle.sqlite.specs.declared.types.Value.TheVariants.{Int};
+ghost use Rattle.sqlite_rules.specs.Lists.{Has};
 ghost use Rattle.sql_meanings.specs.Calls.{Says};
 ghost use Rattle.sql_meanings.specs.StatementAnswers.{OnlyShows};
 ghost use Rattle.store_rows.specs.Failures.{Asks};
+ghost use Rattle.store_rows.specs.believed.Failures.{changes, queries};
 ghost use Rattle.store_rows.specs.Statements.{PutsRow, RunsUnder};
 
 use crate::fault::{TableFault, added};
@@ -24,7 +26,8 @@ pub(crate) fn row_under<S: Alter>(
     text: &str,
     key: u64,
 ) -> Result<Row, Error>
-    requires { key ≤ MAX_KEY }
+    requires key { key ≤ MAX_KEY }
+    requires ours { Has queries text.now }
     ensures { Says S.Store tx.old tx.new
         (λ old new. QueriesRowInside text.now (Int (pos key) ∷ []) old new result)
         (λ old new. OnlyShows text.now 1 (understood old.now.schema text.now) → Asks old new result) }
@@ -42,6 +45,7 @@ pub(crate) fn row_under_two<S: Alter>(
 ) -> Result<Row, Error>
     requires first { first ≤ MAX_KEY }
     requires second { second ≤ MAX_KEY }
+    requires ours { Has queries text.now }
     ensures { Says S.Store tx.old tx.new
         (λ old new. QueriesRowInside text.now (Int (pos first) ∷ Int (pos second) ∷ []) old new result)
         (λ old new. OnlyShows text.now 2 (understood old.now.schema text.now) → Asks old new result) }
@@ -58,7 +62,8 @@ pub(crate) fn write_under<S: Alter>(
     key: u64,
     number: i64,
 ) -> Result<bool, Error>
-    requires { key ≤ MAX_KEY }
+    requires key { key ≤ MAX_KEY }
+    requires ours { Has changes text.now }
     ensures { RunsUnder S.Store tx.old tx.new text.now key number result }
 {
     let key = key as i64;
@@ -73,7 +78,8 @@ pub(crate) fn write_balance<S: Alter>(
     key: u64,
     balance: Cents,
 ) -> Result<bool, Error>
-    requires { key ≤ MAX_KEY }
+    requires key { key ≤ MAX_KEY }
+    requires ours { Has changes text.now }
     ensures { RunsUnder S.Store tx.old tx.new text.now key balance result }
 {
     write_under(tx, text, key, balance.get())

@@ -170,3 +170,45 @@ pub(crate) const PROBE_FLOOR: &str = "SELECT bid, lowest FROM branch_floor";
 
 /// Names every column of `request_reference`.
 pub(crate) const PROBE_REFERENCE: &str = "SELECT ordinal, reference FROM request_reference";
+
+// ---- the statements of the walks of `walked_rows`. Each but the last shows the rows that come next, by rising keys, at
+// most 64 of them.
+
+/// The branches from a number on.
+pub const BRANCHES_FROM: &str =
+    "SELECT bid, accounts, balance FROM branch WHERE bid >= ?1 ORDER BY bid LIMIT 64";
+
+/// The tellers from a number on.
+pub const TELLERS_FROM: &str =
+    "SELECT tid, balance FROM teller WHERE tid >= ?1 ORDER BY tid LIMIT 64";
+
+/// The accounts from a number on.
+pub const ACCOUNTS_FROM: &str =
+    "SELECT aid, balance FROM account WHERE aid >= ?1 ORDER BY aid LIMIT 64";
+
+/// The postings from a number on.
+pub const POSTINGS_FROM: &str =
+    "SELECT ordinal, aid, tid, bid, delta, moment FROM history WHERE ordinal >= ?1 ORDER BY ordinal LIMIT 64";
+
+/// The decided requests from a number on.
+pub const REQUESTS_FROM: &str =
+    "SELECT ordinal, tid, number, aid, bid, delta, outcome, balance FROM request WHERE ordinal >= ?1 ORDER BY ordinal LIMIT 64";
+
+/// The rows of `meta` from a number on.
+pub const METAS_FROM: &str =
+    "SELECT id, version, decided FROM meta WHERE id >= ?1 ORDER BY id LIMIT 64";
+
+/// The floors from a branch on.
+pub const FLOORS_FROM: &str =
+    "SELECT bid, lowest FROM branch_floor WHERE bid >= ?1 ORDER BY bid LIMIT 64";
+
+/// The references from an ordinal on.
+pub const REFERENCES_FROM: &str =
+    "SELECT ordinal, reference FROM request_reference WHERE ordinal >= ?1 ORDER BY ordinal LIMIT 64";
+
+/// The postings of an account from an ordinal on.
+pub const POSTINGS_OF: &str =
+    "SELECT ordinal, aid, tid, bid, delta, moment FROM history WHERE aid = ?1 AND ordinal >= ?2 ORDER BY ordinal LIMIT 64";
+
+/// The reference of the request with an ordinal.
+pub const REFERENCE_UNDER: &str = "SELECT reference FROM request_reference WHERE ordinal = ?1";

@@ -9,11 +9,13 @@ use Rattle.sqlite_schema.specs.declared.command.Command.{Command}
 use Rattle.sqlite_schema.specs.declared.command.Command.TheVariants as command
 use Rattle.sql_meanings.specs.{believed.Entries.Entry, StatementAnswers.OnlyShows}
 use Rattle.sql_meanings.proofs.OnlyShowing.{no_rows_error}
-use Rattle.store_rows.specs.believed.Failures.{Asking, HasFailed}
+use Rattle.sqlite_rules.specs.Lists.{Has}
+use Rattle.store_rows.specs.believed.Failures.{Asking, HasFailed, queries}
 use Rattle.store_rows.specs.{believed.SeveralRows.given, declared.metas.StoredMeta.StoredMeta}
+use Rattle.store_rows.specs.declared.texts.TheConstants.{METAS_FROM}
 use Rattle.walked_rows.specs.OnlyMeta.{TakesOnly, TakesRow, TellsOnly, meta_with}
 use Rattle.walked_rows.specs.Rows.{HasStoredRows, IsWide, LEAST, entry_key, holds_rows, rows_from}
-use Rattle.walked_rows.specs.declared.{ahead.TheConstants.AHEAD, texts.TheConstants.METAS_FROM}
+use Rattle.walked_rows.specs.declared.ahead.TheConstants.{AHEAD}
 use Rattle.walked_rows.proofs.{Keys.all_left, Sought.all_given, Sought.tells_walk, WalkTexts.walks_metas}
 
 -- ---- what is told of the rows
@@ -96,10 +98,10 @@ not_none old new text params only (inr shows) =
     not_refused old.step_limit shows.0.command it.0 _ it.2
 
 -- so that it failed
-pub query_failed : (old new : State) (text : List ℕ) (params : Row) (e : Error)
+pub query_failed : (old new : State) (text : List ℕ) (params : Row) (e : Error) → Has queries text
     → OnlyShows text (length params) (understood old.now.schema text) → FailsToQuery text params old new e
     → HasFailed old new e
 unfolding QueriesRow
-query_failed old new text params e only h =
-    Asking text params (inl (inl h)) (λ is. not_none old new text params only
+query_failed old new text params e ours only h =
+    Asking text params ours (inl (inl h)) (λ is. not_none old new text params only
     (subst (FailsToQuery text params old new) is h))

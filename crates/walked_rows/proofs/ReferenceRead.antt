@@ -22,7 +22,7 @@ use Rattle.store_rows.proofs.ShownValues.{places_are, text_shown}
 use Rattle.walked_rows.specs.Pairs.{BreaksUnder, row_under}
 use Rattle.walked_rows.specs.References.{BreaksReference, ReadsFirst, text_entry}
 use Rattle.store_rows.specs.View.{HoldsRows}
-use Rattle.walked_rows.specs.{declared.texts.TheConstants.REFERENCE_UNDER}
+use Rattle.store_rows.specs.declared.texts.TheConstants.{REFERENCE_UNDER}
 use Rattle.walked_rows.proofs.{EntryShown.same_entry, Sought.store_error}
 
 -- ---- the statement

@@ -23,9 +23,9 @@ use Rattle.store_rows.specs.believed.BankTables as bank
 use Rattle.store_rows.specs.believed.SeveralRows.{given}
 use Rattle.store_rows.proofs.ShownValues.{all_columns}
 use Rattle.walked_rows.specs.{OnlyMeta.meta_with, declared.ahead.TheConstants.AHEAD}
-use Rattle.walked_rows.specs.declared.texts.TheConstants.{ACCOUNTS_FROM, BRANCHES_FROM, FLOORS_FROM, METAS_FROM}
-use Rattle.walked_rows.specs.declared.texts.TheConstants.{POSTINGS_FROM, POSTINGS_OF, REFERENCES_FROM, REQUESTS_FROM}
-use Rattle.walked_rows.specs.declared.texts.TheConstants.{TELLERS_FROM}
+use Rattle.store_rows.specs.declared.texts.TheConstants.{ACCOUNTS_FROM, BRANCHES_FROM, FLOORS_FROM, METAS_FROM}
+use Rattle.store_rows.specs.declared.texts.TheConstants.{POSTINGS_FROM, POSTINGS_OF, REFERENCES_FROM, REQUESTS_FROM}
+use Rattle.store_rows.specs.declared.texts.TheConstants.{TELLERS_FROM}
 use Rattle.walked_rows.proofs.Sought.{Walks}
 
 -- the key of a table, where its name and its column compute

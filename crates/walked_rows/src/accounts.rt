@@ -3,10 +3,9 @@ use crate::limits::LAST_ACCOUNT;
 use crate::numbers::{number_at, whole_at};
 use crate::statements::rows_shown;
 use crate::stored_row::{RowsRead, StoredRow};
-use crate::texts::ACCOUNTS_FROM;
 use message_records::{Account, Whole};
 use sqlite::{Alter, Connection, Row, params};
-use store_rows::TableFault;
+use store_rows::{ACCOUNTS_FROM, TableFault};
 
 /// A row of `account`: 1..=`LAST_ACCOUNT`, and its balance, whatever it is.
 #[derive(Clone, Copy, PartialEq, Eq)]

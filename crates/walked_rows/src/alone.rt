@@ -11,10 +11,9 @@ ghost use Rattle.walked_rows.specs.OnlyMeta.{TakesNumber, TakesOnly, TakesRow, T
 ghost use Rattle.walked_rows.specs.Rows.{HasStoredRows};
 
 use crate::statements::rows_shown;
-use crate::texts::METAS_FROM;
 use sqlite::types::ValueRef;
 use sqlite::{Alter, Connection, Error, Row, params};
-use store_rows::StoredMeta;
+use store_rows::{METAS_FROM, StoredMeta};
 
 // The number in a column, if it is one.
 fn number_in(row: &Row, at: usize) -> Option<i64>

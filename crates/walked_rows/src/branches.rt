@@ -3,11 +3,10 @@ use crate::limits::MAX_COUNTED;
 use crate::numbers::{number_at, whole_at};
 use crate::statements::rows_shown;
 use crate::stored_row::{RowsRead, StoredRow};
-use crate::texts::BRANCHES_FROM;
 use message_records::{Account, Whole};
 use posting_rules::LAST_BRANCH;
 use sqlite::{Alter, Connection, Row, params};
-use store_rows::TableFault;
+use store_rows::{BRANCHES_FROM, TableFault};
 
 /// A row of `branch`: 1..=`LAST_BRANCH`, how many accounts it has, 1..=`MAX_COUNTED`, and its balance,
 /// whatever it is.

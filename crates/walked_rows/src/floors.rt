@@ -2,11 +2,10 @@
 use crate::numbers::{number_at, whole_at};
 use crate::statements::rows_shown;
 use crate::stored_row::{RowsRead, StoredRow};
-use crate::texts::FLOORS_FROM;
 use message_records::{Account, Whole};
 use posting_rules::LAST_BRANCH;
 use sqlite::{Alter, Connection, Row, params};
-use store_rows::TableFault;
+use store_rows::{FLOORS_FROM, TableFault};
 
 /// A row of `branch_floor`: 1..=`LAST_BRANCH`, and the lowest balance that the accounts of the branch may
 /// have, in cents, whatever it is.

@@ -54,7 +54,6 @@ mod stated;
 mod statements;
 mod stored_row;
 mod tellers;
-mod texts;
 mod walked;
 
 pub use accounts::StoredAccount;

@@ -3,11 +3,10 @@ use crate::numbers::whole_at;
 use crate::references::reference_at;
 use crate::statements::rows_shown;
 use crate::stored_row::{RowsRead, StoredRow};
-use crate::texts::REFERENCES_FROM;
 use message_records::{Account, REFERENCE_BYTES, Reference, Whole};
 use posting_rules::Ordinal;
 use sqlite::{Alter, Connection, Row, params};
-use store_rows::TableFault;
+use store_rows::{REFERENCES_FROM, TableFault};
 
 /// A row of `request_reference`: the ordinal of its request within the range, and the reference.
 #[derive(Clone, Copy, PartialEq, Eq)]

@@ -2,10 +2,9 @@
 use crate::numbers::{number_at, whole_at};
 use crate::statements::rows_shown;
 use crate::stored_row::{RowsRead, StoredRow};
-use crate::texts::METAS_FROM;
 use message_records::{Account, Whole};
 use sqlite::{Alter, Connection, Row, params};
-use store_rows::TableFault;
+use store_rows::{METAS_FROM, TableFault};
 
 /// A row of `meta`, whose id is 1: the version of the tables, and how many requests are decided, whatever
 /// they are.

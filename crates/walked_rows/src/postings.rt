@@ -2,11 +2,10 @@
 use crate::numbers::{number_at, whole_at};
 use crate::statements::rows_shown;
 use crate::stored_row::{RowsRead, StoredRow};
-use crate::texts::{POSTINGS_FROM, POSTINGS_OF};
 use message_records::{Account, Moment, Whole};
 use posting_rules::Ordinal;
 use sqlite::{Alter, Connection, Row, params};
-use store_rows::TableFault;
+use store_rows::{POSTINGS_FROM, POSTINGS_OF, TableFault};
 
 /// A row of `history`: the ordinal of its request and its moment within their ranges, and the other numbers,
 /// whatever they are.

@@ -17,12 +17,11 @@ ghost use Rattle.walked_rows.specs.References.{BreaksReference, KeepsAtDamage, R
 ghost use Rattle.store_rows.specs.View.{HoldsRows};
 
 use crate::statements::rows_shown;
-use crate::texts::REFERENCE_UNDER;
 use message_records::Reference;
 use posting_rules::Rule;
 use sqlite::types::ValueRef;
 use sqlite::{Alter, Connection, Row, params};
-use store_rows::TableFault;
+use store_rows::{REFERENCE_UNDER, TableFault};
 
 /// The reference in a column.
 pub(crate) fn reference_at(row: &Row, at: usize) -> Result<Reference, TableFault>

@@ -2,11 +2,10 @@
 use crate::numbers::{number_at, whole_at};
 use crate::statements::rows_shown;
 use crate::stored_row::{RowsRead, StoredRow};
-use crate::texts::REQUESTS_FROM;
 use message_records::{Account, Whole};
 use posting_rules::Ordinal;
 use sqlite::{Alter, Connection, Row, params};
-use store_rows::TableFault;
+use store_rows::{REQUESTS_FROM, TableFault};
 
 /// A row of `request`: its ordinal within the range, and the other numbers, whatever they are. The outcome is
 /// a code.

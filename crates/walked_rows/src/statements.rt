@@ -6,7 +6,8 @@ ghost use Rattle.sqlite.specs.State.{FailsToQuery, HasCleanDisk, Shown};
 ghost use Rattle.sqlite.specs.Held.{state};
 ghost use Rattle.sqlite.specs.Values.{bound};
 ghost use Rattle.sql_meanings.specs.StatementAnswers.{OnlyShows};
-ghost use Rattle.store_rows.specs.believed.Failures.{HasFailed};
+ghost use Rattle.sqlite_rules.specs.Lists.{Has};
+ghost use Rattle.store_rows.specs.believed.Failures.{HasFailed, queries};
 ghost use Rattle.walked_rows.specs.Leaving.{OnlyReads};
 
 use sqlite::types::ValueRef;
@@ -18,7 +19,8 @@ pub(crate) fn rows_shown<S: Alter>(
     text: &str,
     params: &[ValueRef<'_>],
 ) -> Result<Vec<Row>, Error>
-    requires { (schema : Schema)
+    requires ours { Has queries text.now }
+    requires only { (schema : Schema)
         → OnlyShows text.now (length (bound params.now)) (understood schema text.now) }
     ensures shown { HasCleanDisk (state S.Store conn.new)
         → MatchResult result (λ found. Shown text.now (bound params.now) (state S.Store conn.old)

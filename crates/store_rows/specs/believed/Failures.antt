@@ -11,32 +11,55 @@ use Rattle.sqlite_rules.specs.Lists.{Has}
 use Rattle.posting_rules.specs.declared.fault.Rule.{Rule}
 use Rattle.posting_rules.specs.declared.fault.Rule.TheVariants.{Account, Key, Meta, Teller}
 use Rattle.sql_meanings.specs.believed.StatementAnswers.{is_taken_key}
-use Rattle.store_rows.specs.declared.texts.TheConstants.{ADD_ACCOUNT, ADD_BRANCH, ADD_EIGHT_POSTINGS}
-use Rattle.store_rows.specs.declared.texts.TheConstants.{ADD_EIGHT_REQUESTS, ADD_FLOOR, ADD_HISTORY, ADD_REFERENCE}
-use Rattle.store_rows.specs.declared.texts.TheConstants.{ADD_REQUEST, ADD_TELLER, SET_ACCOUNT, SET_BRANCH}
-use Rattle.store_rows.specs.declared.texts.TheConstants.{SET_META, SET_TELLER}
+use Rattle.store_rows.specs.declared.texts.TheConstants.{ACCOUNTS_FROM, ADD_ACCOUNT, ADD_BRANCH}
+use Rattle.store_rows.specs.declared.texts.TheConstants.{ADD_EIGHT_POSTINGS, ADD_EIGHT_REQUESTS, ADD_FLOOR}
+use Rattle.store_rows.specs.declared.texts.TheConstants.{ADD_HISTORY, ADD_REFERENCE, ADD_REQUEST, ADD_TELLER}
+use Rattle.store_rows.specs.declared.texts.TheConstants.{BRANCHES_FROM, FLOORS_FROM, GET_ACCOUNT, GET_BRANCH}
+use Rattle.store_rows.specs.declared.texts.TheConstants.{GET_FLOOR, GET_META, GET_REFERENCE, GET_REQUEST}
+use Rattle.store_rows.specs.declared.texts.TheConstants.{GET_TELLER, MAKE_ACCOUNT, MAKE_BRANCH, MAKE_FLOOR}
+use Rattle.store_rows.specs.declared.texts.TheConstants.{MAKE_HISTORY, MAKE_META, MAKE_REFERENCE, MAKE_REQUEST}
+use Rattle.store_rows.specs.declared.texts.TheConstants.{MAKE_TELLER, METAS_FROM, NEXT_BRANCH, NEXT_POSTING}
+use Rattle.store_rows.specs.declared.texts.TheConstants.{NEXT_REFERENCE, NEXT_REQUEST, POSTINGS_FROM}
+use Rattle.store_rows.specs.declared.texts.TheConstants.{POSTINGS_OF, REFERENCES_FROM, REFERENCE_UNDER}
+use Rattle.store_rows.specs.declared.texts.TheConstants.{REQUESTS_FROM, SET_ACCOUNT, SET_BRANCH, SET_META}
+use Rattle.store_rows.specs.declared.texts.TheConstants.{SET_TELLER, SET_VERSION, TELLERS_FROM}
 
--- the call of `sqlite` that led from one state to the other answered this error
+-- the texts by which calls ask
+abbrev pub queries : List (List ℕ)
+queries =
+    GET_META.now ∷ GET_BRANCH.now ∷ NEXT_BRANCH.now ∷ GET_TELLER.now ∷ GET_ACCOUNT.now ∷ GET_FLOOR.now
+    ∷ GET_REQUEST.now ∷ GET_REFERENCE.now ∷ BRANCHES_FROM.now ∷ TELLERS_FROM.now ∷ ACCOUNTS_FROM.now
+    ∷ POSTINGS_FROM.now ∷ POSTINGS_OF.now ∷ REQUESTS_FROM.now ∷ METAS_FROM.now ∷ FLOORS_FROM.now
+    ∷ REFERENCES_FROM.now ∷ REFERENCE_UNDER.now ∷ NEXT_REQUEST.now ∷ NEXT_POSTING.now ∷ NEXT_REFERENCE.now ∷ []
+
+-- those by which they make a table, or change a row
+abbrev pub changes : List (List ℕ)
+changes =
+    MAKE_META.now ∷ MAKE_BRANCH.now ∷ MAKE_TELLER.now ∷ MAKE_ACCOUNT.now ∷ MAKE_HISTORY.now ∷ MAKE_REQUEST.now
+    ∷ MAKE_FLOOR.now ∷ MAKE_REFERENCE.now ∷ SET_META.now ∷ SET_VERSION.now ∷ SET_BRANCH.now ∷ SET_TELLER.now
+    ∷ SET_ACCOUNT.now ∷ []
+
+-- those by which they put rows in
+abbrev pub inserts : List (List ℕ)
+inserts =
+    ADD_BRANCH.now ∷ ADD_TELLER.now ∷ ADD_ACCOUNT.now ∷ ADD_FLOOR.now ∷ ADD_HISTORY.now ∷ ADD_REQUEST.now
+    ∷ ADD_REFERENCE.now ∷ ADD_EIGHT_POSTINGS.now ∷ ADD_EIGHT_REQUESTS.now ∷ []
+
+-- the call of `sqlite` that led from one state to the other answered this error; what it ran is a text of ours
 pub data HasFailed (old new : State) (e : Error) : Type 0 where
   -- a query failed: that it finds no row is no failure
-  Asking : (text : List ℕ) (params : Row) → QueriesRowInside text params old new (Err e)
+  Asking : (text : List ℕ) (params : Row) → Has queries text → QueriesRowInside text params old new (Err e)
       → e ≢ QueryReturnedNoRows → HasFailed old new e
   -- a row couldn't be changed, or a table not made
-  Changing : (text : List ℕ) (params : Row) → ExecutesInside 0 text params old new (Err e)
+  Changing : (text : List ℕ) (params : Row) → Has changes text → ExecutesInside 0 text params old new (Err e)
       → HasFailed old new e
   -- a row couldn't be put in: that its key is taken is no failure
-  Putting : (text : List ℕ) (params : Row) → ExecutesInside 0 text params old new (Err e)
+  Putting : (text : List ℕ) (params : Row) → Has inserts text → ExecutesInside 0 text params old new (Err e)
       → is_taken_key e ≡ false → HasFailed old new e
   -- the store failed, as it was to commit or was asked what it has: that no transaction goes on is no failure
   Committing : Fails old new ⊥ e → HasFailed old new e
 
 -- ---- damage that a statement meets as it writes
-
--- the texts by which calls put rows in
-abbrev pub inserts : List (List ℕ)
-inserts =
-    ADD_BRANCH.now ∷ ADD_TELLER.now ∷ ADD_ACCOUNT.now ∷ ADD_FLOOR.now ∷ ADD_HISTORY.now ∷ ADD_REQUEST.now
-    ∷ ADD_REFERENCE.now ∷ ADD_EIGHT_POSTINGS.now ∷ ADD_EIGHT_REQUESTS.now ∷ []
 
 -- rows that a call puts in, or changes: by which text, with which values
 abbrev pub Additions : Type 1

@@ -31,15 +31,16 @@ returns-in-Ok-true-clause-says g c =
     let mid = c.make_lacking.new.tx.conn.now in
     let new = c.set_version.new.tx.conn.now in
     let one = c.in-Ok.ensures.says in
-    let two = c.in-Ok-true.ensures in
+    let two = c.in-Ok-true.ensures.sets in
     record {
       same_reference = two.same_reference ∙ one.same_reference;
       answers = λ clean live.
           let before = still_clean two.survives clean in
           let shows = one.leaves before live in
           let set = two.answers clean shows.mode in
+          let lies = rw c.in-Ok-true.field-0-test at c.in-Ok-true.ensures.lies in
           moved c.args.from c.requires (s old) (s mid) (s new) (one.answers before live).0 (rw c.in-Ok-true.field-0-test at set)
-          (two.leaves clean shows.mode).1;
+          (two.leaves clean shows.mode).1 (λ file. (lies clean shows.mode file).1);
       leaves = λ clean live.
           let shows = one.leaves (still_clean two.survives clean) live in
           goes_on (s old) (s mid) (s new) shows (two.leaves clean shows.mode).0.0;
@@ -53,7 +54,7 @@ returns-in-Ok-false-clause-says g c =
     let mid = c.make_lacking.new.tx.conn.now in
     let new = c.set_version.new.tx.conn.now in
     let one = c.in-Ok.ensures.says in
-    let two = c.in-Ok-false.ensures in
+    let two = c.in-Ok-false.ensures.sets in
     record {
       same_reference = two.same_reference ∙ one.same_reference;
       answers = λ clean live.
@@ -74,7 +75,7 @@ returns-in-Err-set_version-clause-cause g c live =
     let mid = c.make_lacking.new.tx.conn.now in
     let new = c.set_version.new.tx.conn.now in
     let one = c.in-Ok.ensures.says in
-    let two = c.in-Err-set_version.ensures in
+    let two = c.in-Err-set_version.ensures.sets in
     let e = c.in-Err-set_version.field-0 in
     known_within g.S.Store old mid new new (comes one.survives) (λ clean. clean) (same_moment (state g.S.Store new))
     Store

@@ -1,12 +1,14 @@
 -- One creation after another, and how each may fail.
 use Rattle.std.proofs.Common.{◌≡◌, ◌+◌, ◌-◌, ◌<◌, ◌≤◌, ℕ, List, length, length-drop, drop, slice_get, Some, Ok, Err}
-use Rattle.std.proofs.Common.{inl, inr, refl, ap, rules, subst, ◌∙◌, arith, false, IsTrue}
+use Rattle.std.proofs.Common.{inl, inr, refl, ap, rules, subst, sym, ◌∙◌, arith, false, IsTrue}
 use Rattle.std.specs.List.{AllByRecursion}
 use Rattle.sqlite.specs.{State.HasCleanDisk, Held.state, Table.Table}
 use Rattle.sql_meanings.specs.Making.{CreatesOnly}
 use Rattle.sql_meanings.proofs.Places.{all_later, all_weaker, each_at, later_at, some_at}
 use Rattle.sql_meanings.proofs.Saying.{survives_both}
+use Rattle.sqlite_rules.specs.Lists.{Has}
 use Rattle.store_rows.specs.Creation.{MakesAll, all_texts}
+use Rattle.store_rows.specs.believed.Failures.{changes}
 use Rattle.store_rows.proofs.{CreateTexts.each_creates, MadeSoFar.Reached}
 use Rattle.store_rows.proofs.CreationSteps.{begun_live, ends_made, makes_leave, one_more, then_fails}
 use Rattle.store_rows.proofs.creation.make_tables.Goals as goal
@@ -30,6 +32,38 @@ uncounted first =
     all_later (λ (it : List ℕ × Table). it.1.is_counted ≡ false) all_texts first
     (all_weaker (λ (it : List ℕ × Table). CreatesOnly it.0 it.1 × (it.1.is_counted ≡ false))
     (λ it. it.1.is_counted ≡ false) (λ it both. both.1) all_texts each_creates)
+
+-- each is a text of ours
+all_ours : AllByRecursion (λ it. Has changes it.0) all_texts
+all_ours = (
+  inl refl,
+  (
+    inr (inl refl),
+    (
+      inr (inr (inl refl)),
+      (
+        inr (inr (inr (inl refl))),
+        (
+          inr (inr (inr (inr (inl refl)))),
+          (
+            inr (inr (inr (inr (inr (inl refl))))),
+            (
+              inr (inr (inr (inr (inr (inr (inl refl)))))),
+              (inr (inr (inr (inr (inr (inr (inr (inl refl))))))), tt),
+            ),
+          ),
+        ),
+      ),
+    ),
+  ),
+)
+
+pub make_table-requires : goal.make_table-requires
+make_table-requires g c =
+    let next = some_at all_texts c.loop-at.at (omega arith) in
+    let text : c.make_text.result.now ≡ next.0.0 = rw next.1 at c.make_text.ensures in
+    subst (Has changes) (sym text)
+    (each_at (λ (it : List ℕ × Table). Has changes it.0) all_texts all_ours c.loop-at.at next.0 next.1)
 
 pub loop-at-init : goal.loop-at-init
 loop-at-init g c = record {

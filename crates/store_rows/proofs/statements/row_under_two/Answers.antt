@@ -13,7 +13,7 @@ returns g c = record {
     as_integer c.args.second c.args.second refl (omega arith),
   ) at (c.query_row.ensures.row clean);
   leaves = λ clean only.
-      asked _ _ _ _ c.query_row.result (c.query_row.ensures.row clean)
+      asked _ _ _ _ c.query_row.result c.requires.ours (c.query_row.ensures.row clean)
       (kept_reading _ _ _ _ c.query_row.result only (c.query_row.ensures.row clean));
   same_reference = c.query_row.ensures.same_reference;
   survives = c.query_row.ensures.survives;

@@ -43,7 +43,7 @@ returns-in_err-count g c =
       ) at (e.ensures.runs clean live));
       leaves = λ clean live. rw same (
         kept_inside _ _ _ _ (Err e.field-0.0) (e.ensures.runs clean live),
-        Changing _ _ (e.ensures.runs clean live),
+        Changing _ _ c.requires.ours (e.ensures.runs clean live),
       );
       same_reference = e.ensures.same_reference;
       survives = e.ensures.survives;

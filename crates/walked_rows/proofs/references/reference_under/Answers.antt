@@ -8,8 +8,8 @@ use Rattle.walked_rows.proofs.Leaving.{fails_too, reads_any}
 use Rattle.walked_rows.proofs.ReferenceRead.{only_references, tells_failure, tells_reference}
 use Rattle.walked_rows.proofs.references.reference_under.Goals as goal
 
-pub rows_shown-requires : goal.rows_shown-requires
-rows_shown-requires g c = only_references
+pub rows_shown-requires-clause-only : goal.rows_shown-requires-clause-only
+rows_shown-requires-clause-only g c = only_references
 
 pub returns-in-Ok-clause-answers : goal.returns-in-Ok-clause-answers
 returns-in-Ok-clause-answers g c clean all has =

@@ -14,13 +14,13 @@ returns-clause-failed g c clean =
     let old = state g.S.Store c.args.conn.now in
     let new = state g.S.Store c.query_all.new.self in
     IfErr-weaker c.query_all.result _ _
-    (λ e h. query_failed old new _ _ e (c.requires c.args.conn.now.schema) h) (c.query_all.ensures.err clean)
+    (λ e h. query_failed old new _ _ e c.requires.ours (c.requires.only c.args.conn.now.schema) h) (c.query_all.ensures.err clean)
 
 pub returns-clause-reads : goal.returns-clause-reads
 returns-clause-reads g c =
     let old = state g.S.Store c.args.conn.now in
     let new = state g.S.Store c.query_all.new.self in
-    let only = c.requires c.args.conn.now.schema in
+    let only = c.requires.only c.args.conn.now.schema in
     let shown = c.query_all.ensures in
     record {
       same = λ clean.

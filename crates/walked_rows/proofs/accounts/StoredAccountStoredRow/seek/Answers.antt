@@ -4,8 +4,8 @@ use Rattle.sqlite.specs.Held.{state}
 use Rattle.walked_rows.proofs.{Sought.tells_walk, WalkTexts.walks_accounts}
 use Rattle.walked_rows.proofs.accounts.StoredAccountStoredRow.seek.Goals as goal
 
-pub rows_shown-requires : goal.rows_shown-requires
-rows_shown-requires g c = walks_accounts.only
+pub rows_shown-requires-clause-only : goal.rows_shown-requires-clause-only
+rows_shown-requires-clause-only g c = walks_accounts.only
 
 pub returns-clause-answers : goal.returns-clause-answers
 returns-clause-answers g c clean rows has =

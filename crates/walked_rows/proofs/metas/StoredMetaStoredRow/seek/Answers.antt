@@ -5,8 +5,8 @@ use Rattle.store_rows.specs.believed.BankTables.{meta}
 use Rattle.walked_rows.proofs.{Sought.tells_walk, WalkTexts.walks_metas}
 use Rattle.walked_rows.proofs.metas.StoredMetaStoredRow.seek.Goals as goal
 
-pub rows_shown-requires : goal.rows_shown-requires
-rows_shown-requires g c = (walks_metas meta.checks).only
+pub rows_shown-requires-clause-only : goal.rows_shown-requires-clause-only
+rows_shown-requires-clause-only g c = (walks_metas meta.checks).only
 
 pub returns-clause-answers : goal.returns-clause-answers
 returns-clause-answers g c clean rows has =

@@ -10,11 +10,11 @@ use Rattle.walked_rows.proofs.Sought.{tells_of_from, tells_walk}
 use Rattle.walked_rows.proofs.WalkTexts.{is_postings_of, reads_postings_of, walks_postings}
 use Rattle.walked_rows.proofs.postings.StoredPostingStoredRow.seek.Goals as goal
 
-pub rows_shown-requires : goal.rows_shown-requires
-rows_shown-requires g c = walks_postings.only
+pub rows_shown-requires-clause-only : goal.rows_shown-requires-clause-only
+rows_shown-requires-clause-only g c = walks_postings.only
 
-pub rows_shown-requires-in-Some : goal.rows_shown-requires-in-Some
-rows_shown-requires-in-Some g c = only_reads is_postings_of
+pub rows_shown-requires-in-Some-clause-only : goal.rows_shown-requires-in-Some-clause-only
+rows_shown-requires-in-Some-clause-only g c = only_reads is_postings_of
 
 pub returns-in-None-clause-answers : goal.returns-in-None-clause-answers
 returns-in-None-clause-answers g c clean rows has =

@@ -4,8 +4,8 @@ use Rattle.sqlite.specs.Held.{state}
 use Rattle.walked_rows.proofs.{Sought.tells_walk, WalkTexts.walks_requests}
 use Rattle.walked_rows.proofs.requests.StoredRequestStoredRow.seek.Goals as goal
 
-pub rows_shown-requires : goal.rows_shown-requires
-rows_shown-requires g c = walks_requests.only
+pub rows_shown-requires-clause-only : goal.rows_shown-requires-clause-only
+rows_shown-requires-clause-only g c = walks_requests.only
 
 pub returns-clause-answers : goal.returns-clause-answers
 returns-clause-answers g c clean rows has =
