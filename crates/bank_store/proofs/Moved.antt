@@ -3,7 +3,7 @@ use Rattle.std.proofs.Common.{◌≡◌, ◌≢◌, ℕ, zero, suc, pos, arith, 
 use Rattle.std.proofs.Common.{is_some, Ok, Err, refl, ap, ◌∙◌, subst, sym, inl, inr}
 use Rattle.std.specs.Prelude.{IsTrue}
 use Rattle.std.proofs.lemmas.Bool.{cases_Bool}
-use Rattle.sqlite.specs.{Effect.Database, Held.Held, Held.state, Tree.Trees, declared.error.Error.Error}
+use Rattle.sqlite.specs.{Effect.Database, Effect.IsDatabase, Held.Held, Held.state, Tree.Trees, declared.error.Error.Error}
 use Rattle.sqlite.specs.State.{State, HasCleanDisk, KeepsCommit, Survives, Shows as StateShows}
 use Rattle.sqlite_trees.specs.declared.store.Store.{Ghosts}
 use Rattle.posting_rules.specs.believed.Tables.{Tables}
@@ -104,22 +104,24 @@ module _ (from : ℕ) (earlier : IsEarlier from) (old mid new : State) (made : L
     all_empty (suc (suc zero)) is spares its each = (still_empty spares its reference refl (λ same. cc) each.0, tt)
     all_empty (suc (suc (suc n))) is spares its each = absurd (omega (arith, is.1))
 
-    completes : SparesAllBut (meta.name ∷ []) mid.now new.now
+    completes : SparesAllBut (meta.name ∷ []) mid.now new.now × ∥ IsDatabase new.now ∥₁
         → (IsBankFile mid.now → SetsItsVersion VERSION mid.now new.now) → Completes from old.now new.now
-    completes spares lies all =
+    completes (spares, sound) lies all =
         let here = completed from old.now mid.now earlier all made in
         let first = subst (λ n. AreMade old.now.schema (take n all_tables)) (sym (one_and from)) all in
         let same = lie_still from old.now mid.now made meta refl first.0 (pos 1) in
         record {
+          sound = sound;
           tables = subst HasBankTables (sym spares.schema) here;
           empty = all_empty from earlier spares here.0 made.empty.each;
           meta = λ row it. lies (is_file mid.now made.empty.sound here) row
               (it.0, subst (λ rows. Has rows it.0) (sym same) it.1, it.2);
         }
 
-    pub moved : SetsVersion VERSION mid new (Ok true) → SparesAllBut (meta.name ∷ []) mid.now new.now
+    pub moved : SetsVersion VERSION mid new (Ok true)
+        → SparesAllBut (meta.name ∷ []) mid.now new.now × ∥ IsDatabase new.now ∥₁
         → (IsBankFile mid.now → SetsItsVersion VERSION mid.now new.now) → ChangesTables from old.now new.now (Ok tt)
-    moved set spares lies = (moved_tables set, moved_rows spares, completes spares lies)
+    moved set spares lies = (moved_tables set, moved_rows spares.0, completes spares lies)
 
     none_there : (o : Option StoredMeta) → false ≡ is_some o → o ≡ None
     none_there None h = refl

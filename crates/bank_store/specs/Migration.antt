@@ -1,7 +1,7 @@
 -- A bank of an earlier version is carried over to this version, or why none is.
 use Rattle.std.specs.Prelude.{◌≡◌, ◌≢◌, ◌⊎◌, ◌+◌, ℕ, ℤ, pos, List, map, take, false, Option, Some, None}
 use Rattle.std.specs.Prelude.{Result, Ok, Err, IfOk, IfErr, OnErr, OnOk, ⊤}
-use Rattle.sqlite.specs.Effect.{Database}
+use Rattle.sqlite.specs.Effect.{Database, IsDatabase}
 use Rattle.sqlite.specs.Held.{Held, state}
 use Rattle.sqlite.specs.Schema.{Schema}
 use Rattle.sqlite.specs.State.{State, HasCleanDisk}
@@ -85,9 +85,10 @@ abbrev pub KeepsRows : Database → Database → Type 0
 KeepsRows old new = (t : Table) → Stands old.schema t → t.tree ≢ tree_of new.schema meta.name
     → Stands new.schema t × (new.trees t.tree ≡ old.trees t.tree)
 
--- The tables of this version are there. Those that the version lacked have no rows, and the row of the bank has this
--- version, and the count that it had.
+-- The database is sound, and the tables of this version are there. Those that the version lacked have no rows, and the
+-- row of the bank has this version, and the count that it had.
 pub record IsComplete (from : ℕ) (old new : Database) : Type 0 where
+  pub sound : ∥ IsDatabase new ∥₁
   pub tables : HasBankTables new.schema
   pub empty : HoldsEach new (map (λ it. it.1) (lacking from)) (no_rows (lacking from))
   pub meta : (row : StoredMeta) → MetaLies old (Some row) → MetaLies new (Some (record row { version = VERSION }))

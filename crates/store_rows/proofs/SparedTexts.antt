@@ -2,7 +2,7 @@
 use Rattle.std.proofs.Common.{◌≡◌, ℕ, List, [], ◌∷◌, Bool, true, false, Ok, Err, Result, refl, cond, inl, inr}
 use Rattle.std.proofs.lemmas.Bool.{cases_Bool}
 use Rattle.std.specs.{Prelude.OnOk, List.AllByRecursion}
-use Rattle.sqlite.specs.{Order.Row, Schema.Schema, Table.Table, declared.error.Error.Error}
+use Rattle.sqlite.specs.{Effect.IsDatabase, Order.Row, Schema.Schema, Table.Table, declared.error.Error.Error}
 use Rattle.sqlite.specs.Clock.{timed}
 use Rattle.sqlite.specs.Command.TheVariants.{Insert, Update}
 use Rattle.sqlite.specs.State.{State, Executes, ExecutesIn, IsStatement, Runs, Writes, shows_rows, text_of}
@@ -227,16 +227,20 @@ spares = record {
   add_reference = put_by text.ADD_REFERENCE.now bank.reference.name reference is_add_reference;
 }
 
--- a write of the version leaves every table but `meta`
-pub version_spares : (old new : State) (params : Row) (count : ℕ)
+-- a write of the version leaves every table but `meta`, and a sound database
+version_spares : (old new : State) (params : Row) (count : ℕ)
     → Executes text.SET_VERSION.now params old new (Ok count)
-    → SparesAllBut (bank.meta.name ∷ []) old.now new.now
+    → SparesAllBut (bank.meta.name ∷ []) old.now new.now × ∥ IsDatabase new.now ∥₁
 version_spares old new params count h =
-    update_leaves old new text.SET_VERSION.now bank.meta.name params count h is_set_version
+    let it = ran text.SET_VERSION.now old new params count h in
+    let on = update_understood old.now.schema bank.meta.name text.SET_VERSION.now is_set_version it.0 it.1.is in
+    let w : Writes old new it.0.returning (Update on.place on.query) (text_of text.SET_VERSION.now it.0)
+    (timed params it.0.formats it.1.now) count = rw on.is at it.2 in
+    (update_leaves old new text.SET_VERSION.now bank.meta.name params count h is_set_version, ∣ w.sound ∣₁)
 
 -- so it is reported
 pub version_spared : (old new : State) (params : Row) (answer : Result Bool Error)
     → MeetsOne text.SET_VERSION.now params old new answer
-    → OnOk answer (SparesAllBut (bank.meta.name ∷ []) old.now new.now)
+    → OnOk answer (SparesAllBut (bank.meta.name ∷ []) old.now new.now × ∥ IsDatabase new.now ∥₁)
 version_spared old new params (Ok met) h = version_spares old new params h.0 h.1.0
 version_spared old new params (Err e) h = tt

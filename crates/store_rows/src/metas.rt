@@ -7,6 +7,7 @@ ghost use Rattle.sql_meanings.specs.StatementAnswers.{TellsRow};
 ghost use Rattle.store_rows.specs.Calls.{OfMeta, SetsNumber};
 ghost use Rattle.sqlite.specs.Held.{state};
 ghost use Rattle.sqlite.specs.State.{HasCleanDisk, QueriesRowInside};
+ghost use Rattle.sqlite.specs.Effect.{IsDatabase};
 ghost use Rattle.sqlite.specs.declared.types.Value.TheVariants.{Int};
 ghost use Rattle.store_rows.specs.believed.Columns.{meta_in};
 ghost use Rattle.store_rows.specs.Columns.{meta_shown};
@@ -100,7 +101,7 @@ pub fn set_version<S: Alter>(tx: &mut Transaction<'_, S>, version: i64) -> Resul
     ensures sets { Says S.Store tx.old tx.new
         (Inside (λ old new. SetsVersion version old new result))
         (Inside (λ old new. Changes SET_VERSION.now (under id version) old new result
-        × OnOk result (SparesAllBut (table.name ∷ []) old.now new.now))) }
+        × OnOk result (SparesAllBut (table.name ∷ []) old.now new.now × ∥ IsDatabase new.now ∥₁))) }
     // Whatever rows the file holds.
     ensures lies { SetsLying S.Store tx.old tx.new table id (SetsItsVersion version) result }
 {
