@@ -129,8 +129,6 @@ fn outcomes_text(alloc: Global, came: &[Outcome]) -> Result<String, AllocError> 
         Outcome::BelowFloor,
         Outcome::OverLimit,
         Outcome::ReusedNumber,
-        Outcome::Closed,
-        Outcome::Sealed,
         Outcome::Full,
         Outcome::Malformed,
     ] {

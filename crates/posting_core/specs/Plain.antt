@@ -17,7 +17,6 @@ plain_tables bank = record {
   requests = bank.requests.items;
   floors = bank.floors.items;
   references = bank.references.items;
-  closings = bank.closings.items;
 }
 
 -- it is never down, and what a crash leaves are its rows

@@ -1,6 +1,5 @@
 pub mod Numbering
 pub mod Commands
-pub mod Closings
 pub mod Kept
 pub mod Cases
 pub mod Entries
@@ -9,7 +8,6 @@ pub mod LookUps
 pub mod Damage
 pub mod Runs
 pub mod Laws
-pub mod ClosedBooks
 pub mod Counter
 pub mod AnyTables
 pub mod Changes
