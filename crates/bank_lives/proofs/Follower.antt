@@ -14,7 +14,7 @@ use Rattle.posting_rules.specs.Stated.{HasContent, Names}
 use Rattle.posting_rules.specs.declared.{judgments.Verdict.Verdict, limits.TheConstants.MAX_DECIDED}
 use Rattle.posting_rules.specs.declared.judgments.Verdict.TheVariants.{Again, Posted, Refused, Unkept}
 use Rattle.posting_rules.specs.believed.{Cases.case_of, Commands.AreCommands, Commands.Command, Commands.Open}
-use Rattle.posting_rules.specs.believed.Commands.{Post, Terms, is_teller_open, opened}
+use Rattle.posting_rules.specs.believed.Commands.{Close, Post, Terms, is_teller_open, opened}
 use Rattle.posting_rules.specs.believed.Entries.{DecidedRequest, decided, facts, kept, kept_fields, reply, with_record}
 use Rattle.posting_rules.specs.believed.Entries.{with_verdict}
 use Rattle.posting_rules.specs.believed.{Kept.KeptFields, Runs.ArePosts, Runs.followed_by}
@@ -27,6 +27,10 @@ use Rattle.posting_core.specs.believed.LogEntries.{AnsweredRequest, answered_aft
 use Rattle.posting_core.specs.believed.LogEntries.{entry_of}
 use Rattle.posting_core.specs.believed.Stream.{posted_records}
 use Rattle.bank_lives.specs.Machines.{AreSentOn, ComesFirst, Follows, IsAnsweredAgain, KeepsRequest}
+use Rattle.posting_rules.specs.declared.rows.ClosingRow.{ClosingRow}
+use Rattle.posting_rules.specs.believed.Closings.{books_of, closings}
+use Rattle.posting_rules.specs.declared.judgments.Books.TheVariants.{Current}
+use Rattle.posting_rules.proofs.Closings.{current_parts}
 
 -- ---- what holds of each
 
@@ -89,12 +93,12 @@ module _ (opened : ℕ → Option Terms) where
   verdict_opens es m r (Refused o) t all = (t, all)
   verdict_opens es m r (Posted x y z) t all = (t, all)
 
-  record_opens : (es : List DecidedRequest) (m : ℕ) (read : Result RequestFields Bad) → AllByRecursion Opens es
-      → AllByRecursion Opens (with_record m read opened es)
-  record_opens es m (Err f) all = all
-  record_opens es m (Ok r) all = elim (cases_Bool (is_teller_open opened r.teller)) [
-    | inl t ↦ verdict_opens es m r (case_of (facts opened es r) r) t all
-    | inr f ↦ subst (λ (v : Verdict). AllByRecursion Opens (with_verdict m r v es)) (sym (closed_case opened es r f)) all
+  record_opens : (runs : List ClosingRow) (es : List DecidedRequest) (m : ℕ) (read : Result RequestFields Bad) → AllByRecursion Opens es
+      → AllByRecursion Opens (with_record m read opened runs es)
+  record_opens runs es m (Err f) all = all
+  record_opens runs es m (Ok r) all = elim (cases_Bool (is_teller_open opened r.teller)) [
+    | inl t ↦ verdict_opens es m r (case_of (facts opened runs es r) r) t all
+    | inr f ↦ subst (λ (v : Verdict). AllByRecursion Opens (with_verdict m r v es)) (sym (closed_case opened runs es r f)) all
   ]
 
 all_open : (log : List Command) → AllByRecursion (Opens (λ b. opened log b)) (decided log)
@@ -102,7 +106,8 @@ all_open [] = tt
 all_open (Open b terms ∷ log) =
     all_so (Opens (λ x. opened log x)) (Opens (λ x. opened (Open b terms ∷ log) x))
     (λ e is. teller_stays (λ x. opened log x) b terms e.request.teller is) (decided log) (all_open log)
-all_open (Post m bytes ∷ log) = record_opens (λ b. opened log b) (decided log) m (request_of bytes) (all_open log)
+all_open (Close first last ∷ log) = all_open log
+all_open (Post m bytes ∷ log) = record_opens (λ b. opened log b) (closings log) (decided log) m (request_of bytes) (all_open log)
 
 -- a request under another number
 abbrev Apart : ℕ → ℕ → RequestFields → Type 0
@@ -140,7 +145,7 @@ kept_now es e t n teller number =
     (eq-eqb e.request.number n number))
 
 -- what is kept stays kept
-module _ (opened : ℕ → Option Terms) (es : List DecidedRequest) (t n : ℕ) (k : KeptFields) (is : kept es t n ≡ Some k)
+module _ (opened : ℕ → Option Terms) (runs : List ClosingRow) (es : List DecidedRequest) (t n : ℕ) (k : KeptFields) (is : kept es t n ≡ Some k)
   where
     verdict_keeps : (m : ℕ) (r : RequestFields) (v : Verdict) → IsVerdict opened es r v
         → kept (with_verdict m r v es) t n ≡ Some k
@@ -149,23 +154,24 @@ module _ (opened : ℕ → Option Terms) (es : List DecidedRequest) (t n : ℕ) 
     verdict_keeps m r (Refused o) h = kept_later es _ t n (apart_from es t n r k h.new is) ∙ is
     verdict_keeps m r (Posted x y z) h = kept_later es _ t n (apart_from es t n r k h.new is) ∙ is
 
-    record_keeps : (m : ℕ) (read : Result RequestFields Bad) → kept (with_record m read opened es) t n ≡ Some k
+    record_keeps : (m : ℕ) (read : Result RequestFields Bad) → kept (with_record m read opened runs es) t n ≡ Some k
     record_keeps m (Err f) = is
-    record_keeps m (Ok r) = verdict_keeps m r (case_of (facts opened es r) r) (verdict_is opened es r)
+    record_keeps m (Ok r) = verdict_keeps m r (case_of (facts opened runs es r) r) (verdict_is opened runs es r)
 
 stays_kept : (log commands : List Command) (t n : ℕ) (k : KeptFields) → kept (decided log) t n ≡ Some k
     → kept (decided (followed_by log commands)) t n ≡ Some k
 stays_kept log [] t n k is = is
 stays_kept log (Open b terms ∷ cs) t n k is = stays_kept (Open b terms ∷ log) cs t n k is
+stays_kept log (Close first last ∷ cs) t n k is = stays_kept (Close first last ∷ log) cs t n k is
 stays_kept log (Post m bytes ∷ cs) t n k is =
     stays_kept (Post m bytes ∷ log) cs t n k
-    (record_keeps (λ b. opened log b) (decided log) t n k is m (request_of bytes))
+    (record_keeps (λ b. opened log b) (closings log) (decided log) t n k is m (request_of bytes))
 
 -- each decided request is the one that is kept under its number
 abbrev IsFound : List DecidedRequest → DecidedRequest → Type 0
 IsFound es e = kept es e.request.teller e.request.number ≡ Some (kept_fields e)
 
-module _ (opened : ℕ → Option Terms) (es : List DecidedRequest) (all : AllByRecursion (IsFound es) es) where
+module _ (opened : ℕ → Option Terms) (runs : List ClosingRow) (es : List DecidedRequest) (all : AllByRecursion (IsFound es) es) where
   one_more : (e : DecidedRequest) → kept es e.request.teller e.request.number ≡ None
       → AllByRecursion (IsFound (e ∷ es)) (e ∷ es)
   one_more e none = (
@@ -183,15 +189,16 @@ module _ (opened : ℕ → Option Terms) (es : List DecidedRequest) (all : AllBy
   verdict_finds m r (Posted x y z) h = one_more _ h.new
 
   record_finds : (m : ℕ) (read : Result RequestFields Bad)
-      → AllByRecursion (IsFound (with_record m read opened es)) (with_record m read opened es)
+      → AllByRecursion (IsFound (with_record m read opened runs es)) (with_record m read opened runs es)
   record_finds m (Err f) = all
-  record_finds m (Ok r) = verdict_finds m r (case_of (facts opened es r) r) (verdict_is opened es r)
+  record_finds m (Ok r) = verdict_finds m r (case_of (facts opened runs es r) r) (verdict_is opened runs es r)
 
 all_found : (log : List Command) → AllByRecursion (IsFound (decided log)) (decided log)
 all_found [] = tt
 all_found (Open b terms ∷ log) = all_found log
+all_found (Close first last ∷ log) = all_found log
 all_found (Post m bytes ∷ log) =
-    record_finds (λ b. opened log b) (decided log) (all_found log) m (request_of bytes)
+    record_finds (λ b. opened log b) (closings log) (decided log) (all_found log) m (request_of bytes)
 
 all_requests : (es : List DecidedRequest) → AreSound es → AllByRecursion (λ e. IsRequest e.request) es
 all_requests [] sound = tt
@@ -270,11 +277,14 @@ found_or_none Q (e ∷ es) t n all = elim (cases_Bool (eqb e.request.teller t &&
 -- it is decided where it is new
 now_kept : (log : List Command) (m : ℕ) (r : RequestFields) → IsRequest r
     → is_teller_open (λ b. opened log b) r.teller ≡ true → length (decided log) < MAX_DECIDED
+    → books_of (closings log) r.teller r.number ≡ Current
     → kept (decided log) r.teller r.number ≡ None → KeepsRequest (Post m (request_spelling r) ∷ log) r
-now_kept log m r is open_teller room none =
+now_kept log m r is open_teller room current none =
+    let books = current_parts (closings log) r.teller r.number current in
     let names : Names log (request_spelling r) r =
     record { read = request_again r (request_spelling r) is refl; teller = open_teller } in
-    let added = (decides log m (request_spelling r)).where_decided r (record { names = names; new = none; room = room }) in
+    let added = (decides log m (request_spelling r)).where_decided r
+    (record { names = names; new = none; unclosed = books.0; unsealed = books.1; room = room }) in
     let e = added.0 in (
       kept_fields e,
       ap (λ (es : List DecidedRequest). kept es r.teller r.number) added.1.adds
@@ -284,7 +294,7 @@ now_kept log m r is open_teller room none =
     )
 
 -- a record of another number leaves it new, and adds one at most
-module _ (opened : ℕ → Option Terms) (es : List DecidedRequest) (t n : ℕ) (none : kept es t n ≡ None) where
+module _ (opened : ℕ → Option Terms) (runs : List ClosingRow) (es : List DecidedRequest) (t n : ℕ) (none : kept es t n ≡ None) where
   verdict_leaves : (m : ℕ) (r : RequestFields) (v : Verdict) → Apart t n r → kept (with_verdict m r v es) t n ≡ None
   verdict_leaves m r (Unkept o) apart = none
   verdict_leaves m r (Again y) apart = none
@@ -293,20 +303,20 @@ module _ (opened : ℕ → Option Terms) (es : List DecidedRequest) (t n : ℕ) 
 
   record_leaves : (m : ℕ) (read : Result RequestFields Bad)
       → ((x : RequestFields) → read ≡ Ok x → x.teller ≡ t → x.number ≡ n → ⊥)
-      → kept (with_record m read opened es) t n ≡ None
+      → kept (with_record m read opened runs es) t n ≡ None
   record_leaves m (Err f) other = none
   record_leaves m (Ok r) other =
-      verdict_leaves m r (case_of (facts opened es r) r) (elim (cases_Bool (eqb r.teller t && eqb r.number n)) [
+      verdict_leaves m r (case_of (facts opened runs es r) r) (elim (cases_Bool (eqb r.teller t && eqb r.number n)) [
         | inl is ↦
             let two = and_parts (eqb r.teller t) (eqb r.number n) is in
             absurd (other r refl (eqb-true r.teller t two.0) (eqb-true r.number n two.1))
         | inr f ↦ f
       ])
 
-one_at_most : (opened : ℕ → Option Terms) (es : List DecidedRequest) (m : ℕ) (read : Result RequestFields Bad)
-    → length (with_record m read opened es) ≤ length es + 1
-one_at_most opened es m (Err f) = omega arith
-one_at_most opened es m (Ok r) = by (case_of (facts opened es r) r)
+one_at_most : (opened : ℕ → Option Terms) (runs : List ClosingRow) (es : List DecidedRequest) (m : ℕ) (read : Result RequestFields Bad)
+    → length (with_record m read opened runs es) ≤ length es + 1
+one_at_most opened runs es m (Err f) = omega arith
+one_at_most opened runs es m (Ok r) = by (case_of (facts opened runs es r) r)
   where
     by : (v : Verdict) → length (with_verdict m r v es) ≤ length es + 1
     by (Unkept o) = omega arith
@@ -316,21 +326,22 @@ one_at_most opened es m (Ok r) = by (case_of (facts opened es r) r)
 
 sent_is_kept : (log sent : List Command) (r : RequestFields) → IsRequest r → ArePosts sent
     → ComesFirst r (posted_records sent) → is_teller_open (λ b. opened log b) r.teller ≡ true
-    → length (decided log) + length sent ≤ MAX_DECIDED
+    → length (decided log) + length sent ≤ MAX_DECIDED → books_of (closings log) r.teller r.number ≡ Current
     → (kept (decided log) r.teller r.number ≡ None) ⊎ KeepsRequest log r → KeepsRequest (followed_by log sent) r
-sent_is_kept log sent r is posts comes open_teller room (inr has) =
+sent_is_kept log sent r is posts comes open_teller room current (inr has) =
     (has.0, stays_kept log sent r.teller r.number has.0 has.1, has.2)
-sent_is_kept log [] r is posts comes open_teller room (inl none) = absurd comes
-sent_is_kept log (Open b terms ∷ cs) r is posts comes open_teller room (inl none) = absurd posts
-sent_is_kept log (Post m bytes ∷ cs) r is posts (inl same) open_teller room (inl none) =
-    let now = now_kept log m r is open_teller (omega (arith, room)) none in
+sent_is_kept log [] r is posts comes open_teller room current (inl none) = absurd comes
+sent_is_kept log (Open b terms ∷ cs) r is posts comes open_teller room current (inl none) = absurd posts
+sent_is_kept log (Close first last ∷ cs) r is posts comes open_teller room current (inl none) = absurd posts
+sent_is_kept log (Post m bytes ∷ cs) r is posts (inl same) open_teller room current (inl none) =
+    let now = now_kept log m r is open_teller (omega (arith, room)) current none in
     let has : KeepsRequest (Post m bytes ∷ log) r =
     subst (λ (text : List ℕ). KeepsRequest (Post m text ∷ log) r) (sym same) now in
     (has.0, stays_kept (Post m bytes ∷ log) cs r.teller r.number has.0 has.1, has.2)
-sent_is_kept log (Post m bytes ∷ cs) r is posts (inr later) open_teller room (inl none) =
-    let few = one_at_most (λ b. opened log b) (decided log) m (request_of bytes) in
-    sent_is_kept (Post m bytes ∷ log) cs r is posts later.1 open_teller (omega (arith, room, few))
-    (inl (record_leaves (λ b. opened log b) (decided log) r.teller r.number none m (request_of bytes) later.0))
+sent_is_kept log (Post m bytes ∷ cs) r is posts (inr later) open_teller room current (inl none) =
+    let few = one_at_most (λ b. opened log b) (closings log) (decided log) m (request_of bytes) in
+    sent_is_kept (Post m bytes ∷ log) cs r is posts later.1 open_teller (omega (arith, room, few)) current
+    (inl (record_leaves (λ b. opened log b) (closings log) (decided log) r.teller r.number none m (request_of bytes) later.0))
 
 -- ---- entries that are the same
 
@@ -482,6 +493,13 @@ module _ (leader follower : List Command) (n : ℕ) (it : Follows leader followe
       (all_first (IsKeptRequest leader) first (drop n (answered_after leader)) leads)
 
   module _ (sent : List Command) (on : AreSentOn leader follower n sent) where
+    abbrev IsCurrent : AnsweredRequest → Type 0
+    IsCurrent a = books_of (closings follower) a.request.teller a.request.number ≡ Current
+
+    abbrev IsTaken : AnsweredRequest → Type 0
+    IsTaken a = ComesFirst a.request (posted_records sent)
+        × (is_teller_open (λ b. opened follower b) a.request.teller ≡ true) × IsCurrent a
+
     still : (r : RequestFields) → KeepsRequest follower r → KeepsRequest (followed_by follower sent) r
     still r has = (has.0, stays_kept follower sent r.teller r.number has.0 has.1, has.2)
 
@@ -491,12 +509,14 @@ module _ (leader follower : List Command) (n : ℕ) (it : Follows leader followe
         (all_both (λ a. KeepsRequest (followed_by follower sent) a.request) first (drop n (answered_after leader))
         (all_so (λ a. KeepsRequest follower a.request) (λ a. KeepsRequest (followed_by follower sent) a.request)
         (λ a has. still a.request has) first first_kept)
-        (all_with (λ a. ComesFirst a.request (posted_records sent) × (is_teller_open (λ b. opened follower b) a.request.teller ≡ true))
+        (all_with IsTaken
         (IsKeptRequest leader) (λ a. KeepsRequest (followed_by follower sent) a.request)
-        (λ a comes is. sent_is_kept follower sent a.request is.request on.posts comes.0 comes.1 on.room (new_or_kept a is))
+        (λ a comes is. sent_is_kept follower sent a.request is.request on.posts comes.0 comes.1 on.room comes.2 (new_or_kept a is))
         (drop n (answered_after leader))
         (all_with (λ a. ComesFirst a.request (posted_records sent))
-        (λ a. is_teller_open (λ b. opened follower b) a.request.teller ≡ true)
-        (λ a. ComesFirst a.request (posted_records sent) × (is_teller_open (λ b. opened follower b) a.request.teller ≡ true))
-        (λ a x y. (x, y)) (drop n (answered_after leader)) on.come on.open_tellers)
+        (λ a. (is_teller_open (λ b. opened follower b) a.request.teller ≡ true) × IsCurrent a) IsTaken
+        (λ a x y. (x, y.0, y.1)) (drop n (answered_after leader)) on.come
+        (all_with (λ a. is_teller_open (λ b. opened follower b) a.request.teller ≡ true) IsCurrent
+        (λ a. (is_teller_open (λ b. opened follower b) a.request.teller ≡ true) × IsCurrent a)
+        (λ a x y. (x, y)) (drop n (answered_after leader)) on.open_tellers on.current))
         later_new))

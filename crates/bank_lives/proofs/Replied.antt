@@ -2,7 +2,7 @@
 use Rattle.std.proofs.Common.{◌≡◌, ℕ, List, [], ◌∷◌, ◌++◌, length, get_or, sym, ap, subst, ◌∙◌}
 use Rattle.std.proofs.Math.Seq.{get_or-append_seam}
 use Rattle.message_records.specs.believed.Spelling.{reply_spelling}
-use Rattle.posting_rules.specs.believed.Commands.{Command, Open, Post}
+use Rattle.posting_rules.specs.believed.Commands.{Command, Open, Post, Close}
 use Rattle.posting_rules.specs.{believed.Entries.reply, Resends.Place, believed.Runs.followed_by}
 use Rattle.posting_rules.specs.{believed.Runs.replies_to, believed.Runs.ArePosts}
 use Rattle.posting_rules.proofs.{Resends.replies_in_place, Sequence.one_reply_each, Sequence.replies_to-append}
@@ -10,6 +10,7 @@ use Rattle.posting_rules.proofs.{Resends.replies_in_place, Sequence.one_reply_ea
 front_posts : (front rest : List Command) → ArePosts (front ++ rest) → ArePosts front
 front_posts [] rest h = tt
 front_posts (Open b n ∷ front) rest h = absurd h
+front_posts (Close first last ∷ front) rest h = absurd h
 front_posts (Post m r ∷ front) rest h = front_posts front rest h
 
 reply_at : (log p : List Command) (bytes : List ℕ) (at : Place bytes p) → ArePosts p

@@ -3,7 +3,7 @@
 use Rattle.std.proofs.Common.{◌≡◌, ◌≤◌, ℕ, zero, suc, ◌+◌, List, [], ◌∷◌, ◌++◌, length, take, drop, Option, refl, sym}
 use Rattle.std.proofs.Common.{ap, subst, ◌∙◌, arith, append_assoc, append-nil, take_all, take-take, inl, inr}
 use Rattle.message_records.specs.believed.{Reading.request_of, Records.ReplyFields, Spelling.reply_spelling}
-use Rattle.posting_rules.specs.believed.Commands.{Command, Open, Post, Terms, opened}
+use Rattle.posting_rules.specs.believed.Commands.{Command, Open, Post, Close, Terms, opened}
 use Rattle.posting_rules.specs.believed.Entries.{DecidedRequest, decided, reply, reply_given, with_record}
 use Rattle.posting_rules.specs.Resends.{Place, Skips}
 use Rattle.posting_rules.specs.believed.Runs.{followed_by, posts, replies_to, ArePosts}
@@ -11,6 +11,9 @@ use Rattle.posting_rules.proofs.Resends.{adds_nothing, posts_both}
 use Rattle.posting_rules.proofs.Sequence.{after-append, one_reply_each}
 use Rattle.posting_core.specs.believed.Stream.{posted_records}
 use Rattle.posting_core.proofs.{Again.posts_are, Timeless.zeroed, Timeless.record_zeroed, Timeless.reply_zeroed}
+use Rattle.posting_rules.specs.declared.rows.ClosingRow.{ClosingRow}
+use Rattle.posting_rules.specs.believed.Closings.{closings}
+use Rattle.posting_rules.proofs.Resends.{closings_after}
 
 -- ---- what replies depend on
 
@@ -23,52 +26,58 @@ opens_nothing : (log cs : List Command) → ArePosts cs
     → ◌≡◌ {A = Openings} (λ b. opened (followed_by log cs) b) (λ b. opened log b)
 opens_nothing log [] h = refl
 opens_nothing log (Open b n ∷ cs) h = absurd h
+opens_nothing log (Close first last ∷ cs) h = absurd h
 opens_nothing log (Post m r ∷ cs) h = opens_nothing (Post m r ∷ log) cs h
 
 reply_alike : (one two : List Command) (r : List ℕ)
-    → ◌≡◌ {A = Openings} (λ b. opened one b) (λ b. opened two b)
+    → ◌≡◌ {A = Openings} (λ b. opened one b) (λ b. opened two b) → closings one ≡ closings two
     → zeroed (decided one) ≡ zeroed (decided two) → reply one r ≡ reply two r
-reply_alike one two r eo ed =
-    sym (reply_zeroed (λ b. opened one b) (decided one) (request_of r))
-    ∙ ap (λ (o : Openings). reply_given (request_of r) o (zeroed (decided one))) eo
-    ∙ ap (λ (es : List DecidedRequest). reply_given (request_of r) (λ b. opened two b) es) ed
-    ∙ reply_zeroed (λ b. opened two b) (decided two) (request_of r)
+reply_alike one two r eo ec ed =
+    sym (reply_zeroed (λ b. opened one b) (closings one) (decided one) (request_of r))
+    ∙ ap (λ (o : Openings). reply_given (request_of r) o (closings one) (zeroed (decided one))) eo
+    ∙ ap (λ (runs : List ClosingRow). reply_given (request_of r) (λ b. opened two b) runs (zeroed (decided one))) ec
+    ∙ ap (λ (es : List DecidedRequest). reply_given (request_of r) (λ b. opened two b) (closings two) es) ed
+    ∙ reply_zeroed (λ b. opened two b) (closings two) (decided two) (request_of r)
 
 decided_alike : (one two : List Command) (m n : ℕ) (r : List ℕ)
-    → ◌≡◌ {A = Openings} (λ b. opened one b) (λ b. opened two b)
+    → ◌≡◌ {A = Openings} (λ b. opened one b) (λ b. opened two b) → closings one ≡ closings two
     → zeroed (decided one) ≡ zeroed (decided two)
     → zeroed (decided (Post m r ∷ one)) ≡ zeroed (decided (Post n r ∷ two))
-decided_alike one two m n r eo ed =
-    record_zeroed m (λ b. opened one b) (decided one) (request_of r)
-    ∙ ap (λ (o : Openings). with_record 0 (request_of r) o (zeroed (decided one))) eo
-    ∙ ap (λ (es : List DecidedRequest). with_record 0 (request_of r) (λ b. opened two b) es) ed
-    ∙ sym (record_zeroed n (λ b. opened two b) (decided two) (request_of r))
+decided_alike one two m n r eo ec ed =
+    record_zeroed m (λ b. opened one b) (closings one) (decided one) (request_of r)
+    ∙ ap (λ (o : Openings). with_record 0 (request_of r) o (closings one) (zeroed (decided one))) eo
+    ∙ ap (λ (runs : List ClosingRow). with_record 0 (request_of r) (λ b. opened two b) runs (zeroed (decided one))) ec
+    ∙ ap (λ (es : List DecidedRequest). with_record 0 (request_of r) (λ b. opened two b) (closings two) es) ed
+    ∙ sym (record_zeroed n (λ b. opened two b) (closings two) (decided two) (request_of r))
 
 -- the replies to posts depend on their records, on what is open, and on what is decided but for moments
 pub replies_alike : (one two cs ds : List Command)
-    → ◌≡◌ {A = Openings} (λ b. opened one b) (λ b. opened two b)
+    → ◌≡◌ {A = Openings} (λ b. opened one b) (λ b. opened two b) → closings one ≡ closings two
     → zeroed (decided one) ≡ zeroed (decided two) → ArePosts cs → ArePosts ds
     → posted_records cs ≡ posted_records ds → replies_to one cs ≡ replies_to two ds
-replies_alike one two [] [] eo ed hc hd e = refl
-replies_alike one two [] (Open b n ∷ ds) eo ed hc hd e = absurd hd
-replies_alike one two [] (Post n s ∷ ds) eo ed hc hd e = absurd (cc)
-replies_alike one two (Open b n ∷ cs) ds eo ed hc hd e = absurd hc
-replies_alike one two (Post m r ∷ cs) [] eo ed hc hd e = absurd (cc)
-replies_alike one two (Post m r ∷ cs) (Open b n ∷ ds) eo ed hc hd e = absurd hd
-replies_alike one two (Post m r ∷ cs) (Post n s ∷ ds) eo ed hc hd e =
+replies_alike one two [] [] eo ec ed hc hd e = refl
+replies_alike one two [] (Open b n ∷ ds) eo ec ed hc hd e = absurd hd
+replies_alike one two [] (Close first last ∷ ds) eo ec ed hc hd e = absurd hd
+replies_alike one two [] (Post n s ∷ ds) eo ec ed hc hd e = absurd (cc)
+replies_alike one two (Open b n ∷ cs) ds eo ec ed hc hd e = absurd hc
+replies_alike one two (Close first last ∷ cs) ds eo ec ed hc hd e = absurd hc
+replies_alike one two (Post m r ∷ cs) [] eo ec ed hc hd e = absurd (cc)
+replies_alike one two (Post m r ∷ cs) (Open b n ∷ ds) eo ec ed hc hd e = absurd hd
+replies_alike one two (Post m r ∷ cs) (Close first last ∷ ds) eo ec ed hc hd e = absurd hd
+replies_alike one two (Post m r ∷ cs) (Post n s ∷ ds) eo ec ed hc hd e =
     let head : r ≡ s = cc in
     let tail : posted_records cs ≡ posted_records ds = cc in
     subst (λ (x : List ℕ). replies_to one (Post m r ∷ cs) ≡ replies_to two (Post n x ∷ ds)) head
     (ap (λ (out : ReplyFields). reply_spelling out ∷ replies_to (Post m r ∷ one) cs)
-    (reply_alike one two r eo ed)
+    (reply_alike one two r eo ec ed)
     ∙ ap (λ (rest : List (List ℕ)). reply_spelling (reply two r) ∷ rest)
-    (replies_alike (Post m r ∷ one) (Post n r ∷ two) cs ds eo (decided_alike one two m n r eo ed) hc hd tail))
+    (replies_alike (Post m r ∷ one) (Post n r ∷ two) cs ds eo ec (decided_alike one two m n r eo ec ed) hc hd tail))
 
 -- posts after others that decide nothing
 replies_still : (log q r : List Command) → ArePosts q → ArePosts r → decided (followed_by log q) ≡ decided log
     → replies_to (followed_by log q) r ≡ replies_to log r
 replies_still log q r hq hr same =
-    replies_alike (followed_by log q) log r r (opens_nothing log q hq) (ap zeroed same) hr hr refl
+    replies_alike (followed_by log q) log r r (opens_nothing log q hq) (closings_after log q hq) (ap zeroed same) hr hr refl
 
 -- ---- posts of a list from a place on
 
@@ -79,6 +88,7 @@ same_list x y xs ys e es = ap (λ (z : List ℕ). z ∷ xs) e ∙ ap (λ (zs : L
 none_skipped : (p r : List Command) → ArePosts r → Skips p r r
 none_skipped p [] h = refl
 none_skipped p (Open b n ∷ r) h = absurd h
+none_skipped p (Close first last ∷ r) h = absurd h
 none_skipped p (Post m bytes ∷ r) h = inr (r, refl, none_skipped p r h)
 
 -- Posts p of the first records of a list stand at the end of all, after a front. Posts r of the records from
@@ -144,6 +154,7 @@ resend all front [] r zero records e ha hp hr le ep er = record {
       ∙ sym (take_all (length r) (replies_to (followed_by log front) r) (omega (arith, each)));
 }
 resend all front (Open b n ∷ p) r place records e ha hp hr le ep er = absurd hp
+resend all front (Close first last ∷ p) r place records e ha hp hr le ep er = absurd hp
 resend all front (Post m b ∷ p) r place [] e ha hp hr le ep er = absurd (cc)
 resend all front (Post m b ∷ p) r (suc place) (x ∷ records) e ha hp hr le ep er =
     let one = Post m b ∷ [] in
@@ -170,6 +181,7 @@ resend all front (Post m b ∷ p) [] zero (x ∷ records) e ha hp hr le ep er = 
   replies = λ log q hq same. refl;
 }
 resend all front (Post m b ∷ p) (Open c n ∷ r) zero (x ∷ records) e ha hp hr le ep er = absurd hr
+resend all front (Post m b ∷ p) (Close first last ∷ r) zero (x ∷ records) e ha hp hr le ep er = absurd hr
 resend all front (Post m b ∷ p) (Post n c ∷ r) zero (x ∷ records) e ha hp hr le ep er =
     let one = Post m b ∷ [] in
     let head : b ≡ x = cc in
@@ -213,7 +225,7 @@ pub first_replies : (log p : List Command) (records : List (List ℕ)) → ArePo
     → posted_records p ≡ take (length p) records
     → replies_to log p ≡ take (length p) (replies_to log (posts 0 records))
 first_replies log p records hp e =
-    replies_alike log log p (posts 0 (take (length p) records)) refl refl hp
+    replies_alike log log p (posts 0 (take (length p) records)) refl refl refl hp
     (posts_are 0 (take (length p) records)) (e ∙ sym (records_posted 0 (take (length p) records)))
     ∙ front_replies log 0 (length p) records
 
@@ -231,6 +243,7 @@ pub first_posts : (n : ℕ) (r : List Command) (records : List (List ℕ)) → A
 first_posts zero r records h e = (tt, refl)
 first_posts (suc n) [] records h e = (tt, refl)
 first_posts (suc n) (Open b m ∷ r) records h e = absurd h
+first_posts (suc n) (Close first last ∷ r) records h e = absurd h
 first_posts (suc n) (Post m b ∷ r) [] h e = absurd (cc)
 first_posts (suc n) (Post m b ∷ r) (x ∷ records) h e =
     let head : b ≡ x = cc in

@@ -15,6 +15,8 @@ use Rattle.posting_rules.specs.declared.limits.TheConstants.{MAX_DECIDED}
 use Rattle.posting_core.specs.Entries.{record_text, reply_text}
 use Rattle.posting_core.specs.believed.LogEntries.{AnsweredRequest, answered_after, log_entries}
 use Rattle.posting_core.specs.believed.Stream.{posted_records}
+use Rattle.posting_rules.specs.believed.Closings.{books_of, closings}
+use Rattle.posting_rules.specs.declared.judgments.Books.TheVariants.{Current}
 
 -- the entries of the follower are the first so many of the leader
 pub record Follows (leader follower : List Command) (n : ℕ) : Type 0 where
@@ -48,13 +50,16 @@ ComesFirst r (bytes ∷ more) = (bytes ≡ request_spelling r) ⊎ (IsOther r by
 abbrev pub KeepsRequest : List Command → RequestFields → Type 0
 KeepsRequest log r = (k : KeptFields) × (kept (decided log) r.teller r.number ≡ Some k) × HasContent k r
 
--- the records of the leader after the first so many are sent, and there are tellers and room for them
+-- the records of the leader after the first so many are sent, there are tellers and room for them, and no closed books
+-- refuse them
 pub record AreSentOn (leader follower : List Command) (n : ℕ) (sent : List Command) : Type 0 where
   pub posts : ArePosts sent
   pub come : AllByRecursion (λ a. ComesFirst a.request (posted_records sent)) (drop n (answered_after leader))
   pub open_tellers : AllByRecursion (λ a. is_teller_open (λ b. opened follower b) a.request.teller ≡ true)
       (drop n (answered_after leader))
   pub room : length (decided follower) + length sent ≤ MAX_DECIDED
+  pub current : AllByRecursion (λ a. books_of (closings follower) a.request.teller a.request.number ≡ Current)
+      (drop n (answered_after leader))
 
 -- the log keeps each request of the leader, each once, and the sums of its tables agree
 pub record HasAll (leader log : List Command) : Type 0 where

@@ -8,7 +8,7 @@ use Rattle.message_records.specs.declared.{fault.Bad.Bad, records.Outcome.Outcom
 use Rattle.posting_rules.specs.declared.judgments.{Found.Found, Verdict.Verdict}
 use Rattle.posting_rules.specs.declared.judgments.Verdict.TheVariants.{Again, Posted, Refused, Unkept}
 use Rattle.posting_rules.specs.believed.Cases.{case_of}
-use Rattle.posting_rules.specs.believed.Commands.{Command, Open, Post, Terms, opened}
+use Rattle.posting_rules.specs.believed.Commands.{Command, Open, Post, Close, Terms, opened}
 use Rattle.posting_rules.specs.believed.Entries.{DecidedRequest, decided, facts, is_posted, posted_entry, refused_entry}
 use Rattle.posting_rules.specs.believed.Entries.{with_record, with_verdict}
 use Rattle.posting_rules.specs.believed.Numbering.{branch_of_account, branch_of_teller}
@@ -16,6 +16,11 @@ use Rattle.bank_replays.specs.Following.{AreDecided, Follows, IsWithin, had_acco
 use Rattle.bank_replays.specs.GivenBack.{unmoved}
 use Rattle.bank_replays.proofs.GivenBack.{facts_unmoved}
 use Rattle.bank_replays.proofs.SameVerdicts.{IsJudged, account_open, same_verdict, teller_open}
+use Rattle.posting_rules.specs.declared.rows.ClosingRow.{ClosingRow}
+use Rattle.posting_rules.specs.believed.Closings.{books_of, closings}
+use Rattle.posting_rules.specs.declared.judgments.Books.{Books}
+use Rattle.posting_rules.specs.declared.judgments.Books.TheVariants.{Current}
+use Rattle.posting_rules.proofs.Verdicts.{IsOfBooks, of_books}
 
 -- ---- moments
 
@@ -26,10 +31,10 @@ unmoved_timed (e ∷ es) = ap (λ l. unmoved e ∷ l) (unmoved_timed es)
 pub unmoved_same : (es es' : List DecidedRequest) → map timed es ≡ map timed es' → map unmoved es ≡ map unmoved es'
 unmoved_same es es' same = sym (unmoved_timed es) ∙ ap (map unmoved) same ∙ unmoved_timed es'
 
-facts_timed : (o : ℕ → Option Terms) (es es' : List DecidedRequest) (r : RequestFields) → map timed es ≡ map timed es'
-    → facts o es r ≡ facts o es' r
-facts_timed o es es' r same =
-    sym (facts_unmoved o es r) ∙ ap (λ l. facts o l r) (unmoved_same es es' same) ∙ facts_unmoved o es' r
+facts_timed : (o : ℕ → Option Terms) (runs : List ClosingRow) (es es' : List DecidedRequest) (r : RequestFields)
+    → map timed es ≡ map timed es' → facts o runs es r ≡ facts o runs es' r
+facts_timed o runs es es' r same =
+    sym (facts_unmoved o runs es r) ∙ ap (λ l. facts o runs l r) (unmoved_same es es' same) ∙ facts_unmoved o runs es' r
 
 moment_only : (m n : ℕ) (b : Bool) → (b ≡ true → m ≡ n) → cond b m 0 ≡ cond b n 0
 moment_only m n true same = same refl
@@ -56,13 +61,24 @@ judged_adds e (Posted account teller branch) judged m posted es =
     ∙ ap (λ (n : ℕ). (let x : DecidedRequest = record e { moment = n } in x) ∷ map timed es)
     (moment_only m e.moment (is_posted e) posted)
 
+-- nothing is closed
+none_closed : (runs : List ClosingRow) (t n : ℕ) → runs ≡ [] → books_of runs t n ≡ Current
+none_closed runs t n none = ap (λ (x : List ClosingRow). books_of x t n) none
+
+-- a request was decided in current books
+judged_current : (e : DecidedRequest) (books : Books) (v : Verdict) → IsJudged e v → IsOfBooks books v → books ≡ Current
+judged_current e books (Unkept o) judged of_them = absurd judged
+judged_current e books (Again reply) judged of_them = absurd judged
+judged_current e books (Refused o) judged of_them = of_them
+judged_current e books (Posted account teller branch) judged of_them = of_them
+
 -- ---- the last request that a log decided
 
 record LastDecided (first : List Command) (e : DecidedRequest) (es : List DecidedRequest) : Type 0 where
   prev : List Command
   before : decided prev ≡ es
   within : IsWithin (λ b. opened prev b) (λ b. opened first b)
-  judged : IsJudged e (case_of (facts (λ b. opened prev b) es e.request) e.request)
+  judged : IsJudged e (case_of (facts (λ b. opened prev b) (closings prev) es e.request) e.request)
 
 more_open : (log : List Command) (branch : ℕ) (terms : Terms)
     → IsWithin (λ b. opened log b) (λ b. opened (Open branch terms ∷ log) b)
@@ -86,14 +102,14 @@ tail_is e f es fs is = cc
 module _ (m : ℕ) (bytes : List ℕ) (log : List Command) (e : DecidedRequest) (es : List DecidedRequest)
     (earlier : decided log ≡ e ∷ es → LastDecided log e es) where
   here : (x : DecidedRequest)
-      → IsJudged x (case_of (facts (λ b. opened log b) (decided log) x.request) x.request)
+      → IsJudged x (case_of (facts (λ b. opened log b) (closings log) (decided log) x.request) x.request)
       → x ∷ decided log ≡ e ∷ es → LastDecided (Post m bytes ∷ log) e es
   here x judged is =
       subst (λ (y : DecidedRequest). LastDecided (Post m bytes ∷ log) y es) (head_is x e (decided log) es is)
       (subst (λ (l : List DecidedRequest). LastDecided (Post m bytes ∷ log) x l) (tail_is x e (decided log) es is)
       (record { prev = log; before = refl; within = λ b terms at. at; judged = judged }))
 
-  of_verdict : (r : RequestFields) (v : Verdict) → case_of (facts (λ b. opened log b) (decided log) r) r ≡ v
+  of_verdict : (r : RequestFields) (v : Verdict) → case_of (facts (λ b. opened log b) (closings log) (decided log) r) r ≡ v
       → with_verdict m r v (decided log) ≡ e ∷ es → LastDecided (Post m bytes ∷ log) e es
   of_verdict r (Unkept o) at is = wider log (Post m bytes ∷ log) e es (λ b terms h. h) (earlier is)
   of_verdict r (Again reply) at is = wider log (Post m bytes ∷ log) e es (λ b terms h. h) (earlier is)
@@ -103,15 +119,17 @@ module _ (m : ℕ) (bytes : List ℕ) (log : List Command) (e : DecidedRequest) 
       here (posted_entry m r account) (subst (IsJudged (posted_entry m r account)) (sym at) (refl, refl)) is
 
   of_record : (read : Result RequestFields Bad)
-      → with_record m read (λ b. opened log b) (decided log) ≡ e ∷ es → LastDecided (Post m bytes ∷ log) e es
+      → with_record m read (λ b. opened log b) (closings log) (decided log) ≡ e ∷ es → LastDecided (Post m bytes ∷ log) e es
   of_record (Err fault) is = wider log (Post m bytes ∷ log) e es (λ b terms h. h) (earlier is)
-  of_record (Ok r) is = of_verdict r (case_of (facts (λ b. opened log b) (decided log) r) r) refl is
+  of_record (Ok r) is = of_verdict r (case_of (facts (λ b. opened log b) (closings log) (decided log) r) r) refl is
 
 last_decided : (first : List Command) (e : DecidedRequest) (es : List DecidedRequest) → decided first ≡ e ∷ es
     → LastDecided first e es
 last_decided [] e es is = absurd cc
 last_decided (Open b terms ∷ log) e es is =
     wider log (Open b terms ∷ log) e es (more_open log b terms) (last_decided log e es is)
+last_decided (Close first last ∷ log) e es is =
+    wider log (Close first last ∷ log) e es (λ b terms h. h) (last_decided log e es is)
 last_decided (Post m bytes ∷ log) e es is =
     of_record m bytes log e es (last_decided log e es) (request_of bytes) is
 
@@ -130,6 +148,15 @@ module _ (plan : ℕ → Option Terms) where
   opening_decides b log = go (opened log b) (plan b)
     where
       go : (o p : Option Terms) → decided (open_by o p b log) ≡ decided log
+      go None None = refl
+      go None (Some terms) = refl
+      go (Some first) p = refl
+
+  -- and closes nothing
+  opening_closes : (b : ℕ) (log : List Command) → closings (opening plan b log) ≡ closings log
+  opening_closes b log = go (opened log b) (plan b)
+    where
+      go : (o p : Option Terms) → closings (open_by o p b log) ≡ closings log
       go None None = refl
       go None (Some terms) = refl
       go (Some first) p = refl
@@ -208,12 +235,12 @@ module _ (plan : ℕ → Option Terms) (e : DecidedRequest) (es : List DecidedRe
 
       home_open : there home ≡ None → ⊥
       home_open none =
-          teller_open e (facts there es e.request) e.request
+          teller_open e (facts there (closings last.prev) es e.request) e.request
           (rw (none, and-false (leb 1 e.request.teller)) refl) last.judged
 
       own_open : had_account e.outcome ≡ true → there own ≡ None → ⊥
       own_open had none =
-          account_open e (facts there es e.request) e.request had
+          account_open e (facts there (closings last.prev) es e.request) e.request had
           (rw (none, and-false (leb 1 e.request.account)) refl) last.judged
 
       -- what is opened before the request is open there
@@ -261,32 +288,41 @@ module _ (plan : ℕ → Option Terms) (e : DecidedRequest) (es : List DecidedRe
   ready_decides false = opening_decides plan home log
   ready_decides true = opening_decides plan own (opening plan home log) ∙ opening_decides plan home log
 
+  ready_closes : (had : Bool) → closings (prepared plan had e.request log) ≡ []
+  ready_closes false = opening_closes plan home log ∙ follows.current
+  ready_closes true =
+      opening_closes plan own (opening plan home log) ∙ opening_closes plan home log ∙ follows.current
+
   abbrev known : LastDecided are.first e es
   known = last_decided are.first e es are.decides
 
   abbrev verdict : Verdict
-  verdict = case_of (facts (λ b. opened known.prev b) es e.request) e.request
+  verdict = case_of (facts (λ b. opened known.prev b) (closings known.prev) es e.request) e.request
 
   ready_same : map timed (decided ready) ≡ map timed es
   ready_same = ap (map timed) (ready_decides (had_account e.outcome)) ∙ follows.requests
 
-  ready_verdict : case_of (facts (λ b. opened ready b) (decided ready) e.request) e.request ≡ verdict
+  ready_verdict : case_of (facts (λ b. opened ready b) (closings ready) (decided ready) e.request) e.request ≡ verdict
   ready_verdict =
       ap (λ (f : Found). case_of f e.request)
-      (facts_timed (λ b. opened ready b) (decided ready) es e.request ready_same)
-      ∙ same_verdict (λ b. opened ready b) (λ b. opened known.prev b) es e
+      (facts_timed (λ b. opened ready b) (closings ready) (decided ready) es e.request ready_same)
+      ∙ same_verdict (λ b. opened ready b) (λ b. opened known.prev b) (closings ready) (closings known.prev) es e
       (ready_within are.first are.decides are.within (had_account e.outcome) refl)
       (home_is are.first are.decides are.within (had_account e.outcome) refl)
-      (own_is_by are.first are.decides are.within (had_account e.outcome) refl) known.judged
+      (own_is_by are.first are.decides are.within (had_account e.outcome) refl)
+      (none_closed (closings ready) e.request.teller e.request.number (ready_closes (had_account e.outcome))
+      ∙ sym (judged_current e _ _ known.judged
+      (of_books (facts (λ b. opened known.prev b) (closings known.prev) es e.request) e.request))) known.judged
 
   pub follows_more : (m : ℕ) (bytes : List ℕ) → request_of bytes ≡ Ok e.request
       → (is_posted e ≡ true → m ≡ e.moment) → Follows plan (e ∷ es) (Post m bytes ∷ ready)
   follows_more m bytes read moment = record {
     requests =
-        ap (λ (x : Result RequestFields Bad). map timed (with_record m x (λ b. opened ready b) (decided ready))) read
+        ap (λ (x : Result RequestFields Bad). map timed (with_record m x (λ b. opened ready b) (closings ready) (decided ready))) read
         ∙ ap (λ (v : Verdict). map timed (with_verdict m e.request v (decided ready))) ready_verdict
         ∙ judged_adds e verdict known.judged m moment (decided ready)
         ∙ ap (λ l. timed e ∷ l) ready_same;
+    current = ready_closes (had_account e.outcome);
     within = λ first decides planned b terms is.
         (last first decides planned).within b terms
         (ready_within first decides planned (had_account e.outcome) refl b terms is);

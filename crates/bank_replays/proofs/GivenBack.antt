@@ -9,7 +9,7 @@ use Rattle.message_records.specs.declared.{fault.Bad.Bad}
 use Rattle.message_records.proofs.Requests.{request_takes}
 use Rattle.posting_core.specs.believed.Stream.{posted_records}
 use Rattle.posting_rules.specs.believed.Cases.{case_of}
-use Rattle.posting_rules.specs.believed.Commands.{AreCommands, Command, Open, Post, Terms, opened}
+use Rattle.posting_rules.specs.believed.Commands.{AreCommands, Command, Open, Post, Close, Terms, opened}
 use Rattle.posting_rules.specs.believed.Entries.{DecidedRequest, decided, facts, is_posted, kept, posted_entry}
 use Rattle.posting_rules.specs.believed.Entries.{posted_sum, refused_entry, with_record, with_verdict}
 use Rattle.posting_rules.specs.believed.Numbering.{branch_of_account, branch_of_teller}
@@ -19,6 +19,9 @@ use Rattle.posting_rules.specs.declared.judgments.Verdict.TheVariants.{Again, Po
 use Rattle.posting_core.specs.believed.LogEntries.{answered_of, each_answered}
 use Rattle.bank_replays.specs.GivenBack.{GivesBack, record_of, records_since, unmoved}
 use Rattle.posting_core.specs.believed.LogEntries.{AnsweredRequest}
+use Rattle.posting_rules.specs.declared.rows.ClosingRow.{ClosingRow}
+use Rattle.posting_rules.specs.believed.Closings.{closings}
+use Rattle.posting_rules.proofs.Resends.{closings_after}
 
 -- ---- what is known of a request doesn't depend on moments
 
@@ -37,9 +40,9 @@ kept_unmoved (e ∷ es) t n = elim (cases_Bool ((e.request.teller == t) && (e.re
   | inr f ↦ rw f (kept_unmoved es t n)
 ]
 
-pub facts_unmoved : (o : ℕ → Option Terms) (es : List DecidedRequest) (r : RequestFields)
-    → facts o (map unmoved es) r ≡ facts o es r
-facts_unmoved o es r = rw (
+pub facts_unmoved : (o : ℕ → Option Terms) (runs : List ClosingRow) (es : List DecidedRequest) (r : RequestFields)
+    → facts o runs (map unmoved es) r ≡ facts o runs es r
+facts_unmoved o runs es r = rw (
   sum_unmoved (λ q. q.teller == r.teller) es,
   sum_unmoved (λ q. q.branch == branch_of_teller r.teller) es,
   sum_unmoved (λ q. q.account == r.account) es,
@@ -47,14 +50,16 @@ facts_unmoved o es r = rw (
   length-map es unmoved,
 ) refl
 
-facts_opened : (o o' : ℕ → Option Terms) → ((b : ℕ) → o b ≡ o' b) → (es : List DecidedRequest) (r : RequestFields)
-    → facts o es r ≡ facts o' es r
-facts_opened o o' same es r = rw (same (branch_of_teller r.teller), same (branch_of_account r.account)) refl
+facts_opened : (o o' : ℕ → Option Terms) (runs : List ClosingRow) → ((b : ℕ) → o b ≡ o' b) → (es : List DecidedRequest) (r : RequestFields)
+    → facts o runs es r ≡ facts o' runs es r
+facts_opened o o' runs same es r = rw (same (branch_of_teller r.teller), same (branch_of_account r.account)) refl
 
-pub facts_alike : (o o' : ℕ → Option Terms) (es es' : List DecidedRequest) → ((b : ℕ) → o b ≡ o' b)
-    → map unmoved es ≡ map unmoved es' → (r : RequestFields) → facts o es r ≡ facts o' es' r
-facts_alike o o' es es' opens same r =
-    sym (facts_unmoved o es r) ∙ ap (λ l. facts o l r) same ∙ facts_unmoved o es' r ∙ facts_opened o o' opens es' r
+pub facts_alike : (o o' : ℕ → Option Terms) (runs runs' : List ClosingRow) (es es' : List DecidedRequest)
+    → ((b : ℕ) → o b ≡ o' b) → runs ≡ runs'
+    → map unmoved es ≡ map unmoved es' → (r : RequestFields) → facts o runs es r ≡ facts o' runs' es' r
+facts_alike o o' runs runs' es es' opens closes same r =
+    sym (facts_unmoved o runs es r) ∙ ap (λ l. facts o runs l r) same ∙ facts_unmoved o runs es' r
+    ∙ facts_opened o o' runs opens es' r ∙ ap (λ (x : List ClosingRow). facts o' x es' r) closes
 
 -- ---- what one record adds
 
@@ -72,34 +77,36 @@ verdict_adds m r (Again first) es = sym (append-nil (each_answered es))
 verdict_adds m r (Refused outcome) es = refl
 verdict_adds m r (Posted account teller branch) es = refl
 
-read_adds : ℕ → Result RequestFields Bad → (ℕ → Option Terms) → List DecidedRequest → List DecidedRequest
-read_adds m (Err fault) o es = []
-read_adds m (Ok r) o es = added_by m r (case_of (facts o es r) r)
+read_adds : ℕ → Result RequestFields Bad → (ℕ → Option Terms) → List ClosingRow → List DecidedRequest → List DecidedRequest
+read_adds m (Err fault) o runs es = []
+read_adds m (Ok r) o runs es = added_by m r (case_of (facts o runs es r) r)
 
-record_adds : (m : ℕ) (read : Result RequestFields Bad) (o : ℕ → Option Terms) (es : List DecidedRequest)
-    → each_answered (with_record m read o es) ≡ each_answered es ++ map answered_of (read_adds m read o es)
+record_adds : (m : ℕ) (read : Result RequestFields Bad) (o : ℕ → Option Terms) (runs : List ClosingRow) (es : List DecidedRequest)
+    → each_answered (with_record m read o runs es) ≡ each_answered es ++ map answered_of (read_adds m read o runs es)
 unfolding read_adds
-record_adds m (Err fault) o es = sym (append-nil (each_answered es))
-record_adds m (Ok r) o es = verdict_adds m r (case_of (facts o es r) r) es
+record_adds m (Err fault) o runs es = sym (append-nil (each_answered es))
+record_adds m (Ok r) o runs es = verdict_adds m r (case_of (facts o runs es r) r) es
 
 -- ---- what posts add
 
 added : List Command → List Command → List AnsweredRequest
 added log [] = []
 added log (Open b terms ∷ cs) = added (Open b terms ∷ log) cs
+added log (Close first last ∷ cs) = added (Close first last ∷ log) cs
 added log (Post m bytes ∷ cs) =
-    map answered_of (read_adds m (request_of bytes) (λ b. opened log b) (decided log)) ++ added (Post m bytes ∷ log) cs
+    map answered_of (read_adds m (request_of bytes) (λ b. opened log b) (closings log) (decided log)) ++ added (Post m bytes ∷ log) cs
 
 answered_split : (log cs : List Command)
     → each_answered (decided (followed_by log cs)) ≡ each_answered (decided log) ++ added log cs
 unfolding added
 answered_split log [] = sym (append-nil (each_answered (decided log)))
 answered_split log (Open b terms ∷ cs) = answered_split (Open b terms ∷ log) cs
+answered_split log (Close first last ∷ cs) = answered_split (Close first last ∷ log) cs
 answered_split log (Post m bytes ∷ cs) =
     answered_split (Post m bytes ∷ log) cs
-    ∙ ap (λ l. l ++ added (Post m bytes ∷ log) cs) (record_adds m (request_of bytes) (λ b. opened log b) (decided log))
+    ∙ ap (λ l. l ++ added (Post m bytes ∷ log) cs) (record_adds m (request_of bytes) (λ b. opened log b) (closings log) (decided log))
     ∙ append_assoc (each_answered (decided log))
-    (map answered_of (read_adds m (request_of bytes) (λ b. opened log b) (decided log))) (added (Post m bytes ∷ log) cs)
+    (map answered_of (read_adds m (request_of bytes) (λ b. opened log b) (closings log) (decided log))) (added (Post m bytes ∷ log) cs)
 
 answered_length : (es : List DecidedRequest) → length (each_answered es) ≡ length es
 answered_length [] = refl
@@ -139,16 +146,17 @@ tail_of (x ∷ xs) = xs
 record Goes (log other : List Command) (cs ds : List Command) : Type 0 where
   same : map unmoved (decided log) ≡ map unmoved (decided other)
   opens : (b : ℕ) → opened log b ≡ opened other b
+  closes : closings log ≡ closings other
   are : AreCommands cs
   posts : ArePosts cs
   again : ArePosts ds
 
 -- what a record adds that was read as a request
 record_is : (m : ℕ) (bytes : List ℕ) (log : List Command) (r : RequestFields) (v : Verdict) → request_of bytes ≡ Ok r
-    → case_of (facts (λ b. opened log b) (decided log) r) r ≡ v
+    → case_of (facts (λ b. opened log b) (closings log) (decided log) r) r ≡ v
     → decided (Post m bytes ∷ log) ≡ with_verdict m r v (decided log)
 record_is m bytes log r v read is =
-    ap (λ (x : Result RequestFields Bad). with_record m x (λ b. opened log b) (decided log)) read
+    ap (λ (x : Result RequestFields Bad). with_record m x (λ b. opened log b) (closings log) (decided log)) read
     ∙ ap (λ x. with_verdict m r x (decided log)) is
 
 module _ (m : ℕ) (bytes : List ℕ) (log other cs ds : List Command) (goes : Goes log other (Post m bytes ∷ cs) ds)
@@ -162,39 +170,43 @@ module _ (m : ℕ) (bytes : List ℕ) (log other cs ds : List Command) (goes : G
   none_more none records = rest other ds (record {
     same = ap (map unmoved) none ∙ goes.same;
     opens = goes.opens;
+          closes = goes.closes;
     are = goes.are.1;
     posts = goes.posts;
     again = goes.again;
   }) records
 
   module _ (r : RequestFields) (v : Verdict) (read : request_of bytes ≡ Ok r)
-      (is : case_of (facts (λ b. opened log b) (decided log) r) r ≡ v) where
+      (is : case_of (facts (λ b. opened log b) (closings log) (decided log) r) r ≡ v) where
     -- the request was
     one_more : (x : AnsweredRequest) → record_of x ≡ request_spelling r → (ds' : List Command) → ds ≡ ds'
         → posted_records ds' ≡ record_of x ∷ map record_of (added (Post m bytes ∷ log) cs)
         → map unmoved (decided (followed_by (Post m bytes ∷ log) cs)) ≡ map unmoved (decided (followed_by other ds'))
     one_more x own [] same records = absurd cc
     one_more x own (Open b terms ∷ more) same records = absurd (subst ArePosts same goes.again)
+    one_more x own (Close first last ∷ more) same records = absurd (subst ArePosts same goes.again)
     one_more x own (Post m' bytes' ∷ more) same records =
         let first : bytes' ≡ record_of x = ap (head_of bytes') records in
         let taken = request_takes r bytes goes.are.0.1 read in
         let equal : bytes' ≡ bytes = first ∙ own ∙ sym taken.0 in
         let reads : request_of bytes' ≡ Ok r = ap request_of equal ∙ read in
-        let judged : case_of (facts (λ b. opened other b) (decided other) r) r ≡ v =
+        let judged : case_of (facts (λ b. opened other b) (closings other) (decided other) r) r ≡ v =
         sym (ap (λ (f : Found). case_of f r)
-        (facts_alike (λ b. opened log b) (λ b. opened other b) (decided log) (decided other) goes.opens goes.same r)) ∙ is in
+        (facts_alike (λ b. opened log b) (λ b. opened other b) (closings log) (closings other) (decided log) (decided other)
+        goes.opens goes.closes goes.same r)) ∙ is in
         rest (Post m' bytes' ∷ other) more (record {
           same = ap (map unmoved) (record_is m bytes log r v read is)
               ∙ verdict_alike m m' r v (decided log) (decided other) goes.same
               ∙ sym (ap (map unmoved) (record_is m' bytes' other r v reads judged));
           opens = goes.opens;
+          closes = goes.closes;
           are = goes.are.1;
           posts = goes.posts;
           again = subst ArePosts same goes.again;
         }) (ap tail_of records)
 
   posted_more : (r : RequestFields) (v : Verdict) → request_of bytes ≡ Ok r
-      → case_of (facts (λ b. opened log b) (decided log) r) r ≡ v
+      → case_of (facts (λ b. opened log b) (closings log) (decided log) r) r ≡ v
       → posted_records ds ≡ map record_of (map answered_of (added_by m r v) ++ added (Post m bytes ∷ log) cs)
       → map unmoved (decided (followed_by (Post m bytes ∷ log) cs)) ≡ map unmoved (decided (followed_by other ds))
   unfolding added_by
@@ -206,13 +218,13 @@ module _ (m : ℕ) (bytes : List ℕ) (log other cs ds : List Command) (goes : G
       one_more r (Posted account teller branch) read is (answered_of (posted_entry m r account)) refl ds refl records
 
   read_more : (read : Result RequestFields Bad) → request_of bytes ≡ read
-      → posted_records ds ≡ map record_of (map answered_of (read_adds m read (λ b. opened log b) (decided log))
+      → posted_records ds ≡ map record_of (map answered_of (read_adds m read (λ b. opened log b) (closings log) (decided log))
       ++ added (Post m bytes ∷ log) cs)
       → map unmoved (decided (followed_by (Post m bytes ∷ log) cs)) ≡ map unmoved (decided (followed_by other ds))
   unfolding read_adds
   read_more (Err fault) is records =
-      none_more (ap (λ (x : Result RequestFields Bad). with_record m x (λ b. opened log b) (decided log)) is) records
-  read_more (Ok r) is records = posted_more r (case_of (facts (λ b. opened log b) (decided log) r) r) is refl records
+      none_more (ap (λ (x : Result RequestFields Bad). with_record m x (λ b. opened log b) (closings log) (decided log)) is) records
+  read_more (Ok r) is records = posted_more r (case_of (facts (λ b. opened log b) (closings log) (decided log) r) r) is refl records
 
 again_alike : (cs log other ds : List Command) → Goes log other cs ds
     → posted_records ds ≡ map record_of (added log cs)
@@ -220,8 +232,10 @@ again_alike : (cs log other ds : List Command) → Goes log other cs ds
 unfolding added
 again_alike [] log other [] goes records = goes.same
 again_alike [] log other (Open b terms ∷ more) goes records = absurd goes.again
+again_alike [] log other (Close first last ∷ more) goes records = absurd goes.again
 again_alike [] log other (Post m bytes ∷ more) goes records = absurd cc
 again_alike (Open b terms ∷ cs) log other ds goes records = absurd goes.posts
+again_alike (Close first last ∷ cs) log other ds goes records = absurd goes.posts
 again_alike (Post m bytes ∷ cs) log other ds goes records =
     read_more m bytes log other cs ds goes
     (λ later more on also. again_alike cs (Post m bytes ∷ log) later more on also)
@@ -231,12 +245,14 @@ again_alike (Post m bytes ∷ cs) log other ds goes records =
 opened_same : (cs log : List Command) → ArePosts cs → (b : ℕ) → opened (followed_by log cs) b ≡ opened log b
 opened_same [] log posts b = refl
 opened_same (Open x terms ∷ cs) log posts b = absurd posts
+opened_same (Close first last ∷ cs) log posts b = absurd posts
 opened_same (Post m bytes ∷ cs) log posts b = opened_same cs (Post m bytes ∷ log) posts b
 
 pub gives_back : GivesBack
 gives_back first second posted again alike are posts others records = record {
   requests = again_alike posted first second again
-      (record { same = alike.requests; opens = alike.branches; are = are; posts = posts; again = others })
+      (record { same = alike.requests; opens = alike.branches; closes = alike.numbers; are = are; posts = posts; again = others })
       (records ∙ since_is first posted);
   branches = λ b. opened_same posted first posts b ∙ alike.branches b ∙ sym (opened_same again second others b);
+  numbers = closings_after first posted posts ∙ alike.numbers ∙ sym (closings_after second again others);
 }

@@ -24,6 +24,7 @@ use Rattle.bank_replays.specs.Following.{HaveSameRows, timed}
 use Rattle.bank_replays.specs.NextRows.{DifferFirst, under}
 use Rattle.bank_replays.proofs.Followed.{unmoved_same}
 use Rattle.bank_replays.proofs.GivenBack.{sum_unmoved}
+use Rattle.posting_rules.specs.declared.rows.ClosingRow.{ClosingRow}
 
 -- ---- decided requests, moments aside of which no row is kept
 
@@ -66,7 +67,8 @@ rows_same key entry keyed xs ys rise rise_due same =
 
 with_rows : (n n' : ℕ) (b b' : List BranchRow) (t t' : List TellerRow) (a a' : List AccountRow)
     (h h' : List HistoryRow) (r r' : List RequestRow) (f f' : List FloorRow) (q q' : List ReferenceRow)
-    → n ≡ n' → b ≡ b' → t ≡ t' → a ≡ a' → h ≡ h' → r ≡ r' → f ≡ f' → q ≡ q'
+    (x x' : List ClosingRow)
+    → n ≡ n' → b ≡ b' → t ≡ t' → a ≡ a' → h ≡ h' → r ≡ r' → f ≡ f' → q ≡ q' → x ≡ x'
     → (let it : Tables = record {
       decided = n;
       branches = b;
@@ -76,6 +78,7 @@ with_rows : (n n' : ℕ) (b b' : List BranchRow) (t t' : List TellerRow) (a a' :
       requests = r;
       floors = f;
       references = q;
+      closings = x;
     } in it) ≡ record {
       decided = n';
       branches = b';
@@ -85,8 +88,9 @@ with_rows : (n n' : ℕ) (b b' : List BranchRow) (t t' : List TellerRow) (a a' :
       requests = r';
       floors = f';
       references = q';
+      closings = x';
     }
-with_rows n n' b b' t t' a a' h h' r r' f f' q q' c d e i j k l m = cc
+with_rows n n' b b' t t' a a' h h' r r' f f' q q' x x' c d e i j k l m o = cc
 
 module _ (log now : List Command) (same : HaveSameRows log now) where
   branches_same : (b : ℕ) → branch_row (λ b. opened log b) (decided log) b ≡ branch_row (λ b. opened now b) (decided now) b
@@ -125,6 +129,7 @@ module _ (log now : List Command) (same : HaveSameRows log now) where
   tables_same db other t due in_file in_due shows shows_due =
       with_rows t.decided due.decided t.branches due.branches t.tellers due.tellers t.accounts due.accounts
       t.history due.history t.requests due.requests t.floors due.floors t.references due.references
+      t.closings due.closings
       (shows.rows.decided ∙ length_timed (decided log) (decided now) same.requests ∙ sym shows_due.rows.decided)
       (rows_same branch_key view.branch_entry (λ r. refl) t.branches due.branches
       (has_branches db t in_file).holds.rows.rise (has_branches other due in_due).holds.rows.rise
@@ -147,6 +152,7 @@ module _ (log now : List Command) (same : HaveSameRows log now) where
       (rows_same reference_key view.reference_entry (λ r. refl) t.references due.references
       (has_references db t in_file).holds.rows.rise (has_references other due in_due).holds.rows.rise
       (λ n. shows.rows.references n ∙ references_same n ∙ sym (shows_due.rows.references n)))
+      (in_file.current ∙ sym in_due.current)
 
 -- the same rows never differ
 pub no_difference : {X : Type 0} (key : X → ℤ) (rows others : List X) (stands due : Option X)

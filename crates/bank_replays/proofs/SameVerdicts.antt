@@ -1,5 +1,5 @@
 -- A request gets the same verdict where fewer branches are open, if those that it needs are.
-use Rattle.std.proofs.Common.{◌≡◌, ◌∙◌, ℕ, ℤ, pos, true, false, eqb, leb, List, Option, Some, None, refl}
+use Rattle.std.proofs.Common.{◌≡◌, ◌∙◌, ℕ, ℤ, pos, true, false, eqb, leb, List, Option, Some, None, refl, ap}
 use Rattle.std.proofs.Common.{sym, inl, inr}
 use Rattle.std.proofs.{Math.Bool.and-false, lemmas.Bool.cases_Bool}
 use Rattle.message_records.specs.believed.Records.{RequestFields}
@@ -12,8 +12,12 @@ use Rattle.posting_rules.specs.believed.Commands.{Terms}
 use Rattle.posting_rules.specs.believed.Entries.{DecidedRequest, facts}
 use Rattle.posting_rules.specs.believed.Kept.{KeptFields}
 use Rattle.posting_rules.specs.believed.Numbering.{branch_of_account, branch_of_teller}
-use Rattle.posting_rules.proofs.Verdicts.{by_account, by_known, by_new, by_posting, by_teller}
+use Rattle.posting_rules.proofs.Verdicts.{by_account, by_books, by_known, by_new, by_posting, by_teller}
 use Rattle.bank_replays.specs.Following.{IsWithin, had_account}
+use Rattle.posting_rules.specs.declared.rows.ClosingRow.{ClosingRow}
+use Rattle.posting_rules.specs.believed.Closings.{books_of}
+use Rattle.posting_rules.specs.declared.judgments.Books.{Books}
+use Rattle.posting_rules.specs.declared.judgments.Books.TheVariants.{Current, Closed, Sealed}
 
 -- the verdict is the one that a decided request has
 abbrev pub IsJudged : DecidedRequest → Verdict → Type 0
@@ -44,8 +48,9 @@ module _ (e : DecidedRequest) where
   account_open f r had none =
       by_teller IsNot f.teller f r (λ j. j) (λ z is.
       by_known IsNot f.kept f r z.0 z.1 (λ j. j) (λ a j. j) (λ new.
+      by_books IsNot f.books f r z.0 z.1 (λ j. j) (λ j. j) (λ current.
       by_new IsNot f r z.0 z.1 (λ j. j) (λ room j. had_wrong had j.0) (λ room its.
-      rw none (λ j. had_none had j.0))))
+      rw none (λ j. had_none had j.0)))))
 
   -- ---- what was not judged by its account
 
@@ -68,15 +73,15 @@ module _ (e : DecidedRequest) where
       by_posting HasNone (plus_within x d) (plus_within t d) (plus_within b d) (λ j. absurd (not_over had j.0))
       (λ x y z ex ey ez j. absurd (not_posted had j.0)))
 
-  abbrev found : Option (ℤ × ℤ) → Option KeptFields → ℕ → Option ℤ → Option ℤ → Found
-  found teller kept decided account floor =
-      record { teller = teller; kept = kept; decided = decided; account = account; floor = floor }
+  abbrev found : Option (ℤ × ℤ) → Option KeptFields → Books → ℕ → Option ℤ → Option ℤ → Found
+  found teller kept books decided account floor =
+      record { teller = teller; kept = kept; books = books; decided = decided; account = account; floor = floor }
 
-  bare_new : had_account e.outcome ≡ false → (z : Option (ℤ × ℤ)) (k : Option KeptFields) (n : ℕ)
+  bare_new : had_account e.outcome ≡ false → (z : Option (ℤ × ℤ)) (k : Option KeptFields) (c : Books) (n : ℕ)
       (a floor other : Option ℤ) (r : RequestFields) (t b : ℤ)
-      → IsJudged e (new_case (found z k n a floor) r t b)
-      → new_case (found z k n None other) r t b ≡ new_case (found z k n a floor) r t b
-  bare_new had z k n a floor other r t b = elim (cases_Bool (leb MAX_DECIDED n)) [
+      → IsJudged e (new_case (found z k c n a floor) r t b)
+      → new_case (found z k c n None other) r t b ≡ new_case (found z k c n a floor) r t b
+  bare_new had z k c n a floor other r t b = elim (cases_Bool (leb MAX_DECIDED n)) [
     | inl full ↦ rw full (λ j. refl)
     | inr room ↦ rw room (elim (cases_Bool (eqb r.branch (branch_of_teller r.teller))) [
       | inl its ↦ rw its (bare_account had a floor t b r.delta)
@@ -84,43 +89,51 @@ module _ (e : DecidedRequest) where
     ])
   ]
 
-  bare : had_account e.outcome ≡ false → (z : Option (ℤ × ℤ)) (k : Option KeptFields) (n : ℕ)
-      (a floor other : Option ℤ) (r : RequestFields) → IsJudged e (case_of (found z k n a floor) r)
-      → case_of (found z k n None other) r ≡ case_of (found z k n a floor) r
+  bare : had_account e.outcome ≡ false → (z : Option (ℤ × ℤ)) (k : Option KeptFields) (c : Books) (n : ℕ)
+      (a floor other : Option ℤ) (r : RequestFields) → IsJudged e (case_of (found z k c n a floor) r)
+      → case_of (found z k c n None other) r ≡ case_of (found z k c n a floor) r
   unfolding case_of
-  bare had None k n a floor other r j = refl
-  bare had (Some z) (Some k) n a floor other r j = refl
-  bare had (Some z) None n a floor other r j = bare_new had (Some z) None n a floor other r z.0 z.1 j
+  bare had None k c n a floor other r j = refl
+  bare had (Some z) (Some k) c n a floor other r j = refl
+  bare had (Some z) None Closed n a floor other r j = refl
+  bare had (Some z) None Sealed n a floor other r j = refl
+  bare had (Some z) None Current n a floor other r j = bare_new had (Some z) None Current n a floor other r z.0 z.1 j
 
 -- ---- fewer branches
 
-facts_two : (here there : ℕ → Option Terms) (es : List DecidedRequest) (r : RequestFields)
+facts_two : (here there : ℕ → Option Terms) (runs others : List ClosingRow) (es : List DecidedRequest) (r : RequestFields)
     → here (branch_of_teller r.teller) ≡ there (branch_of_teller r.teller)
     → here (branch_of_account r.account) ≡ there (branch_of_account r.account)
-    → case_of (facts here es r) r ≡ case_of (facts there es r) r
-facts_two here there es r home its = rw (home, its) refl
+    → books_of runs r.teller r.number ≡ books_of others r.teller r.number
+    → case_of (facts here runs es r) r ≡ case_of (facts there others es r) r
+facts_two here there runs others es r home its books =
+    ap (λ (f : Found). case_of f r)
+    (ap (λ (c : Books). let f : Found = record (facts here runs es r) { books = c } in f) books ∙ rw (home, its) refl)
 
-module _ (here there : ℕ → Option Terms) (es : List DecidedRequest) (e : DecidedRequest) (within : IsWithin here there)
+module _ (here there : ℕ → Option Terms) (runs others : List ClosingRow) (es : List DecidedRequest) (e : DecidedRequest) (within : IsWithin here there)
     (home : here (branch_of_teller e.request.teller) ≡ there (branch_of_teller e.request.teller))
     (its : had_account e.outcome ≡ true
     → here (branch_of_account e.request.account) ≡ there (branch_of_account e.request.account))
-    (judged : IsJudged e (case_of (facts there es e.request) e.request)) where
+    (books : books_of runs e.request.teller e.request.number ≡ books_of others e.request.teller e.request.number)
+    (judged : IsJudged e (case_of (facts there others es e.request) e.request)) where
   without : here (branch_of_account e.request.account) ≡ None → had_account e.outcome ≡ false
-      → case_of (facts here es e.request) e.request ≡ case_of (facts there es e.request) e.request
+      → case_of (facts here runs es e.request) e.request ≡ case_of (facts there others es e.request) e.request
   without none had =
-      rw (home, none, and-false (leb 1 e.request.account))
-      (bare e had (facts there es e.request).teller (facts there es e.request).kept (facts there es e.request).decided
-      (facts there es e.request).account (facts there es e.request).floor None e.request judged)
+      ap (λ (c : Books). case_of (let f : Found = record (facts here runs es e.request) { books = c } in f) e.request) books
+      ∙ rw (home, none, and-false (leb 1 e.request.account))
+      (bare e had (facts there others es e.request).teller (facts there others es e.request).kept
+      (facts there others es e.request).books (facts there others es e.request).decided
+      (facts there others es e.request).account (facts there others es e.request).floor None e.request judged)
 
   by_account_branch : (o : Option Terms) → here (branch_of_account e.request.account) ≡ o
       → had_account e.outcome ≡ false
-      → case_of (facts here es e.request) e.request ≡ case_of (facts there es e.request) e.request
+      → case_of (facts here runs es e.request) e.request ≡ case_of (facts there others es e.request) e.request
   by_account_branch None is had = without is had
   by_account_branch (Some terms) is had =
-      facts_two here there es e.request home (is ∙ sym (within (branch_of_account e.request.account) terms is))
+      facts_two here there runs others es e.request home (is ∙ sym (within (branch_of_account e.request.account) terms is)) books
 
-  pub same_verdict : case_of (facts here es e.request) e.request ≡ case_of (facts there es e.request) e.request
+  pub same_verdict : case_of (facts here runs es e.request) e.request ≡ case_of (facts there others es e.request) e.request
   same_verdict = elim (cases_Bool (had_account e.outcome)) [
-    | inl t ↦ facts_two here there es e.request home (its t)
+    | inl t ↦ facts_two here there runs others es e.request home (its t) books
     | inr f ↦ by_account_branch (here (branch_of_account e.request.account)) refl f
   ]

@@ -1,5 +1,5 @@
 -- Two files with the same rows show the same tables.
-use Rattle.std.proofs.Common.{List, subst}
+use Rattle.std.proofs.Common.{◌≡◌, List, [], subst}
 use Rattle.sqlite.specs.{Effect.Database, State.State}
 use Rattle.posting_rules.specs.{believed.Commands.Command, believed.Counter.ShowsLog, believed.Tables.Tables}
 use Rattle.store_rows.specs.believed.View.{Shows}
@@ -22,9 +22,10 @@ due_tables db t shows = record {
 }
 
 -- a file that has their rows shows them
-shows_due : (db : Database) (t : Tables) → HasTables db (rows_due t) → Shows db t
-shows_due db t has = record {
+shows_due : (db : Database) (t : Tables) → t.closings ≡ [] → HasTables db (rows_due t) → Shows db t
+shows_due db t current has = record {
   sound = has.metas.sound;
+  current = current;
   each = (
     has.metas.holds,
     (
@@ -47,7 +48,7 @@ shows_due db t has = record {
 pub same_tables : (db other : Database) (t : Tables) (f : FileTables) → HasTables db f → Shows other t
     → SameTables db other → Shows db t
 same_tables db other t f has shows same =
-    shows_due db t (subst (HasTables db) (same f (rows_due t) has (due_tables other t shows)) has)
+    shows_due db t shows.current (subst (HasTables db) (same f (rows_due t) has (due_tables other t shows)) has)
 
 -- and so the log that they are of
 pub same_log : (s other : State) (D E : Type 0) (f : FileTables) → HasTables s.now f

@@ -102,7 +102,7 @@ pub leads_follows : (plan : ℕ → Option Terms) (es : List DecidedRequest) (ks
     → AreDecided plan es → AreRowsOf ks es → Leads plan ks [] now → Follows plan es now
 leads_follows plan [] ks now decided are led =
     subst (Follows plan []) (sym (subst (λ (l : List KeptItem). Leads plan l [] now) are led))
-    (record { requests = refl; within = λ log decides planned b terms is. absurd cc })
+    (record { requests = refl; current = refl; within = λ log decides planned b terms is. absurd cc })
 leads_follows plan (e ∷ es) ks now decided are led =
     let k = are.1 in
     let row = are.3 in

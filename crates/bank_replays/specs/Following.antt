@@ -1,11 +1,12 @@
 -- A second bank's log, which follows the requests that a first one decided.
-use Rattle.std.specs.Prelude.{◌≡◌, ℕ, Bool, true, false, List, ◌∷◌, map, Option, Some, None, if◌then◌else◌}
+use Rattle.std.specs.Prelude.{◌≡◌, ℕ, Bool, true, false, List, ◌∷◌, map, Option, Some, None, if◌then◌else◌, []}
 use Rattle.message_records.specs.believed.Records.{RequestFields}
 use Rattle.message_records.specs.declared.records.Outcome.{Outcome}
 use Rattle.message_records.specs.declared.records.Outcome.TheVariants.{NoAccount, WrongBranch}
 use Rattle.posting_rules.specs.believed.Commands.{Command, Open, Terms, opened}
 use Rattle.posting_rules.specs.believed.Entries.{DecidedRequest, decided, is_posted}
 use Rattle.posting_rules.specs.believed.Numbering.{branch_of_account, branch_of_teller}
+use Rattle.posting_rules.specs.believed.Closings.{closings}
 
 -- a decided request, its moment aside where it wasn't posted: no row has that
 abbrev pub timed : DecidedRequest → DecidedRequest
@@ -54,5 +55,6 @@ pub record AreDecided (plan : ℕ → Option Terms) (es : List DecidedRequest) :
 -- it decided the same, and opened nothing that wasn't open there
 pub record Follows (plan : ℕ → Option Terms) (es : List DecidedRequest) (log : List Command) : Type 0 where
   pub requests : map timed (decided log) ≡ map timed es
+  pub current : closings log ≡ []
   pub within : (first : List Command) → decided first ≡ es → IsWithin (λ b. opened first b) plan
       → IsWithin (λ b. opened log b) (λ b. opened first b)

@@ -6,15 +6,18 @@ use Rattle.posting_rules.specs.believed.Commands.{AreCommands, Command, opened}
 use Rattle.posting_rules.specs.believed.Entries.{DecidedRequest, decided}
 use Rattle.posting_rules.specs.believed.Runs.{ArePosts, followed_by}
 use Rattle.posting_core.specs.believed.LogEntries.{answered_after, AnsweredRequest}
+use Rattle.posting_rules.specs.believed.Closings.{closings}
 
 -- a decided request, its moment aside
 abbrev pub unmoved : DecidedRequest → DecidedRequest
 unmoved e = record e { moment = 0 }
 
--- two logs have the same decided requests, moments aside, and opened the same branches with the same terms
+-- two logs have the same decided requests, moments aside, opened the same branches with the same terms, and closed the same
+-- numbers
 pub record AreAlike (log other : List Command) : Type 0 where
   pub requests : map unmoved (decided log) ≡ map unmoved (decided other)
   pub branches : (b : ℕ) → opened log b ≡ opened other b
+  pub numbers : closings log ≡ closings other
 
 -- its record
 abbrev pub record_of : AnsweredRequest → List ℕ

@@ -7,7 +7,7 @@ use Rattle.message_records.specs.{declared.limits.TheConstants.MAX_BALANCE, decl
 use Rattle.message_records.specs.{believed.Records.RequestFields, believed.Reading.request_of}
 use Rattle.posting_rules.specs.declared.{rows.HistoryRow.HistoryRow, judgments.Verdict.Verdict}
 use Rattle.posting_rules.specs.declared.judgments.Verdict.TheVariants.{Unkept, Again, Refused, Posted}
-use Rattle.posting_rules.specs.believed.Commands.{Command, Open, Post, opened, Terms}
+use Rattle.posting_rules.specs.believed.Commands.{Command, Open, Post, Close, opened, Terms}
 use Rattle.posting_rules.specs.believed.Cases.{case_of}
 use Rattle.posting_rules.specs.believed.Entries.{DecidedRequest, is_posted, facts, account_balance, with_verdict}
 use Rattle.posting_rules.specs.believed.Entries.{with_record, decided}
@@ -15,6 +15,8 @@ use Rattle.posting_rules.specs.believed.Tables.{row_at, history_key, history_row
 use Rattle.posting_rules.proofs.BalanceLimits.{stays_within}
 use Rattle.sql_meanings.proofs.Places.{all_weaker}
 use Rattle.walked_rows.proofs.RisingRows.{Rising, all-append, rising_more, under_next}
+use Rattle.posting_rules.specs.declared.rows.ClosingRow.{ClosingRow}
+use Rattle.posting_rules.specs.believed.Closings.{closings}
 
 -- the postings of decided requests, the oldest first
 abbrev pub postings_of : List DecidedRequest → List HistoryRow
@@ -76,16 +78,17 @@ within_verdict a m r (Refused o) es now before = (now, before)
 within_verdict a m r (Posted x t b) es now before = (now, before)
 
 within_record : (a m : ℕ) (read : Result RequestFields Bad) (opened : ℕ → Option Terms)
-    (es : List DecidedRequest)
-    → nat_abs (account_balance (with_record m read opened es) a) ≤ MAX_BALANCE → EachWithin a es
-    → EachWithin a (with_record m read opened es)
-within_record a m (Err fault) opened es now before = before
-within_record a m (Ok r) opened es now before =
-    within_verdict a m r (case_of (facts opened es r) r) es now before
+    (runs : List ClosingRow) (es : List DecidedRequest)
+    → nat_abs (account_balance (with_record m read opened runs es) a) ≤ MAX_BALANCE → EachWithin a es
+    → EachWithin a (with_record m read opened runs es)
+within_record a m (Err fault) opened runs es now before = before
+within_record a m (Ok r) opened runs es now before =
+    within_verdict a m r (case_of (facts opened runs es r) r) es now before
 
 pub each_within : (log : List Command) (a : ℕ) → EachWithin a (decided log)
 each_within [] a = tt
 each_within (Open b count ∷ log) a = each_within log a
+each_within (Close first last ∷ log) a = each_within log a
 each_within (Post m bytes ∷ log) a =
-    within_record a m (request_of bytes) (λ b. opened log b) (decided log)
+    within_record a m (request_of bytes) (λ b. opened log b) (closings log) (decided log)
     ((stays_within (Post m bytes ∷ log)).accounts a) (each_within log a)

@@ -129,6 +129,8 @@ fn outcomes_text(alloc: Global, came: &[Outcome]) -> Result<String, AllocError> 
         Outcome::BelowFloor,
         Outcome::OverLimit,
         Outcome::ReusedNumber,
+        Outcome::Closed,
+        Outcome::Sealed,
         Outcome::Full,
         Outcome::Malformed,
     ] {

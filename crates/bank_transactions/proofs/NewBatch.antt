@@ -120,6 +120,7 @@ known_held rows p unkept nowhere it = record {
   accounts = it.accounts;
   kept = held_none rows p.kept unkept nowhere;
   decided = it.decided;
+  runs = it.runs;
 }
 
 -- the requests that a file holds

@@ -13,6 +13,8 @@ use Rattle.posting_rules.specs.declared.judgments.{Found.Found, Verdict.TheVaria
 use Rattle.store_rows.specs.believed.Rules.{HoldsBank, StoredRows}
 use Rattle.bank_transactions.specs.Batches.{HasShown, RepliesLookedUp}
 use Rattle.bank_transactions.specs.believed.Stored.{HasRead, HasStored, IsStoredFound, RepliesToStored}
+use Rattle.posting_rules.specs.declared.rows.ClosingRow.{ClosingRow}
+use Rattle.posting_rules.specs.believed.Closings.{books_of}
 
 -- a request that is kept changes nothing
 module _ (t : Tables) (m : ℕ) (r : RequestFields) where
@@ -55,6 +57,7 @@ module _ {old new : Database} {m : ℕ} {bytes reply : List ℕ} {r : RequestFie
     kept = λ rows holds. (has rows holds).kept;
     decided = λ rows holds. (it.answers.stored rows holds).1;
     shown = subst (HasShown old its) read it.shown.0;
+    current = ap (λ (runs : List ClosingRow). books_of runs r.teller r.number) it.answers.current;
   }
 
   replied : reply ≡ reply_bytes its r

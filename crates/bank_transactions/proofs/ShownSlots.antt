@@ -288,8 +288,10 @@ module _ (t : Tables) where
         rw (sym is) refl
 
     -- so they are filled from those tables
-    pub held_filled : (o : Overlay) → AreHeld (stored_rows t) o → o ≡ filled t o
-    held_filled o held = rw (
+    pub held_filled : (o : Overlay) → AreHeld (stored_rows t) o → t.closings ≡ [] → o ≡ filled t o
+    held_filled o held current = rw (
+      current,
+      held.runs,
       sym (all_same (BranchHeld (stored_rows t)) (branch_filled t) branch_same o.branches held.branches),
       sym (all_same (FloorHeld (stored_rows t)) (floor_filled t) floor_same o.floors held.floors),
       sym (all_same (TellerHeld (stored_rows t)) (teller_filled t) teller_same o.tellers held.tellers),
@@ -302,7 +304,7 @@ module _ (t : Tables) where
 pub shown_filled : (db : Database) (t : Tables) (count : ℕ) (p' p : Overlay) → Shows db t → HasRoomFor count t
     → emptied p' ≡ emptied p → OfRows (λ rows. AreHeld rows p') db → p' ≡ filled t p
 shown_filled db t count p' p shows room same held =
-    held_filled t room p' (held (stored_rows t) (holds_shown db t shows)) ∙ filled_over t p' p same
+    held_filled t room p' (held (stored_rows t) (holds_shown db t shows)) shows.current ∙ filled_over t p' p same
 
 -- what a branch was opened with, of a file that shows these tables
 pub shown_terms : (db : Database) (t : Tables) (b : ℕ) → 1 ≤ b → b ≤ MAX_BRANCH → (terms : Option Terms) → Shows db t

@@ -1,5 +1,5 @@
 -- What the parts of filling a batch say.
-use Rattle.std.specs.Prelude.{◌≡◌, ℕ, List, map, Option, Some, None, IfSome, Result, Ok, Err}
+use Rattle.std.specs.Prelude.{◌≡◌, ℕ, List, [], map, Option, Some, None, IfSome, Result, Ok, Err}
 use Rattle.std.specs.List.{AllByRecursion}
 use Rattle.sqlite.specs.Effect.{Database}
 use Rattle.message_records.specs.believed.Ranges.{whole_within}
@@ -37,7 +37,7 @@ TellsBranch slots t n = in_slot row_of_slot (row_at branch_slot_key slots n) ≡
 
 -- the overlay filled from tables, but for what is kept of requests
 abbrev pub known : Tables → Overlay → Overlay
-known t o = record (filled t o) { kept = o.kept }
+known t o = record (filled t o) { kept = o.kept; runs = o.runs }
 
 -- ---- of whatever rows a file holds
 
@@ -95,8 +95,9 @@ pub record AreKnown (rows : StoredRows) (o : Overlay) : Type 0 where
   pub tellers : AllByRecursion (TellerHeld rows) o.tellers
   pub accounts : AllByRecursion (AccountHeld rows) o.accounts
   pub decided : HoldsDecided rows o.decided
+  pub runs : o.runs ≡ []
 
--- each slot has, and the count is that of the rows
+-- each slot has, and the count is that of the rows; and so far no rows are of closed books
 pub record AreHeld (rows : StoredRows) (o : Overlay) : Type 0 where
   pub branches : AllByRecursion (BranchHeld rows) o.branches
   pub floors : AllByRecursion (FloorHeld rows) o.floors
@@ -104,6 +105,7 @@ pub record AreHeld (rows : StoredRows) (o : Overlay) : Type 0 where
   pub accounts : AllByRecursion (AccountHeld rows) o.accounts
   pub kept : AllByRecursion (RequestHeld rows) o.kept
   pub decided : HoldsDecided rows o.decided
+  pub runs : o.runs ≡ []
 
 -- ---- whatever tables a file has
 

@@ -6,7 +6,7 @@ use Rattle.std.specs.Prelude.{◌⊎◌, Bool, true, false, if◌then◌else◌,
 use Rattle.std.specs.List.{AllByRecursion}
 use Rattle.std.proofs.lemmas.List.{length-append, length-map, map-append}
 use Rattle.std.proofs.lemmas.List.Elements.{Contains-append_left, Contains-push, Contains-push_cases}
-use Rattle.posting_rules.specs.believed.{Commands.Command, Commands.Open, Commands.Post, Commands.Terms}
+use Rattle.posting_rules.specs.believed.{Commands.Command, Commands.Open, Commands.Post, Commands.Close, Commands.Terms}
 use Rattle.posting_rules.specs.believed.Counter.{IsCounterCall, Seen, ShowsLog}
 use Rattle.posting_rules.specs.believed.{Runs.followed_by, Runs.posts, Runs.replies_to}
 use Rattle.posting_rules.specs.declared.fault.Fault.{Fault}
@@ -32,6 +32,7 @@ pub posts-append : (plan : ℕ → Option Terms) (xs ys : List AnsweredRequest) 
     → ArePostsOf plan xs cs → ArePostsOf plan ys ds → ArePostsOf plan (xs ++ ys) (cs ++ ds)
 posts-append plan xs ys [] ds one two = subst (λ (l : List AnsweredRequest). ArePostsOf plan (l ++ ys) ds) (sym one) two
 posts-append plan xs ys (Open b t ∷ cs) ds one two = (one.0, posts-append plan xs ys cs ds one.1 two)
+posts-append plan xs ys (Close first last ∷ cs) ds one two = absurd one
 posts-append plan [] ys (Post m r ∷ cs) ds one two = absurd one
 posts-append plan (a ∷ xs) ys (Post m r ∷ cs) ds one two = (one.0, one.1, posts-append plan xs ys cs ds one.2 two)
 
@@ -51,6 +52,7 @@ pub opened-append : (cs ds : List Command) → opened_by (cs ++ ds) ≡ opened_b
 opened-append [] ds = refl
 opened-append (Open b t ∷ cs) ds = ap (λ (l : List ℕ). b ∷ l) (opened-append cs ds)
 opened-append (Post m r ∷ cs) ds = opened-append cs ds
+opened-append (Close first last ∷ cs) ds = opened-append cs ds
 
 pub posts_open_none : (m : ℕ) (records : List (List ℕ)) → opened_by (posts m records) ≡ []
 posts_open_none m [] = refl
@@ -75,6 +77,7 @@ opens-append rows opened (a ∷ xs) ys (Open b t ∷ cs) ds are one two = (
   opens-append rows (opened ++ b ∷ []) (a ∷ xs) ys cs ds are.1 one.2
       (subst (λ (o : List ℕ). OpensFirst rows o ys ds) (sym (append_assoc opened (b ∷ []) (opened_by cs))) two),
 )
+opens-append rows opened xs ys (Close first last ∷ cs) ds are one two = absurd are
 opens-append rows opened [] ys (Post m r ∷ cs) ds are one two = absurd are
 opens-append rows opened (a ∷ xs) ys (Post m r ∷ cs) ds are one two =
     (one.0, opens-append rows opened xs ys cs ds are.2 one.1 two)
@@ -86,6 +89,7 @@ opens_further rows opened xs ys [] it = tt
 opens_further rows opened [] ys (c ∷ cs) it = absurd it
 opens_further rows opened (a ∷ xs) ys (Open b t ∷ cs) it =
     (it.0, it.1, opens_further rows (opened ++ b ∷ []) (a ∷ xs) ys cs it.2)
+opens_further rows opened (a ∷ xs) ys (Close first last ∷ cs) it = absurd it
 opens_further rows opened (a ∷ xs) ys (Post m r ∷ cs) it = (it.0, opens_further rows opened xs ys cs it.1)
 
 -- and where the posts are those of the first, those after the next are of no account
@@ -97,6 +101,7 @@ opens_up_to rows opened [] e ys zs (Open b t ∷ cs) are it =
     (it.0, it.1, opens_up_to rows (opened ++ b ∷ []) [] e ys zs cs are.1 it.2)
 opens_up_to rows opened (a ∷ xs) e ys zs (Open b t ∷ cs) are it =
     (it.0, it.1, opens_up_to rows (opened ++ b ∷ []) (a ∷ xs) e ys zs cs are.1 it.2)
+opens_up_to rows opened xs e ys zs (Close first last ∷ cs) are it = absurd are
 opens_up_to rows opened [] e ys zs (Post m r ∷ cs) are it = absurd are
 opens_up_to rows opened (a ∷ xs) e ys zs (Post m r ∷ cs) are it =
     (it.0, opens_up_to rows opened xs e ys zs cs are.2 it.1)

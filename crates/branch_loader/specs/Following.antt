@@ -5,7 +5,7 @@ use Rattle.std.specs.Prelude.{IsSome}
 use Rattle.std.specs.List.{AllByRecursion, find, slice_get}
 use Rattle.message_records.specs.declared.records.Outcome.{Outcome}
 use Rattle.message_records.specs.declared.records.Outcome.TheVariants.{NoAccount, WrongBranch}
-use Rattle.posting_rules.specs.believed.Commands.{Command, Open, Post, Terms}
+use Rattle.posting_rules.specs.believed.Commands.{Command, Open, Post, Close, Terms}
 use Rattle.posting_rules.specs.believed.Numbering.{branch_of_account, branch_of_teller}
 use Rattle.posting_rules.specs.believed.Counter.{Refuses, Seen, ShowsLog, Takes}
 use Rattle.posting_rules.specs.believed.Runs.{replies_to}
@@ -49,6 +49,7 @@ abbrev pub opened_by : List Command → List ℕ
 opened_by [] = []
 opened_by (Open branch terms ∷ cs) = branch ∷ opened_by cs
 opened_by (Post moment bytes ∷ cs) = opened_by cs
+opened_by (Close first last ∷ cs) = opened_by cs
 
 -- those that the plan has are among these
 abbrev pub AreOpen : Rows → (opened : List ℕ) → AnsweredRequest → Type 0
@@ -63,6 +64,7 @@ OpensFirst rows opened [] (c ∷ cs) = ⊥
 OpensFirst rows opened (a ∷ more) (Open branch terms ∷ cs) = Contains (needed_by a) branch
     × (Contains opened branch → ⊥) × OpensFirst rows (opened ++ branch ∷ []) (a ∷ more) cs
 OpensFirst rows opened (a ∷ more) (Post moment bytes ∷ cs) = AreOpen rows opened a × OpensFirst rows opened more cs
+OpensFirst rows opened (a ∷ more) (Close first last ∷ cs) = ⊥
 
 -- the plan was looked at for these branches, by their numbers: those that it has are open, and no others are
 pub record LooksOpen (rows : Rows) (looked : List Bool) (opened : List ℕ) : Type 0 where

@@ -7,7 +7,7 @@ use Rattle.std.proofs.lemmas.List.{length-append, Concat.flat_map-append}
 use Rattle.message_records.specs.declared.records.Outcome.{Outcome}
 use Rattle.message_records.specs.declared.records.Outcome.TheVariants.{Posted, NoTeller, WrongBranch}
 use Rattle.message_records.specs.declared.records.Outcome.TheVariants.{NoAccount, BelowFloor, OverLimit}
-use Rattle.message_records.specs.declared.records.Outcome.TheVariants.{ReusedNumber, Full, Malformed}
+use Rattle.message_records.specs.declared.records.Outcome.TheVariants.{ReusedNumber, Closed, Sealed, Full, Malformed}
 use Rattle.posting_rules.specs.believed.Commands.{Command}
 use Rattle.posting_rules.specs.believed.Runs.{followed_by, replies_to}
 use Rattle.posting_rules.proofs.Sequence.{replies_to-append}
@@ -67,6 +67,8 @@ tallied_commits t n NoAccount = refl
 tallied_commits t n BelowFloor = refl
 tallied_commits t n OverLimit = refl
 tallied_commits t n ReusedNumber = refl
+tallied_commits t n Closed = refl
+tallied_commits t n Sealed = refl
 tallied_commits t n Full = refl
 tallied_commits t n Malformed = refl
 

@@ -22,10 +22,13 @@ use Rattle.counter_http.specs.believed.Answers.{lines_up_to, not_allowed, plain,
 use Rattle.counter_http.specs.believed.Answers.{shows, teller_answer, teller_line, teller_named}
 use Rattle.counter_http.specs.believed.Turns.{Turn, commands_for, commands_if, commands_in, answers_to, messages_of}
 use Rattle.counter_http.proofs.Timed.{head_same, tail_same}
+use Rattle.posting_rules.specs.declared.rows.ClosingRow.{ClosingRow}
+use Rattle.posting_rules.specs.believed.Closings.{closings}
 
--- the same is open, and the same is decided but for the moments
+-- the same is open, the same is closed, and the same is decided but for the moments
 pub record IsAlike (a b : List Command) : Type 0 where
   pub opens : ◌≡◌ {A = ℕ → Option Terms} (λ n. opened a n) (λ n. opened b n)
+  pub closes : closings a ≡ closings b
   pub entries : zeroed (decided a) ≡ zeroed (decided b)
 
 abbrev Opened : Type 0
@@ -35,10 +38,11 @@ Opened = ℕ → Option Terms
 
 reply_alike : (a b : List Command) (bytes : List ℕ) → IsAlike a b → reply a bytes ≡ reply b bytes
 reply_alike a b bytes h =
-    sym (reply_zeroed (λ n. opened a n) (decided a) (request_of bytes))
-    ∙ ap (λ (o : Opened). reply_given (request_of bytes) o (zeroed (decided a))) h.opens
-    ∙ ap (λ (es : List DecidedRequest). reply_given (request_of bytes) (λ n. opened b n) es) h.entries
-    ∙ reply_zeroed (λ n. opened b n) (decided b) (request_of bytes)
+    sym (reply_zeroed (λ n. opened a n) (closings a) (decided a) (request_of bytes))
+    ∙ ap (λ (o : Opened). reply_given (request_of bytes) o (closings a) (zeroed (decided a))) h.opens
+    ∙ ap (λ (runs : List ClosingRow). reply_given (request_of bytes) (λ n. opened b n) runs (zeroed (decided a))) h.closes
+    ∙ ap (λ (es : List DecidedRequest). reply_given (request_of bytes) (λ n. opened b n) (closings b) es) h.entries
+    ∙ reply_zeroed (λ n. opened b n) (closings b) (decided b) (request_of bytes)
 
 balance_alike : (a b : List Command) (account : ℕ) → IsAlike a b
     → balance_after a account ≡ balance_after b account
@@ -137,10 +141,12 @@ post_alike : (a b : List Command) (m k : ℕ) (bytes : List ℕ) → IsAlike a b
     → IsAlike (Post m bytes ∷ a) (Post k bytes ∷ b)
 post_alike a b m k bytes h = record {
   opens = h.opens;
-  entries = record_zeroed m (λ n. opened a n) (decided a) (request_of bytes)
-      ∙ ap (λ (o : Opened). with_record 0 (request_of bytes) o (zeroed (decided a))) h.opens
-      ∙ ap (λ (es : List DecidedRequest). with_record 0 (request_of bytes) (λ n. opened b n) es) h.entries
-      ∙ sym (record_zeroed k (λ n. opened b n) (decided b) (request_of bytes));
+  closes = h.closes;
+  entries = record_zeroed m (λ n. opened a n) (closings a) (decided a) (request_of bytes)
+      ∙ ap (λ (o : Opened). with_record 0 (request_of bytes) o (closings a) (zeroed (decided a))) h.opens
+      ∙ ap (λ (runs : List ClosingRow). with_record 0 (request_of bytes) (λ n. opened b n) runs (zeroed (decided a))) h.closes
+      ∙ ap (λ (es : List DecidedRequest). with_record 0 (request_of bytes) (λ n. opened b n) (closings b) es) h.entries
+      ∙ sym (record_zeroed k (λ n. opened b n) (closings b) (decided b) (request_of bytes));
 }
 
 after_alike : (a b : List Command) (m k : ℕ) (posts : Bool) (bytes : List ℕ) → IsAlike a b
@@ -166,4 +172,4 @@ answers_alike a b (t ∷ ts) (u ∷ us) h others same =
 pub momentless : (log : List Command) (ts us : List Turn) → AllByRecursion AsksNoLog ts
     → messages_of ts ≡ messages_of us → answers_to log ts ≡ answers_to log us
 momentless log ts us others same =
-    answers_alike log log ts us (record { opens = refl; entries = refl }) others same
+    answers_alike log log ts us (record { opens = refl; closes = refl; entries = refl }) others same

@@ -7,7 +7,7 @@ use Rattle.message_records.specs.believed.Reading.{number_of}
 use Rattle.message_records.specs.declared.records.Outcome.{Outcome}
 use Rattle.message_records.specs.declared.records.Outcome.TheVariants.{Posted, NoTeller, WrongBranch}
 use Rattle.message_records.specs.declared.records.Outcome.TheVariants.{NoAccount, BelowFloor, OverLimit}
-use Rattle.message_records.specs.declared.records.Outcome.TheVariants.{ReusedNumber, Full, Malformed}
+use Rattle.message_records.specs.declared.records.Outcome.TheVariants.{ReusedNumber, Closed, Sealed, Full, Malformed}
 use Rattle.posting_rules.specs.believed.Commands.{Command}
 use Rattle.counter_http.specs.believed.Answers.{Answer, Asked, answer_text, answer_to, is_reading, shows}
 use Rattle.counter_http.specs.believed.Paths.{path_of, route_of}
@@ -30,6 +30,8 @@ tallied t NoAccount = t.no_account
 tallied t BelowFloor = t.below_floor
 tallied t OverLimit = t.over_limit
 tallied t ReusedNumber = t.reused_number
+tallied t Closed = t.closed
+tallied t Sealed = t.sealed
 tallied t Full = t.full
 tallied t Malformed = t.malformed
 
@@ -44,6 +46,8 @@ nothing = record {
   below_floor = 0;
   over_limit = 0;
   reused_number = 0;
+  closed = 0;
+  sealed = 0;
   full = 0;
   malformed = 0;
 }

@@ -16,6 +16,8 @@ pub(crate) struct Tally {
     pub below_floor: u64,
     pub over_limit: u64,
     pub reused_number: u64,
+    pub closed: u64,
+    pub sealed: u64,
     pub full: u64,
     pub malformed: u64,
 }
@@ -49,6 +51,8 @@ impl Tally {
             below_floor: 0,
             over_limit: 0,
             reused_number: 0,
+            closed: 0,
+            sealed: 0,
             full: 0,
             malformed: 0,
         }
@@ -66,6 +70,8 @@ impl Tally {
             Outcome::BelowFloor => self.below_floor = one_more(self.below_floor),
             Outcome::OverLimit => self.over_limit = one_more(self.over_limit),
             Outcome::ReusedNumber => self.reused_number = one_more(self.reused_number),
+            Outcome::Closed => self.closed = one_more(self.closed),
+            Outcome::Sealed => self.sealed = one_more(self.sealed),
             Outcome::Full => self.full = one_more(self.full),
             Outcome::Malformed => self.malformed = one_more(self.malformed),
         }

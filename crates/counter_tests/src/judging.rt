@@ -1,6 +1,6 @@
 //! What no scenario shows of judging: the verdict at the last free ordinal and after it.
 use message_records::{Account, Branch, Cents, Number, Outcome, Request, Teller};
-use posting_core::{Found, Verdict, judge};
+use posting_core::{Books, Found, Verdict, judge};
 
 // One cent to account 1, by teller 1 of branch 1, under the number 1.
 fn one_cent() -> Request {
@@ -19,6 +19,7 @@ fn the_full_bank(rt: HostRuntime) {
     let mut found = Found {
         teller: Some((zero, zero)),
         kept: None,
+        books: Books::Current,
         decided: 1_000_000_000_000,
         account: Some(zero),
         floor: None,

@@ -40,7 +40,7 @@ const FAULTY_REQUESTS: &[(&[u8], usize, &[u8], Bad)] = &[
 
 const FAULTY_REPLIES: &[(&[u8], usize, &[u8], BadReply)] = &[
     (POSTED, 3, b"2", BadReply::Tag),
-    (POSTED, 4, b"18", BadReply::Outcome),
+    (POSTED, 4, b"20", BadReply::Outcome),
     (POSTED, 17, b"0", BadReply::Account),
     (MALFORMED, 25, b"1", BadReply::Teller),
     (POSTED, 29, b"A", BadReply::Branch),

@@ -1,7 +1,7 @@
 -- Posts of the same records, made again: nothing is added, and they get the same replies.
 use Rattle.std.proofs.Common.{◌≡◌, ◌+◌, ℕ, cond, List, [], ◌∷◌, ◌++◌, refl, sym, ap, ◌∙◌, append_assoc, inl}
 use Rattle.message_records.specs.{believed.Outcomes.has_balance, believed.Records.ReplyFields}
-use Rattle.posting_rules.specs.believed.Commands.{Command, Open, Post}
+use Rattle.posting_rules.specs.believed.Commands.{Command, Open, Post, Close}
 use Rattle.posting_rules.specs.{believed.Entries.reply, Resends.Place, Resends.Skips, believed.Runs.followed_by}
 use Rattle.posting_rules.specs.{believed.Runs.ArePosts}
 use Rattle.posting_rules.proofs.{Resends.adds_nothing, Resends.posts_both, Sequence.after-append}
@@ -28,8 +28,10 @@ module _ (log p : List Command) (posts : ArePosts p) where
       → posted_records rest ≡ posted_records r → Skips p r []
   skips_again before rest [] is hrest hr same = refl
   skips_again before rest (Open b n ∷ r) is hrest hr same = absurd hr
+  skips_again before rest (Close first last ∷ r) is hrest hr same = absurd hr
   skips_again before [] (Post m bytes ∷ r) is hrest hr same = absurd cc
   skips_again before (Open b n ∷ rest) (Post m bytes ∷ r) is hrest hr same = absurd hrest
+  skips_again before (Close first last ∷ rest) (Post m bytes ∷ r) is hrest hr same = absurd hrest
   skips_again before (Post m one ∷ rest) (Post k two ∷ r) is hrest hr same =
       inl (
         place before rest m one two is cc,
@@ -44,8 +46,10 @@ module _ (log p : List Command) (posts : ArePosts p) where
   unfolding posted_among place
   posted_again before [] q [] is hrest hq hr same = refl
   posted_again before (Open b n ∷ rest) q r is hrest hq hr same = absurd hrest
+  posted_again before (Close first last ∷ rest) q r is hrest hq hr same = absurd hrest
   posted_again before (Post m one ∷ rest) q [] is hrest hq hr same = absurd cc
   posted_again before rest q (Open b n ∷ r) is hrest hq hr same = absurd hr
+  posted_again before rest q (Close first last ∷ r) is hrest hq hr same = absurd hr
   posted_again before [] q (Post k two ∷ r) is hrest hq hr same = absurd cc
   posted_again before (Post m one ∷ rest) q (Post k two ∷ r) is hrest hq hr same =
       let equal : one ≡ two = cc in

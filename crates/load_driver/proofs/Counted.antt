@@ -7,7 +7,7 @@ use Rattle.message_records.specs.declared.records.Outcome.{Outcome}
 use Rattle.message_records.specs.believed.{Outcomes.code_of, Outcomes.has_balance, Records.ReplyFields}
 use Rattle.message_records.specs.believed.Spelling.{digits, reply_spelling}
 use Rattle.message_records.specs.declared.records.Outcome.TheVariants.{Posted}
-use Rattle.posting_rules.specs.believed.Commands.{Command, Open, Post}
+use Rattle.posting_rules.specs.believed.Commands.{Command, Open, Post, Close}
 use Rattle.posting_rules.specs.believed.{Entries.reply, Runs.followed_by, Runs.replies_to}
 use Rattle.load_driver.specs.{Counted.is_posted, believed.Records.posted_among}
 
@@ -27,6 +27,7 @@ pub counted : (log commands : List Command)
 unfolding posted_among
 counted log [] = refl
 counted log (Open branch count ∷ commands) = counted (Open branch count ∷ log) commands
+counted log (Close first last ∷ commands) = counted (Close first last ∷ log) commands
 counted log (Post moment bytes ∷ commands) =
     let rest = replies_to (Post moment bytes ∷ log) commands in
     sum_by-cons (λ (bytes : List ℕ). cond (is_posted bytes) 1 0) (reply_spelling (reply log bytes)) rest
@@ -40,6 +41,7 @@ pub posted_among-append : (log cs ds : List Command)
 unfolding posted_among
 posted_among-append log [] ds = sym (zero-add (posted_among log ds))
 posted_among-append log (Open branch count ∷ cs) ds = posted_among-append (Open branch count ∷ log) cs ds
+posted_among-append log (Close first last ∷ cs) ds = posted_among-append (Close first last ∷ log) cs ds
 posted_among-append log (Post moment bytes ∷ cs) ds =
     let one = cond (has_balance (reply log bytes).outcome) 1 0 in
     ap (λ (n : ℕ). one + n) (posted_among-append (Post moment bytes ∷ log) cs ds)

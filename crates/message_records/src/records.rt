@@ -168,6 +168,10 @@ pub enum Outcome {
     OverLimit,
     /// The teller gave the number to another request.
     ReusedNumber,
+    /// The number was decided in closed books, and is never to be sent again.
+    Closed,
+    /// The books are sealed: what they haven't decided belongs to the new ones.
+    Sealed,
     /// The bank has decided as many requests as it may.
     Full,
     /// The bytes are no request.
@@ -191,6 +195,8 @@ impl Outcome {
             Outcome::BelowFloor => 17,
             Outcome::OverLimit => 14,
             Outcome::ReusedNumber => 15,
+            Outcome::Closed => 18,
+            Outcome::Sealed => 19,
             Outcome::Full => 16,
             Outcome::Malformed => 90,
         }
@@ -210,6 +216,8 @@ impl Outcome {
             15 => Some(Outcome::ReusedNumber),
             16 => Some(Outcome::Full),
             17 => Some(Outcome::BelowFloor),
+            18 => Some(Outcome::Closed),
+            19 => Some(Outcome::Sealed),
             90 => Some(Outcome::Malformed),
             _ => None,
         }
@@ -228,6 +236,8 @@ impl Outcome {
             Outcome::BelowFloor => "BELOW FLOOR",
             Outcome::OverLimit => "OVER LIMIT",
             Outcome::ReusedNumber => "REUSED NUMBER",
+            Outcome::Closed => "CLOSED",
+            Outcome::Sealed => "SEALED",
             Outcome::Full => "FULL",
             Outcome::Malformed => "MALFORMED",
         }

@@ -174,7 +174,7 @@ weaker P Q so (Some s) h = so s h
 
 unchanged_over : (o : Overlay) (t : Tables) → HasNoChange o → o.decided ≡ t.decided → tables_over o t ≡ t
 unchanged_over o t un counted =
-    tables_made _ _ _ _ _ _ _ _ _ _ _ _ _ _ _ counted
+    tables_made _ _ _ _ _ _ _ _ _ _ _ _ _ _ _ _ counted
     (same_rows branch_slot_key branch_key put_branch o.branches
     (λ n r. weaker (λ s. s.changed ≡ None) (λ s. put_branch s r ≡ r) (λ s h. rw h refl)
     (row_at branch_slot_key o.branches n)
@@ -220,6 +220,7 @@ stands t reads =
             (λ k s. s.stored ≡ account_balance_in t k) (λ s. refl) o.accounts n;
         kept = λ n m. subst (λ (u : Tables). IfSome (find (is_for n m) (filled t o).kept)
             (λ s. s.kept ≡ kept_in u.requests u.references n m)) (sym is) (kept_at_key t o.kept n m);
+        runs = refl;
       };
       same = is;
       unchanged = un;

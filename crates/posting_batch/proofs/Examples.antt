@@ -27,6 +27,7 @@ bank = record {
   requests = [];
   floors = floor_row_of 1 (negsuc 999) ∷ [];
   references = [];
+  closings = [];
 }
 
 batch_of : List (Result RequestFields Bad) → Overlay

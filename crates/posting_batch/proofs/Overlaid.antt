@@ -29,6 +29,9 @@ use Rattle.posting_batch.specs.Slots.{account_slot_balance, with_account_changed
 use Rattle.posting_batch.specs.Slots.{teller_slot_balance, with_teller_changed, branch_slot_key, branch_slot_balance}
 use Rattle.posting_batch.specs.Slots.{with_branch_changed, floor_of_slot, floor_slot_key, slot_floor}
 use Rattle.posting_batch.proofs.OverlaidRows.{over-changed, put_same, put_again, balance_is}
+use Rattle.posting_rules.specs.declared.rows.ClosingRow.{ClosingRow}
+use Rattle.posting_rules.specs.declared.judgments.Books.{Books}
+use Rattle.posting_rules.specs.believed.Closings.{books_of}
 
 -- each slot tells what is in the tables under its key
 pub record Fits (o : Overlay) (t : Tables) : Type 0 where
@@ -44,6 +47,7 @@ pub record Fits (o : Overlay) (t : Tables) : Type 0 where
   pub kept : (n m : ℕ)
       → IfSome (find (is_for n m) o.kept)
       (λ s. s.kept ≡ kept_in (tables_over o t).requests (tables_over o t).references n m)
+  pub runs : o.runs ≡ t.closings
 
 account_now : (o : Overlay) (t : Tables) (n : ℕ) → Fits o t → IsSome (row_at account_slot_key o.accounts n)
     → slot_balance account_slot_key account_slot_balance o.accounts n ≡ option_map balance_of_account
@@ -99,20 +103,28 @@ kept_now o t n m fits there = by_slots (find (is_for n m) o.kept) there (fits.ke
 pub found_is : (o : Overlay) (t : Tables) (r : RequestFields) → Fits o t → Covers o r
     → found_over o r ≡ found_in (tables_over o t) r
 found_is o t r fits covers =
-    made _ _ _ _ _ _ _ _ (
+    made _ _ _ _ _ _ _ _ _ _ (
     ap (λ x. both_of x (slot_balance branch_slot_key branch_slot_balance o.branches
     (branch_of_teller r.teller))) (teller_now o t r.teller fits covers.teller)
     ∙ ap (both_of (option_map balance_of_teller (row_at teller_key (tables_over o t).tellers r.teller)))
     (branch_now o t (branch_of_teller r.teller) fits covers.branch)
     )
-    (kept_now o t r.teller r.number fits covers.kept) (account_now o t r.account fits covers.account)
+    (kept_now o t r.teller r.number fits covers.kept)
+    (ap (λ (runs : List ClosingRow). books_of runs r.teller r.number) fits.runs)
+    (account_now o t r.account fits covers.account)
     (floor_now o t (branch_of_account r.account) fits covers.its_floor)
   where
-    made : (a a' : Option (ℤ × ℤ)) (k k' : Option KeptFields) (b b' l l' : Option ℤ) → a ≡ a' → k ≡ k'
-        → b ≡ b' → l ≡ l'
-        → (let f : Found = record { teller = a; kept = k; decided = o.decided; account = b; floor = l } in f) ≡
-        record { teller = a'; kept = k'; decided = o.decided; account = b'; floor = l' }
-    made a a' k k' b b' l l' ea ek eb el = rw (ea, ek, eb, el) refl
+    made : (a a' : Option (ℤ × ℤ)) (k k' : Option KeptFields) (c c' : Books) (b b' l l' : Option ℤ) → a ≡ a'
+        → k ≡ k' → c ≡ c' → b ≡ b' → l ≡ l'
+        → (let f : Found = record {
+          teller = a;
+          kept = k;
+          books = c;
+          decided = o.decided;
+          account = b;
+          floor = l;
+        } in f) ≡ record { teller = a'; kept = k'; books = c'; decided = o.decided; account = b'; floor = l' }
+    made a a' k k' c c' b b' l l' ea ek ec eb el = rw (ea, ek, ec, eb, el) refl
 
 -- ---- a verdict
 
@@ -133,6 +145,7 @@ reference_put-append ordinal (Some text) rs rows = each_put-append reference_key
 -- tables whose parts are equal
 pub tables_made : (n n' : ℕ) (b b' : List BranchRow) (e e' : List TellerRow) (a a' : List AccountRow)
     (h h' : List HistoryRow) (q q' : List RequestRow) (l : List FloorRow) (f f' : List ReferenceRow)
+    (c : List ClosingRow)
     → n ≡ n' → b ≡ b' → e ≡ e' → a ≡ a' → h ≡ h' → q ≡ q' → f ≡ f'
     → (let t : Tables = record {
       decided = n;
@@ -143,6 +156,7 @@ pub tables_made : (n n' : ℕ) (b b' : List BranchRow) (e e' : List TellerRow) (
       requests = q;
       floors = l;
       references = f;
+      closings = c;
     } in t)
     ≡ record {
       decided = n';
@@ -153,14 +167,15 @@ pub tables_made : (n n' : ℕ) (b b' : List BranchRow) (e e' : List TellerRow) (
       requests = q';
       floors = l;
       references = f';
+      closings = c;
     }
-tables_made n n' b b' e e' a a' h h' q q' l f f' en eb ee ea eh eq ef = rw (en, eb, ee, ea, eh, eq, ef) refl
+tables_made n n' b b' e e' a a' h h' q q' l f f' c en eb ee ea eh eq ef = rw (en, eb, ee, ea, eh, eq, ef) refl
 
 refused_over : (o : Overlay) (t : Tables) (e : DecidedRequest)
     → tables_over (overlay_kept o e) t ≡ tables_kept (tables_over o t) (o.decided + 1) e
 unfolding with_decided with_request with_reference
 refused_over o t e =
-    tables_made _ _ _ _ _ _ _ _ _ _ _ _ _ _ _ refl refl refl refl refl
+    tables_made _ _ _ _ _ _ _ _ _ _ _ _ _ _ _ _ refl refl refl refl refl
     (each_put-append request_key o.requests (request_row_of (o.decided + 1) e) t.requests)
     (reference_put-append (o.decided + 1) e.request.reference o.references t.references)
 
@@ -176,7 +191,7 @@ posted_over : (o : Overlay) (t : Tables) (e : DecidedRequest) (teller branch : �
 unfolding with_decided with_request with_reference with_history
     with_branch_balance with_teller_balance with_account_balance
 posted_over o t e teller branch there =
-    tables_made _ _ _ _ _ _ _ _ _ _ _ _ _ _ _ refl
+    tables_made _ _ _ _ _ _ _ _ _ _ _ _ _ _ _ _ refl
     (over-changed branch_slot_key branch_key (λ s r. changed_to steps.with_branch_balance s.changed r)
     (put_same branch_slot_key (λ s. None) (λ (s : BranchSlot). s.changed) branch_key balance_of_branch
     steps.with_branch_balance (λ z r. refl) (λ z r. refl) (λ z y r. refl))

@@ -92,6 +92,7 @@ after_fits o t m r (Refused x) fits free new =
       tellers = fits.tellers;
       accounts = fits.accounts;
       kept = more_kept o t (refused_entry m r x) fits free new;
+      runs = fits.runs;
     }
 after_fits o t m r (Posted a te b) fits free new = record {
   branches = λ n. fits_changed branch_slot_key (branch_of_teller r.teller) (with_branch_changed b) (λ s. refl)
@@ -103,6 +104,7 @@ after_fits o t m r (Posted a te b) fits free new = record {
   accounts = λ n. fits_changed account_slot_key r.account (with_account_changed a) (λ s. refl)
       (λ s. s.stored ≡ account_balance_in t n) (λ s h. h) o.accounts n (fits.accounts n);
   kept = more_kept o t (posted_entry m r a) fits free new;
+  runs = fits.runs;
 }
 
 -- ---- a record

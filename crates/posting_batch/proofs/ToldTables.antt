@@ -279,6 +279,7 @@ tables_told free o = let slots = numbered (suc (o.decided + free)) o.kept in rec
   requests = rows_told request_told slots;
   floors = rows_told floor_told o.floors;
   references = rows_told reference_told slots;
+  closings = o.runs;
 }
 
 pub told_free : (free : ℕ) (o : Overlay) → HasFreeOrdinals (tables_told free o) free

@@ -69,6 +69,7 @@ no_slots = record {
   tellers = [];
   accounts = [];
   kept = [];
+  runs = [];
   decided = 0;
   history = [];
   requests = [];
@@ -142,6 +143,7 @@ filled t o = record o {
   tellers = map (teller_filled t) o.tellers;
   accounts = map (account_filled t) o.accounts;
   kept = map (request_filled t) o.kept;
+  runs = t.closings;
   decided = t.decided;
 }
 
@@ -192,6 +194,7 @@ blanked o = record {
   tellers = map (λ s. empty_teller s.teller) o.tellers;
   accounts = map (λ s. empty_account s.account) o.accounts;
   kept = map (λ s. empty_request s.teller s.number) o.kept;
+  runs = [];
   decided = 0;
   history = [];
   requests = [];

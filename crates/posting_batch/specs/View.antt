@@ -1,5 +1,5 @@
 -- What a batch holds, without where it lies in memory.
-use Rattle.std.specs.Prelude.{◌≡◌, ◌*◌, ℕ, List, map, Result}
+use Rattle.std.specs.Prelude.{◌≡◌, ◌*◌, ℕ, List, [], map, Result}
 use Rattle.message_records.specs.declared.fault.Bad.{Bad}
 use Rattle.message_records.specs.believed.Reading.{request_of}
 use Rattle.message_records.specs.believed.Records.{RequestFields}
@@ -12,7 +12,7 @@ use Rattle.posting_batch.specs.Reads.{reads_in}
 use Rattle.posting_batch.specs.Room.{IsRoomFor}
 use Rattle.posting_batch.specs.Batch.{KeepsNew, blanked, covering_all, no_slots, filled}
 
--- the overlay
+-- the overlay; so far a batch knows of no closed books
 abbrev pub view : held.Overlay → Overlay
 view o = record {
   branches = o.branches.items;
@@ -20,6 +20,7 @@ view o = record {
   tellers = o.tellers.items;
   accounts = o.accounts.items;
   kept = o.kept.items;
+  runs = [];
   decided = o.decided;
   history = o.history.items;
   requests = o.requests.items;

@@ -15,8 +15,8 @@ use crate::search::{balance_at, kept_at, stored_floor};
 use crate::slots::{AccountSlot, BranchSlot, FloorSlot, RequestSlot, TellerSlot};
 use message_records::{Bad, Cents, Moment, Outcome, REPLY_BYTES, Reference, Request, encode_reply};
 use posting_rules::{
-    Found, HistoryRow, MAX_DECIDED, Ordinal, ReferenceRow, RequestRow, Verdict, branch_of_account,
-    branch_of_teller, judge, malformed_reply, reply_to,
+    Books, Found, HistoryRow, MAX_DECIDED, Ordinal, ReferenceRow, RequestRow, Verdict,
+    branch_of_account, branch_of_teller, judge, malformed_reply, reply_to,
 };
 use smallvec::SmallVec;
 use std::alloc::{AllocError, Global};
@@ -165,6 +165,7 @@ impl Overlay {
         Found {
             teller: teller.zip(branch),
             kept: kept_at(&self.kept, request.teller(), request.number()),
+            books: Books::Current,
             decided: self.decided,
             account: balance_at(&self.accounts, request.account().get()),
             floor: stored_floor(&self.floors, branch_of_account(request.account())),

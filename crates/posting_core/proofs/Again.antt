@@ -7,7 +7,7 @@ use Rattle.std.proofs.lemmas.Bool.Decides.{leb_tells}
 use Rattle.message_records.specs.{believed.Spelling.reply_spelling, declared.limits.TheConstants.REPLY_BYTES}
 use Rattle.message_records.proofs.Prefixes.{length-reply}
 use Rattle.posting_rules.specs.{declared.fault.Fault.Fault, believed.Entries.reply, Resends.Place}
-use Rattle.posting_rules.specs.believed.Commands.{Command, Open, Post}
+use Rattle.posting_rules.specs.believed.Commands.{Command, Open, Post, Close}
 use Rattle.posting_rules.specs.believed.Counter.{Answers, IsCounterCall, Seen, ShowsLog, Takes}
 use Rattle.posting_rules.specs.believed.Runs.{followed_by, posts, replies_to, ArePosts}
 use Rattle.posting_rules.proofs.Resends.{replies_in_place, shows_log_left_out}
@@ -59,6 +59,7 @@ module _ {C K : Type 0} (seen : C → Seen) (contents : C → K) (reason : Fault
 whole_replies : (log cs : List Command) → AllByRecursion (λ r. length r ≡ REPLY_BYTES) (replies_to log cs)
 whole_replies log [] = tt
 whole_replies log (Open b n ∷ cs) = whole_replies (Open b n ∷ log) cs
+whole_replies log (Close first last ∷ cs) = whole_replies (Close first last ∷ log) cs
 whole_replies log (Post m bytes ∷ cs) = (length-reply (reply log bytes), whole_replies (Post m bytes ∷ log) cs)
 
 at_place : (rs : List (List ℕ)) (place : ℕ) → AllByRecursion (λ r. length r ≡ REPLY_BYTES) rs

@@ -1,6 +1,6 @@
 -- Rows in the order in which they came: one is put in after the others, and tables with a branch more show the
 -- log with its opening.
-use Rattle.std.proofs.Common.{◌≡◌, ℕ, ◌+◌, ◌≤◌, ltb, true, List, [], ◌∷◌, ◌++◌, Option, Some, None, refl, sym, ap}
+use Rattle.std.proofs.Common.{◌≡◌, ℕ, ◌+◌, ◌≤◌, ltb, Bool, cond, true, false, List, [], ◌∷◌, ◌++◌, Option, Some, None, refl, sym, ap}
 use Rattle.std.proofs.Common.{◌∙◌, arith}
 use Rattle.std.specs.{Prelude.ℤ, Prelude.pos, Prelude.All, List.AllByRecursion, Option.option_map}
 use Rattle.std.proofs.lemmas.{List.Elements.recursion_from_All, Bool.Decides.nat_tests}
@@ -11,7 +11,7 @@ use Rattle.posting_rules.specs.believed.Changes.{row_changed, row_put, reference
 use Rattle.posting_rules.specs.believed.Changes.{with_decided, with_request, with_reference, with_history}
 use Rattle.posting_rules.specs.believed.Changes.{with_branch_balance, with_teller_balance, with_account_balance}
 use Rattle.posting_rules.specs.believed.Changes.{new_teller, new_account}
-use Rattle.posting_rules.specs.believed.Commands.{Command, Open, Terms, opened}
+use Rattle.posting_rules.specs.believed.Commands.{Command, Open, Close, Terms, opened}
 use Rattle.posting_rules.specs.believed.Entries.{DecidedRequest, decided}
 use Rattle.posting_rules.specs.believed.Tables.{Tables, AreTablesOf, row_at, branch_key, teller_key, account_key}
 use Rattle.posting_rules.specs.believed.Tables.{history_key, request_key, branch_row_of, history_row_of}
@@ -20,10 +20,16 @@ use Rattle.posting_rules.specs.believed.Tables.{reference_row_of}
 use Rattle.posting_rules.specs.ChangesByKey as steps
 use Rattle.posting_rules.specs.believed.Numbering.{branch_of_teller, first_teller, first_account}
 use Rattle.posting_batch.specs.Judging.{reference_after}
-use Rattle.posting_core.specs.Appended.{HasOrdinalsTo, appended_opened, floor_after}
+use Rattle.posting_core.specs.Appended.{HasOrdinalsTo, appended_opened, appended_run, floor_after}
 use Rattle.posting_rules.proofs.{Looked.terms_shown, TablesWithBranch.opening_shown}
 use Rattle.posting_rules.proofs.Ready.{ready_shown, no_teller, no_account}
 use Rattle.posting_core.proofs.RowsAfter.{row_after, rows_after}
+use Rattle.posting_rules.specs.declared.closed_numbers.Closing.TheVariants as answer
+use Rattle.posting_rules.specs.believed.Closings.{are_free, closings, run_of}
+use Rattle.posting_rules.specs.Closings.{closing_for}
+use Rattle.posting_rules.specs.believed.Tables.{closing_key}
+use Rattle.posting_rules.proofs.{ClosedTables.run_gained, ClosedTables.run_refused}
+use Rattle.posting_rules.proofs.Closings.{closing_keys, free_shown, last_free}
 
 -- ---- rows of requests
 
@@ -75,6 +81,7 @@ pub posted_is : (t : Tables) (e : DecidedRequest) (te b : ℤ)
       requests = t.requests ++ request_row_of (t.decided + 1) e ∷ [];
       floors = t.floors;
       references = reference_after (t.decided + 1) e.request.reference t.references;
+      closings = t.closings;
     } in u) ≡ tables_posted t (t.decided + 1) e te b
 unfolding with_decided with_request with_reference with_history
     with_branch_balance with_teller_balance with_account_balance
@@ -92,6 +99,41 @@ floor_adds : (b : ℕ) (floor : Option ℤ) (rows : List FloorRow) → HasKeys f
     → row_at floor_key rows b ≡ None → AddsFloor b floor rows (floor_after b floor rows)
 floor_adds b None rows keys free = refl
 floor_adds b (Some lowest) rows keys free = row_after floor_key rows (floor_row_of b lowest) keys free
+
+-- numbers that were free are closed after the others
+pub closed_shown : (t : Tables) (log : List Command) (first last : ℕ)
+    → closing_for t.closings first last ≡ answer.Closed → AreTablesOf t log
+    → AreTablesOf (appended_run t (run_of first last)) (Close first last ∷ log)
+closed_shown t log first last is shows =
+    let s = shows.rows in
+    let free : are_free (closings log) first last ≡ true =
+    sym (free_shown t.closings (closings log) s.closing_keys (closing_keys log) s.closings first last)
+    ∙ free_where (are_free t.closings first last) _ is in
+    run_gained t _ log first last free shows
+    (row_after closing_key t.closings (run_of first last) s.closing_keys
+    (s.closings last ∙ last_free log first last free))
+  where
+    free_where : (b c : Bool) → cond b answer.Closed (cond c answer.Already answer.Overlaps) ≡ answer.Closed
+        → b ≡ true
+    free_where true c e = refl
+    free_where false true e = absurd cc
+    free_where false false e = absurd cc
+
+-- where they weren't, nothing changes
+pub unclosed_shown : (t : Tables) (log : List Command) (first last : ℕ)
+    → (closing_for t.closings first last ≡ answer.Closed → ⊥) → AreTablesOf t log
+    → AreTablesOf t (Close first last ∷ log)
+unclosed_shown t log first last other shows =
+    let s = shows.rows in
+    let free : are_free (closings log) first last ≡ false =
+    sym (free_shown t.closings (closings log) s.closing_keys (closing_keys log) s.closings first last)
+    ∙ not_free (are_free t.closings first last) _ other in
+    run_refused t log first last free shows
+  where
+    not_free : (b c : Bool) → (cond b answer.Closed (cond c answer.Already answer.Overlaps) ≡ answer.Closed → ⊥)
+        → b ≡ false
+    not_free true c h = absurd (h refl)
+    not_free false c h = refl
 
 -- the tables with a branch that wasn't open show the log with its opening
 pub opened_shown : (t : Tables) (log : List Command) (b : ℕ) (terms : Terms)
@@ -114,5 +156,6 @@ opened_shown t log b terms closed hb hc s =
       history = refl;
       requests = refl;
       references = refl;
+      closings = refl;
       floors = floor_adds b terms.floor t.floors ready.floors (ready.its_floors b closed);
     })

@@ -16,7 +16,7 @@ use Rattle.message_records.proofs.{Digits.length-digits, Digits.number_of-digits
 use Rattle.message_records.proofs.SpelledReplies.{code_below, outcome_with-code}
 use Rattle.posting_rules.specs.declared.limits.TheConstants.{MAX_DECIDED}
 use Rattle.posting_rules.specs.Stated.{AddsEntry, IsDecided, Names}
-use Rattle.posting_rules.specs.believed.{Cases.kept_reply, Commands.Command, Commands.Open, Commands.Post}
+use Rattle.posting_rules.specs.believed.{Cases.kept_reply, Commands.Command, Commands.Open, Commands.Post, Commands.Close}
 use Rattle.posting_rules.specs.believed.{Commands.Terms, Commands.is_teller_open, Commands.opened, Entries.decided}
 use Rattle.posting_rules.specs.believed.{Entries.DecidedRequest, Entries.is_posted, Entries.kept, Entries.kept_fields}
 use Rattle.posting_rules.specs.believed.{Entries.reply, Kept.KeptFields, Runs.followed_by, Runs.replies_to}
@@ -25,6 +25,7 @@ use Rattle.posting_core.specs.Entries.{ArePostsOf, IsEntry, IsMomentOf, is_kept,
 use Rattle.posting_core.specs.Entries.{reply_text, request_in, requests_of}
 use Rattle.posting_core.specs.believed.LogEntries.{AnsweredRequest, answered_after, answered_of, each_answered, entries_of}
 use Rattle.posting_core.specs.believed.LogEntries.{entry_of, log_entries}
+use Rattle.posting_rules.specs.believed.Closings.{closed, sealed}
 
 -- ---- the outcome in a reply's bytes
 
@@ -136,15 +137,31 @@ module _ (log : List Command) (m : ℕ) (bytes : List ℕ) (a : AnsweredRequest)
       cc)
 
   module _ (none : kept (decided log) a.request.teller a.request.number ≡ None) where
+    unclosed : closed log a.request.teller a.request.number ≡ false
+    unclosed = elim (cases_Bool (closed log a.request.teller a.request.number)) [
+      | inl c ↦ absurd (never (reply log bytes) a.reply outcome.Closed replies
+          (ap (λ (y : ReplyFields). y.outcome) ((replied log bytes).closed_number a.request names none c)) is.kept refl)
+      | inr c ↦ c
+    ]
+
+    unsealed : sealed log ≡ false
+    unsealed = elim (cases_Bool (sealed log)) [
+      | inl s ↦ absurd (never (reply log bytes) a.reply outcome.Sealed replies
+          (ap (λ (y : ReplyFields). y.outcome) ((replied log bytes).sealed_books a.request names none unclosed s)) is.kept
+          refl)
+      | inr s ↦ s
+    ]
+
     room : length (decided log) < MAX_DECIDED
     room = elim (leb_tells MAX_DECIDED (length (decided log))) [
       | inl full ↦ absurd (never (reply log bytes) a.reply outcome.Full replies
-          (ap (λ (y : ReplyFields). y.outcome) ((replied log bytes).full a.request names none full.1)) is.kept refl)
+          (ap (λ (y : ReplyFields). y.outcome) ((replied log bytes).full a.request names none unclosed unsealed full.1)) is.kept
+          refl)
       | inr less ↦ less.1
     ]
 
     new_is : IsDecided log bytes a.request
-    new_is = record { names = names; new = none; room = room }
+    new_is = record { names = names; new = none; unclosed = unclosed; unsealed = unsealed; room = room }
 
     added : (e : DecidedRequest) × AddsEntry log m bytes a.request e
     added = (decides log m bytes).where_decided a.request new_is
@@ -194,6 +211,7 @@ log_grows planned [] log entries are posts replies =
     ∙ ap (λ (l : List AnsweredRequest). log_entries log ++ entries_of (new_after (requests_of log) l)) (sym posts)
 log_grows planned (Open branch terms ∷ cs) log entries are posts replies =
     log_grows planned cs (Open branch terms ∷ log) entries are posts.1 replies
+log_grows planned (Close first last ∷ cs) log entries are posts replies = absurd posts
 log_grows planned (Post m bytes ∷ cs) log [] are posts replies = absurd posts
 log_grows planned (Post m bytes ∷ cs) log (a ∷ more) are posts replies =
     let first : reply_spelling (reply log bytes) ≡ reply_text a = head_same _ _ _ _ replies in

@@ -17,6 +17,8 @@ use Rattle.posting_rules.specs.believed.Entries.{with_verdict, with_record, deci
 use Rattle.posting_rules.specs.believed.Runs.{followed_by, posts, replies_to}
 use Rattle.posting_core.specs.believed.Batches.{Batch, posts_in, posts_of, records_of}
 use Rattle.posting_rules.proofs.Sequence.{replies_to-append}
+use Rattle.posting_rules.specs.declared.rows.ClosingRow.{ClosingRow}
+use Rattle.posting_rules.specs.believed.Closings.{books_of, closings}
 
 -- ---- entries without their moments
 
@@ -47,9 +49,9 @@ length_zeroed [] = refl
 length_zeroed (e ∷ es) = ap suc (length_zeroed es)
 
 -- what is known of them is the same
-facts_zeroed : (opened : ℕ → Option Terms) (es : List DecidedRequest) (r : RequestFields)
-    → facts opened (zeroed es) r ≡ facts opened es r
-facts_zeroed opened es r =
+facts_zeroed : (opened : ℕ → Option Terms) (runs : List ClosingRow) (es : List DecidedRequest) (r : RequestFields)
+    → facts opened runs (zeroed es) r ≡ facts opened runs es r
+facts_zeroed opened runs es r =
     made _ _ _ _ _ _ _ _ _ _ (sum_zeroed (λ x. eqb x.teller r.teller) es)
     (sum_zeroed (λ x. eqb x.branch (branch_of_teller r.teller)) es)
     (kept_zeroed es r.teller r.number) (length_zeroed es) (sum_zeroed (λ x. eqb x.account r.account) es)
@@ -58,6 +60,7 @@ facts_zeroed opened es r =
     found t b k n a = record {
       teller = cond (is_teller_open opened r.teller) (Some (t, b)) None;
       kept = k;
+      books = books_of runs r.teller r.number;
       decided = n;
       account = cond (is_account_open opened r.account) (Some a) None;
       floor = floor_of opened (branch_of_account r.account);
@@ -69,44 +72,44 @@ facts_zeroed opened es r =
     made t t' b b' k k' n n' a a' et eb ek en ea = rw (et, eb, ek, en, ea) refl
 
 -- and so is the reply
-pub reply_zeroed : (opened : ℕ → Option Terms) (es : List DecidedRequest) (read : Result RequestFields Bad)
-    → reply_given read opened (zeroed es) ≡ reply_given read opened es
-reply_zeroed opened es (Ok r) = rw (facts_zeroed opened es r) refl
-reply_zeroed opened es (Err e) = refl
+pub reply_zeroed : (opened : ℕ → Option Terms) (runs : List ClosingRow) (es : List DecidedRequest) (read : Result RequestFields Bad)
+    → reply_given read opened runs (zeroed es) ≡ reply_given read opened runs es
+reply_zeroed opened runs es (Ok r) = rw (facts_zeroed opened runs es r) refl
+reply_zeroed opened runs es (Err e) = refl
 
 verdict_zeroed : (m : ℕ) (r : RequestFields) (v : Verdict) (es : List DecidedRequest)
     → zeroed (with_verdict m r v es) ≡ with_verdict 0 r v (zeroed es)
 verdict_zeroed m r (Unkept o) es = refl
 verdict_zeroed m r other es = refl
 
-pub record_zeroed : (m : ℕ) (opened : ℕ → Option Terms) (es : List DecidedRequest)
+pub record_zeroed : (m : ℕ) (opened : ℕ → Option Terms) (runs : List ClosingRow) (es : List DecidedRequest)
     (read : Result RequestFields Bad)
-    → zeroed (with_record m read opened es) ≡ with_record 0 read opened (zeroed es)
-record_zeroed m opened es (Ok r) =
-    verdict_zeroed m r (case_of (facts opened es r) r) es ∙ ap
-    (λ (f : Found). with_verdict 0 r (case_of f r) (zeroed es)) (sym (facts_zeroed opened es r))
-record_zeroed m opened es (Err e) = refl
+    → zeroed (with_record m read opened runs es) ≡ with_record 0 read opened runs (zeroed es)
+record_zeroed m opened runs es (Ok r) =
+    verdict_zeroed m r (case_of (facts opened runs es r) r) es ∙ ap
+    (λ (f : Found). with_verdict 0 r (case_of f r) (zeroed es)) (sym (facts_zeroed opened runs es r))
+record_zeroed m opened runs es (Err e) = refl
 
 -- ---- records from what is open and decided
 
 -- their replies, and what is decided after them
-replies_from : (ℕ → Option Terms) → List DecidedRequest → List (List ℕ) → List (List ℕ)
-replies_from opened es [] = []
-replies_from opened es (r ∷ rs) = reply_spelling (reply_given (request_of r) opened es) ∷ replies_from opened
-    (with_record 0 (request_of r) opened es) rs
+replies_from : (ℕ → Option Terms) → List ClosingRow → List DecidedRequest → List (List ℕ) → List (List ℕ)
+replies_from opened runs es [] = []
+replies_from opened runs es (r ∷ rs) = reply_spelling (reply_given (request_of r) opened runs es) ∷ replies_from opened runs
+    (with_record 0 (request_of r) opened runs es) rs
 
-entries_after : (ℕ → Option Terms) → List DecidedRequest → List (List ℕ) → List DecidedRequest
-entries_after opened es [] = es
-entries_after opened es (r ∷ rs) = entries_after opened (with_record 0 (request_of r) opened es) rs
+entries_after : (ℕ → Option Terms) → List ClosingRow → List DecidedRequest → List (List ℕ) → List DecidedRequest
+entries_after opened runs es [] = es
+entries_after opened runs es (r ∷ rs) = entries_after opened runs (with_record 0 (request_of r) opened runs es) rs
 
-replies_from-append : (opened : ℕ → Option Terms) (es : List DecidedRequest) (rs ss : List (List ℕ))
-    → replies_from opened es (rs ++ ss) ≡ replies_from opened es rs ++ replies_from opened
-    (entries_after opened es rs) ss
+replies_from-append : (opened : ℕ → Option Terms) (runs : List ClosingRow) (es : List DecidedRequest) (rs ss : List (List ℕ))
+    → replies_from opened runs es (rs ++ ss) ≡ replies_from opened runs es rs ++ replies_from opened runs
+    (entries_after opened runs es rs) ss
 unfolding replies_from entries_after
-replies_from-append opened es [] ss = refl
-replies_from-append opened es (r ∷ rs) ss =
-    ap (λ (t : List (List ℕ)). reply_spelling (reply_given (request_of r) opened es) ∷ t)
-    (replies_from-append opened (with_record 0 (request_of r) opened es) rs ss)
+replies_from-append opened runs es [] ss = refl
+replies_from-append opened runs es (r ∷ rs) ss =
+    ap (λ (t : List (List ℕ)). reply_spelling (reply_given (request_of r) opened runs es) ∷ t)
+    (replies_from-append opened runs (with_record 0 (request_of r) opened runs es) rs ss)
 
 -- what is open after a log, and what is decided there but for the moments
 abbrev open_after : List Command → ℕ → Option Terms
@@ -116,50 +119,56 @@ abbrev entries_of : List Command → List DecidedRequest
 entries_of log = zeroed (decided log)
 
 posts_replied : (log : List Command) (m : ℕ) (rs : List (List ℕ))
-    → replies_to log (posts m rs) ≡ replies_from (λ b. open_after log b) (entries_of log) rs
+    → replies_to log (posts m rs) ≡ replies_from (λ b. open_after log b) (closings log) (entries_of log) rs
 unfolding replies_from
 posts_replied log m [] = refl
 posts_replied log m (r ∷ rs) =
-    let after = with_record 0 (request_of r) (λ b. opened log b) (zeroed (decided log)) in
+    let after = with_record 0 (request_of r) (λ b. opened log b) (closings log) (zeroed (decided log)) in
     ap (λ (t : List (List ℕ)). reply_spelling (reply log r) ∷ t)
     (posts_replied (Post m r ∷ log) m rs
-    ∙ ap (λ (es : List DecidedRequest). replies_from (λ b. opened log b) es rs)
-    (record_zeroed m (λ b. opened log b) (decided log) (request_of r)))
-    ∙ ap (λ (out : ReplyFields). reply_spelling out ∷ replies_from (λ b. opened log b) after rs)
-    (sym (reply_zeroed (λ b. opened log b) (decided log) (request_of r)))
+    ∙ ap (λ (es : List DecidedRequest). replies_from (λ b. opened log b) (closings log) es rs)
+    (record_zeroed m (λ b. opened log b) (closings log) (decided log) (request_of r)))
+    ∙ ap (λ (out : ReplyFields). reply_spelling out ∷ replies_from (λ b. opened log b) (closings log) after rs)
+    (sym (reply_zeroed (λ b. opened log b) (closings log) (decided log) (request_of r)))
 
 posts_decided : (log : List Command) (m : ℕ) (rs : List (List ℕ))
-    → entries_of (followed_by log (posts m rs)) ≡ entries_after (λ b. open_after log b) (entries_of log) rs
+    → entries_of (followed_by log (posts m rs)) ≡ entries_after (λ b. open_after log b) (closings log) (entries_of log) rs
 unfolding entries_after
 posts_decided log m [] = refl
 posts_decided log m (r ∷ rs) =
     posts_decided (Post m r ∷ log) m rs
-    ∙ ap (λ (es : List DecidedRequest). entries_after (λ b. opened log b) es rs)
-    (record_zeroed m (λ b. opened log b) (decided log) (request_of r))
+    ∙ ap (λ (es : List DecidedRequest). entries_after (λ b. opened log b) (closings log) es rs)
+    (record_zeroed m (λ b. opened log b) (closings log) (decided log) (request_of r))
 
 posts_opened : (log : List Command) (m : ℕ) (rs : List (List ℕ)) → ◌≡◌ {A = ℕ → Option Terms}
     (λ b. opened (followed_by log (posts m rs)) b) (λ b. opened log b)
 posts_opened log m [] = refl
 posts_opened log m (r ∷ rs) = posts_opened (Post m r ∷ log) m rs
 
+posts_closed : (log : List Command) (m : ℕ) (rs : List (List ℕ)) → closings (followed_by log (posts m rs)) ≡ closings log
+posts_closed log m [] = refl
+posts_closed log m (r ∷ rs) = posts_closed (Post m r ∷ log) m rs
+
 -- ---- batches
 
 batches_replied : (log : List Command) (bs : List Batch)
-    → replies_to log (posts_of bs) ≡ replies_from (λ b. open_after log b) (entries_of log) (records_of bs)
+    → replies_to log (posts_of bs) ≡ replies_from (λ b. open_after log b) (closings log) (entries_of log) (records_of bs)
 unfolding replies_from
 batches_replied log [] = refl
 batches_replied log (b ∷ bs) =
     let now = followed_by log (posts_in b) in
-    let first = replies_from (λ x. opened log x) (zeroed (decided log)) b.records in
+    let first = replies_from (λ x. opened log x) (closings log) (zeroed (decided log)) b.records in
     replies_to-append log (posts_in b) (posts_of bs)
     ∙ ap (λ (t : List (List ℕ)). t ++ replies_to now (posts_of bs)) (posts_replied log b.moment b.records)
     ∙ ap (λ (t : List (List ℕ)). first ++ t)
     (batches_replied now bs
-    ∙ ap (λ (o : ℕ → Option Terms). replies_from o (zeroed (decided now)) (records_of bs))
+    ∙ ap (λ (o : ℕ → Option Terms). replies_from o (closings now) (zeroed (decided now)) (records_of bs))
     (posts_opened log b.moment b.records)
-    ∙ ap (λ (es : List DecidedRequest). replies_from (λ x. opened log x) es (records_of bs))
+    ∙ ap (λ (runs : List ClosingRow). replies_from (λ x. opened log x) runs (zeroed (decided now)) (records_of bs))
+    (posts_closed log b.moment b.records)
+    ∙ ap (λ (es : List DecidedRequest). replies_from (λ x. opened log x) (closings log) es (records_of bs))
     (posts_decided log b.moment b.records))
-    ∙ sym (replies_from-append (λ x. opened log x) (zeroed (decided log)) b.records (records_of bs))
+    ∙ sym (replies_from-append (λ x. opened log x) (closings log) (zeroed (decided log)) b.records (records_of bs))
 
 -- their replies are those to all their records at whatever moment
 pub timeless : (log : List Command) (bs : List Batch) (m : ℕ)

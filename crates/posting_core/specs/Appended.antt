@@ -8,6 +8,7 @@ use Rattle.posting_rules.specs.believed.Commands.{Terms}
 use Rattle.posting_rules.specs.believed.Tables.{Tables, branch_row_of, floor_row_of}
 use Rattle.posting_rules.specs.believed.Numbering.{first_teller, first_account}
 use Rattle.posting_rules.specs.believed.Changes.{new_teller, new_account}
+use Rattle.posting_rules.specs.declared.rows.ClosingRow.{ClosingRow}
 
 -- a row for each of so many numbers from the first one on
 abbrev pub rows_from : {R : Type 0} → (ℕ → R) → ℕ → ℕ → List R
@@ -40,4 +41,10 @@ appended_opened t b terms = record {
   requests = t.requests;
   floors = floor_after b terms.floor t.floors;
   references = t.references;
+  closings = t.closings;
 }
+
+-- ---- what a closing does to them
+
+abbrev pub appended_run : Tables → ClosingRow → Tables
+appended_run t run = record t { closings = t.closings ++ run ∷ [] }

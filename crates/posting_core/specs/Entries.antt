@@ -11,7 +11,7 @@ use Rattle.message_records.specs.declared.limits.TheConstants.{MAX_MOMENT}
 use Rattle.message_records.specs.declared.records.Outcome.{Outcome}
 use Rattle.message_records.specs.declared.records.Outcome.TheVariants.{BelowFloor, NoAccount, OverLimit, Posted}
 use Rattle.message_records.specs.declared.records.Outcome.TheVariants.{WrongBranch}
-use Rattle.posting_rules.specs.believed.Commands.{Command, Open, Post, Terms}
+use Rattle.posting_rules.specs.believed.Commands.{Command, Open, Post, Close, Terms}
 use Rattle.posting_rules.specs.believed.Runs.{followed_by, replies_to}
 use Rattle.posting_core.specs.believed.LogEntries.{AnsweredRequest, answered_after, entries_of, entry_of, log_entries}
 use Rattle.posting_core.specs.declared.entries.Entry.{Entry}
@@ -80,6 +80,7 @@ IsMomentOf a moment = has_balance a.reply.outcome ≡ true → moment ≡ a.mome
 abbrev pub ArePostsOf : (ℕ → Option Terms) → List AnsweredRequest → List Command → Type 0
 ArePostsOf planned entries [] = entries ≡ []
 ArePostsOf planned entries (Open branch terms ∷ cs) = (planned branch ≡ Some terms) × ArePostsOf planned entries cs
+ArePostsOf planned entries (Close first last ∷ cs) = ⊥
 ArePostsOf planned [] (Post moment bytes ∷ cs) = ⊥
 ArePostsOf planned (a ∷ more) (Post moment bytes ∷ cs) =
     (bytes ≡ record_text a) × IsMomentOf a moment × ArePostsOf planned more cs

@@ -17,6 +17,7 @@ plain_tables bank = record {
   requests = bank.requests.items;
   floors = bank.floors.items;
   references = bank.references.items;
+  closings = bank.closings.items;
 }
 
 -- it is never down, and what a crash leaves are its rows

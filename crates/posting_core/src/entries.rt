@@ -88,6 +88,8 @@ fn is_kept(outcome: Outcome) -> bool
         Outcome::OverLimit => true,
         Outcome::NoTeller => false,
         Outcome::ReusedNumber => false,
+        Outcome::Closed => false,
+        Outcome::Sealed => false,
         Outcome::Full => false,
         Outcome::Malformed => false,
     }

@@ -53,13 +53,14 @@ pub use posting_batch::{
     AccountSlot, Batch, BranchSlot, FloorSlot, Judged, Overlay, RequestSlot, TellerSlot,
 };
 pub use posting_rules::{
-    ACCOUNTS_PER_BRANCH, AccountRow, BankTable, BranchLine, BranchRow, Counter, Decision, Fault,
-    FloorRow, Found, HistoryRow, Kept, LAST_BRANCH, MAX_ACCOUNTS, MAX_DECIDED, OpenFault, Opening,
-    Ordinal, RECORDS_PER_BATCH, ReferenceRow, RequestRow, Rule, TELLERS_PER_BRANCH, TellerRow,
-    Verdict, accounts_stay_above, balances_stay_within, branch_of_account, branch_of_teller,
-    cases_are_as_stated, each_request_once, equal_tables_answer_alike, first_account, first_teller,
-    judge, malformed_reply, place_of_account, reply_to, resends_get_their_replies,
-    tables_are_consistent, tables_are_undamaged,
+    ACCOUNTS_PER_BRANCH, AccountRow, BankTable, Books, BranchLine, BranchRow, Closing, ClosingRow,
+    Counter, Decision, Fault, FloorRow, Found, HistoryRow, Kept, LAST_BRANCH, MAX_ACCOUNTS,
+    MAX_DECIDED, OpenFault, Opening, Ordinal, RECORDS_PER_BATCH, ReferenceRow, RequestRow, Rule,
+    TELLERS_PER_BRANCH, TellerRow, Verdict, accounts_stay_above, balances_stay_within,
+    branch_of_account, branch_of_teller, cases_are_as_stated, each_request_once,
+    equal_tables_answer_alike, first_account, first_teller, judge, malformed_reply,
+    place_of_account, reply_to, resends_get_their_replies, sealed_law, tables_are_consistent,
+    tables_are_undamaged, two_years_law,
 };
 pub use resends::calls_resend_law;
 pub use stream::{Count, StreamFault, post_stream};

@@ -15,15 +15,15 @@ mod followed;
 use crate::branches::{count_at, floor_at, next_at, put_floor};
 use crate::walking::{NewRow, kept_at, put, put_reference};
 use message_records::{
-    Account, Branch, Cents, MAX_ACCOUNT, MAX_MOMENT, MAX_TELLER, Moment, Outcome, REPLY_BYTES,
-    REQUEST_BYTES, Request, Teller, decode_request, encode_reply,
+    Account, Branch, Cents, MAX_ACCOUNT, MAX_MOMENT, MAX_TELLER, Moment, Number, Outcome,
+    REPLY_BYTES, REQUEST_BYTES, Request, Teller, decode_request, encode_reply,
 };
 use posting_batch::{balance_at, change_at};
 use posting_rules::{
-    AccountRow, BranchLine, BranchRow, Counter, Fault, FloorRow, Found, HistoryRow, LAST_BRANCH,
-    MAX_ACCOUNTS, Opening, Ordinal, ReferenceRow, RequestRow, TELLERS_PER_BRANCH, TellerRow,
-    Verdict, branch_of_account, branch_of_teller, first_account, first_teller, judge,
-    malformed_reply, reply_to,
+    AccountRow, BranchLine, BranchRow, Closing, ClosingRow, Counter, Fault, FloorRow, Found,
+    HistoryRow, LAST_BRANCH, MAX_ACCOUNTS, Opening, Ordinal, ReferenceRow, RequestRow,
+    TELLERS_PER_BRANCH, TellerRow, Verdict, books_of, branch_of_account, branch_of_teller,
+    closing_for, first_account, first_teller, judge, malformed_reply, reply_to,
 };
 use std::alloc::Global;
 
@@ -132,6 +132,7 @@ pub struct PlainBank {
     requests: Vec<RequestRow>,
     floors: Vec<FloorRow>,
     references: Vec<ReferenceRow>,
+    closings: Vec<ClosingRow>,
     ghost few: { length requests.items ≤ MAX_DECIDED },
     ghost in_range: { All IsInRange branches.items },
     ghost at_most_zero: { All IsAtMostZero floors.items },
@@ -150,6 +151,7 @@ impl Drop for PlainBank {
             requests: _,
             floors: _,
             references: _,
+            closings: _,
         } = self;
     }
 }
@@ -180,6 +182,7 @@ impl PlainBank {
             requests: Vec::new(alloc),
             floors: Vec::new(alloc),
             references: Vec::new(alloc),
+            closings: Vec::new(alloc),
         }
     }
 
@@ -198,6 +201,7 @@ impl PlainBank {
                 request.teller(),
                 request.number(),
             ),
+            books: books_of(&self.closings, request.teller(), request.number()),
             decided: self.requests.len() as u64,
             account: balance_at(&self.accounts, request.account().get()),
             floor: floor_at(&self.floors, branch_of_account(request.account())),
@@ -368,6 +372,67 @@ impl PlainBank {
             balance: row.balance,
             floor: floor_at(&self.floors, row.branch.get()),
         }
+    }
+}
+
+// Numbers are closed: where they are free, a run is added, and otherwise nothing changes.
+impl PlainBank {
+    ghost use Rattle.posting_rules.specs.Closings.{closing_after};
+    ghost use Rattle.posting_rules.specs.believed.Commands.{Close, IsCommand, number_key};
+    ghost use Rattle.posting_rules.specs.believed.Counter.{Answers, IsCounterCall};
+    ghost use Rattle.posting_core.specs.Appended.{appended_run};
+    ghost use Rattle.posting_core.specs.Plain.{plain_reason, plain_seen, plain_tables};
+
+    /// Closes the numbers of a teller from the first to the last: closed books decided them, so that a request under
+    /// one of them is refused from now on, unless it is kept here. It closes them all or none.
+    pub fn close_numbers(
+        &mut self,
+        teller: Teller,
+        first: Number,
+        last: Number,
+    ) -> Result<Closing, Fault>
+        requires { first ≤ last }
+        ensures answer { Answers (plain_seen self.old) (plain_seen self.new) result
+            (λ log closing. closing ≡ closing_after log (number_key teller first) (number_key teller last)) }
+        ensures call { IsCounterCall plain_seen plain_tables plain_reason self.old self.new
+            (Close (number_key teller first) (number_key teller last) ∷ []) result }
+    {
+        self.close(ClosingRow::of_numbers(teller, first, last))
+    }
+
+    /// Seals the bank: from now on it decides nothing more, and what it keeps gets its first reply. It answers `Closed`, or
+    /// `Already` where it was sealed.
+    pub fn seal(&mut self) -> Result<Closing, Fault>
+        ensures answer { Answers (plain_seen self.old) (plain_seen self.new) result
+            (λ log closing. closing ≡ closing_after log 0 0) }
+        ensures call { IsCounterCall plain_seen plain_tables plain_reason self.old self.new (Close 0 0 ∷ []) result }
+    {
+        self.close(ClosingRow { last: 0, first: 0 })
+    }
+
+    // Closes the numbers of a run.
+    fn close(&mut self, run: ClosingRow) -> Result<Closing, Fault>
+        requires { IsCommand (Close run.first run.last) }
+        ensures answer { Answers (plain_seen self.old) (plain_seen self.new) result
+            (λ log closing. closing ≡ closing_after log run.first run.last) }
+        ensures call { IsCounterCall plain_seen plain_tables plain_reason self.old self.new
+            (Close run.first run.last ∷ []) result }
+    {
+        let closing = closing_for(&self.closings, run.first, run.last);
+        let Closing::Closed = closing else {
+            return Ok(closing);
+        };
+        self.closings.reserve(1)?;
+        self.add_run(run);
+        Ok(Closing::Closed)
+    }
+
+    // Adds the numbers of a run, for which there is room.
+    fn add_run(&mut self, run: ClosingRow)
+        requires room { vec_len self.old.closings < vec_capacity self.old.closings }
+        ensures tables { plain_tables self.new ≡ appended_run (plain_tables self.old) run }
+    {
+        put(&mut self.closings, run);
     }
 }
 

@@ -8,13 +8,15 @@ use Rattle.message_records.specs.declared.fault.Bad.{Bad}
 use Rattle.message_records.specs.believed.{Outcomes.has_balance, Records.RequestFields, Reading.request_of}
 use Rattle.posting_rules.specs.{declared.judgments.Verdict.Verdict, believed.Cases.case_of}
 use Rattle.posting_rules.specs.declared.judgments.Verdict.TheVariants.{Unkept, Again, Refused, Posted}
-use Rattle.posting_rules.specs.believed.Commands.{Command, Open, Post, AreCommands, IsFloor, Terms, opened, floor_of}
+use Rattle.posting_rules.specs.believed.Commands.{Command, Open, Post, Close, AreCommands, IsFloor, Terms, opened, floor_of}
 use Rattle.posting_rules.specs.believed.Commands.{is_account_open, is_within}
 use Rattle.posting_rules.specs.believed.Numbering.{branch_of_account, place_of_account}
 use Rattle.posting_rules.specs.believed.Entries.{DecidedRequest, facts, with_verdict, with_record, decided}
 use Rattle.posting_rules.specs.believed.Entries.{account_balance}
 use Rattle.posting_rules.proofs.NamedOpen.{AllNameOpen, with_branch, all_name_open}
 use Rattle.posting_rules.proofs.{NoBalance.account_none, Verdicts.IsVerdict, Verdicts.verdict_is}
+use Rattle.posting_rules.specs.declared.rows.ClosingRow.{ClosingRow}
+use Rattle.posting_rules.specs.believed.Closings.{closings}
 
 abbrev AllAbove : (ℕ → Option Terms) → List DecidedRequest → Type 0
 AllAbove opened es =
@@ -44,11 +46,11 @@ above_verdict opened es m r (Posted x t b) h all = λ a.
     (subst (λ (z : ℤ). IfSome (floor_of opened (branch_of_account r.account)) (λ l. l ≤ℤ z))
     h.account_is.sum h.above))
 
-above_record : (opened : ℕ → Option Terms) (es : List DecidedRequest) (m : ℕ) (read : Result RequestFields Bad)
-    → AllAbove opened es → AllAbove opened (with_record m read opened es)
-above_record opened es m (Ok r) all = above_verdict opened es m r (case_of (facts opened es r) r)
-    (verdict_is opened es r) all
-above_record opened es m (Err fault) all = all
+above_record : (opened : ℕ → Option Terms) (runs : List ClosingRow) (es : List DecidedRequest) (m : ℕ) (read : Result RequestFields Bad)
+    → AllAbove opened es → AllAbove opened (with_record m read opened runs es)
+above_record opened runs es m (Ok r) all = above_verdict opened es m r (case_of (facts opened runs es r) r)
+    (verdict_is opened runs es r) all
+above_record opened runs es m (Err fault) all = all
 
 -- ---- an opening
 
@@ -89,5 +91,6 @@ pub stays_above : (log : List Command) → AreCommands log → (a : ℕ)
 stays_above [] are = λ a. tt
 stays_above (Open b terms ∷ log) are =
     above_opened (λ x. opened log x) (decided log) b terms (all_name_open log) are.0.4 (stays_above log are.1)
+stays_above (Close first last ∷ log) are = stays_above log are.1
 stays_above (Post m bytes ∷ log) are =
-    above_record (λ b. opened log b) (decided log) m (request_of bytes) (stays_above log are.1)
+    above_record (λ b. opened log b) (closings log) (decided log) m (request_of bytes) (stays_above log are.1)

@@ -3,8 +3,10 @@ use Rattle.std.proofs.Common.{◌≡◌, ℕ, List, [], ◌∷◌, Option, Some,
 use Rattle.std.specs.Prelude.{option_map}
 use Rattle.posting_rules.specs.declared.counter.BranchLine.{BranchLine}
 use Rattle.posting_rules.specs.{Branches.IsNextBranch, believed.Changes.tables_past, Changes.tables_with_branch}
+use Rattle.posting_rules.specs.Changes.{tables_closed}
+use Rattle.posting_rules.proofs.ClosedTables.{closing_shown}
 use Rattle.posting_rules.specs.{believed.LookUps.balance_of_branch, believed.Runs.followed_by, Alike.AreAlike}
-use Rattle.posting_rules.specs.believed.Commands.{Command, Open, Post, AreCommands, opened, Terms, opened_with}
+use Rattle.posting_rules.specs.believed.Commands.{Command, Open, Post, Close, AreCommands, opened, Terms, opened_with}
 use Rattle.posting_rules.specs.believed.Counter.{opening_for, opening_after}
 use Rattle.posting_rules.specs.believed.Entries.{balance_after, branch_balance, decided}
 use Rattle.posting_rules.specs.believed.Tables.{Tables, AreTablesOf}
@@ -22,6 +24,9 @@ both_shown t one two [] s u valid = record { tables = t; first = s; second = u }
 both_shown t one two (Post m bytes ∷ cs) s u valid =
     both_shown (tables_past t m bytes) (Post m bytes ∷ one) (Post m bytes ∷ two) cs
     (past_shown t one m bytes s) (past_shown t two m bytes u) valid.1
+both_shown t one two (Close first last ∷ cs) s u valid =
+    both_shown (tables_closed t first last) (Close first last ∷ one) (Close first last ∷ two) cs
+    (closing_shown t one first last s) (closing_shown t two first last u) valid.1
 both_shown t one two (Open b terms ∷ cs) s u valid =
     let is = opens b terms valid.0.0 valid.0.3 in
     both_shown (tables_with_branch t b terms) (Open b terms ∷ one) (Open b terms ∷ two) cs (is t one s)

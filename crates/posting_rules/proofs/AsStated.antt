@@ -17,29 +17,33 @@ use Rattle.posting_rules.specs.believed.Entries.{reply, refused_entry, posted_en
 use Rattle.posting_rules.specs.Stated.{IsDecided, IsPosted, StaysAbove, AddsEntry, DecidesAsStated, RepliesAsStated}
 use Rattle.posting_rules.proofs.Keyed.{by_test}
 use Rattle.posting_rules.proofs.VerdictsStated.{verdict, by_limit, by_floor, below_floor, decided_verdict, full}
-use Rattle.posting_rules.proofs.VerdictsStated.{has_sums, known, new, no_account, no_teller, other_content}
+use Rattle.posting_rules.proofs.VerdictsStated.{has_sums, is_closed, is_sealed, known, new, no_account, no_teller, other_content}
 use Rattle.posting_rules.proofs.VerdictsStated.{over_limit, posted_verdict, same_content, wrong_branch}
+use Rattle.posting_rules.specs.believed.Closings.{closings, closed, sealed}
 
 -- ---- the reply
 
 reply_is : (before : List Command) (bytes : List ℕ) (r : RequestFields) (v : Verdict)
     → request_of bytes ≡ Ok r → verdict before r ≡ v → reply before bytes ≡ reply_in v r
 reply_is before bytes r v read e =
-    ap (λ (x : Result RequestFields Bad). reply_given x (λ b. opened before b) (decided before)) read ∙ ap
+    ap (λ (x : Result RequestFields Bad). reply_given x (λ b. opened before b) (closings before) (decided before)) read ∙ ap
     (λ (w : Verdict). reply_in w r) e
 
 pub replied : (before : List Command) (bytes : List ℕ) → RepliesAsStated before bytes
 replied before bytes = record {
   malformed = λ fault read. ap (λ (x : Result RequestFields Bad). reply_given x (λ b. opened before b)
-      (decided before)) read;
+      (closings before) (decided before)) read;
   no_teller = λ r read closed. reply_is before bytes r (Unkept outcome.NoTeller) read
       (no_teller before r closed);
   again = λ r k names e same. reply_is before bytes r (Again (kept_reply k r)) names.read
       (known before r k names.teller e ∙ rw (same_content k r same) refl);
   reused_number = λ r k names e other. reply_is before bytes r (Unkept outcome.ReusedNumber) names.read
       (known before r k names.teller e ∙ rw (other_content k r other) refl);
-  full = λ r names e many. reply_is before bytes r (Unkept outcome.Full) names.read
-      (new before r names.teller e ∙ full before r many);
+  closed_number = λ r names e c. reply_is before bytes r (Unkept outcome.Closed) names.read (is_closed before r names.teller e c);
+  sealed_books = λ r names e c s. reply_is before bytes r (Unkept outcome.Sealed) names.read
+      (is_sealed before r names.teller e c s);
+  full = λ r names e c s many. reply_is before bytes r (Unkept outcome.Full) names.read
+      (new before r names.teller e c s ∙ full before r many);
   wrong_branch = λ r d ne. reply_is before bytes r (Refused outcome.WrongBranch) d.names.read
       (decided_verdict before r bytes d ∙ wrong_branch before r d.room ne);
   no_account = λ r d its closed. reply_is before bytes r (Refused outcome.NoAccount) d.names.read
@@ -58,7 +62,7 @@ entries_are : (before : List Command) (moment : ℕ) (bytes : List ℕ) (r : Req
     → request_of bytes ≡ Ok r → verdict before r ≡ v
     → decided (Post moment bytes ∷ before) ≡ with_verdict moment r v (decided before)
 entries_are before moment bytes r v read e =
-    ap (λ (x : Result RequestFields Bad). with_record moment x (λ b. opened before b) (decided before)) read
+    ap (λ (x : Result RequestFields Bad). with_record moment x (λ b. opened before b) (closings before) (decided before)) read
     ∙ ap (λ (w : Verdict). with_verdict moment r w (decided before)) e
 
 -- an outcome without a posting shows no balance
@@ -70,6 +74,8 @@ no_balance outcome.NoAccount z e = refl
 no_balance outcome.BelowFloor z e = refl
 no_balance outcome.OverLimit z e = refl
 no_balance outcome.ReusedNumber z e = refl
+no_balance outcome.Closed z e = refl
+no_balance outcome.Sealed z e = refl
 no_balance outcome.Full z e = refl
 no_balance outcome.Malformed z e = refl
 
@@ -170,20 +176,28 @@ adds_none before moment bytes h = by_read (request_of bytes) refl
               (known before r k open_t e ∙ rw f refl)
         ]
     by_kept r None read open_t e =
-        elim (by_test (leb MAX_DECIDED (length (decided before)))) [
-          | inl t ↦ entries_are before moment bytes r (Unkept outcome.Full) read (new before r open_t e
-              ∙ full before r (leb-true _ _ t))
-          | inr f ↦ absurd (h r (record {
-            names = record { read = read; teller = open_t };
-            new = e;
-            room = leb-false _ _ f;
-          }))
+        elim (by_test (closed before r.teller r.number)) [
+          | inl c ↦ entries_are before moment bytes r (Unkept outcome.Closed) read (is_closed before r open_t e c)
+          | inr c ↦ elim (by_test (sealed before)) [
+            | inl s ↦ entries_are before moment bytes r (Unkept outcome.Sealed) read (is_sealed before r open_t e c s)
+            | inr s ↦ elim (by_test (leb MAX_DECIDED (length (decided before)))) [
+              | inl t ↦ entries_are before moment bytes r (Unkept outcome.Full) read (new before r open_t e c s
+                  ∙ full before r (leb-true _ _ t))
+              | inr f ↦ absurd (h r (record {
+                names = record { read = read; teller = open_t };
+                new = e;
+                unclosed = c;
+                unsealed = s;
+                room = leb-false _ _ f;
+              }))
+            ]
+          ]
         ]
 
     by_read : (read : Result RequestFields Bad) → request_of bytes ≡ read
         → decided (Post moment bytes ∷ before) ≡ decided before
     by_read (Err fault) e = ap (λ (x : Result RequestFields Bad). with_record moment x (λ b. opened before b)
-        (decided before)) e
+        (closings before) (decided before)) e
     by_read (Ok r) e =
         elim (by_test (is_teller_open (λ b. opened before b) r.teller)) [
           | inl o ↦ by_kept r (kept (decided before) r.teller r.number) e o refl

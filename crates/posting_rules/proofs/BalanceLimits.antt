@@ -7,10 +7,12 @@ use Rattle.message_records.specs.{declared.limits.TheConstants.MAX_BALANCE, decl
 use Rattle.message_records.specs.{believed.Records.RequestFields, believed.Reading.request_of}
 use Rattle.posting_rules.specs.{declared.judgments.Verdict.Verdict, believed.Cases.case_of, Laws.StaysWithin}
 use Rattle.posting_rules.specs.declared.judgments.Verdict.TheVariants.{Unkept, Again, Refused, Posted}
-use Rattle.posting_rules.specs.believed.Commands.{Command, Open, Post, opened, Terms}
+use Rattle.posting_rules.specs.believed.Commands.{Command, Open, Post, Close, opened, Terms}
 use Rattle.posting_rules.specs.believed.Entries.{DecidedRequest, is_posted, facts, account_balance, teller_balance}
 use Rattle.posting_rules.specs.believed.Entries.{branch_balance, refused_entry, with_verdict, with_record, decided}
 use Rattle.posting_rules.proofs.Verdicts.{IsSum, IsVerdict, verdict_is}
+use Rattle.posting_rules.specs.declared.rows.ClosingRow.{ClosingRow}
+use Rattle.posting_rules.specs.believed.Closings.{closings}
 
 abbrev IsWithin : ℤ → Type 0
 IsWithin z = nat_abs z ≤ MAX_BALANCE
@@ -56,16 +58,17 @@ within_verdict opened es m r (Posted a t b) h all = record {
       ∙ eqb-true _ _ e) (sum_within _ _ b h.branch_is));
 }
 
-within_record : (opened : ℕ → Option Terms) (es : List DecidedRequest) (m : ℕ) (read : Result RequestFields Bad)
-    → AllWithin es → AllWithin (with_record m read opened es)
-within_record opened es m (Ok r) all = within_verdict opened es m r (case_of (facts opened es r) r)
-    (verdict_is opened es r) all
-within_record opened es m (Err fault) all = all
+within_record : (opened : ℕ → Option Terms) (runs : List ClosingRow) (es : List DecidedRequest) (m : ℕ) (read : Result RequestFields Bad)
+    → AllWithin es → AllWithin (with_record m read opened runs es)
+within_record opened runs es m (Ok r) all = within_verdict opened es m r (case_of (facts opened runs es r) r)
+    (verdict_is opened runs es r) all
+within_record opened runs es m (Err fault) all = all
 
 all_within : (log : List Command) → AllWithin (decided log)
 all_within [] = record { accounts = λ a. lit≤ tt; tellers = λ t. lit≤ tt; branches = λ b. lit≤ tt }
 all_within (Open b terms ∷ log) = all_within log
-all_within (Post m bytes ∷ log) = within_record (λ b. opened log b) (decided log) m (request_of bytes)
+all_within (Close first last ∷ log) = all_within log
+all_within (Post m bytes ∷ log) = within_record (λ b. opened log b) (closings log) (decided log) m (request_of bytes)
     (all_within log)
 
 pub stays_within : (log : List Command) → StaysWithin log

@@ -96,6 +96,7 @@ opens_is t b terms ready low most none = record {
   history = refl;
   requests = refl;
   references = refl;
+  closings = refl;
   floors = floor_adds b terms.floor t.floors ready.floors (ready.its_floors b none);
 }
 

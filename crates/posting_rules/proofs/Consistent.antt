@@ -17,6 +17,7 @@ use Rattle.posting_rules.proofs.{Keyed.by_test, NamedOpen.AllNameOpen, NamedOpen
 use Rattle.posting_rules.proofs.Totals.{sum_where, spread, values_are, filter_all, each_under_its_key, all_follow}
 use Rattle.posting_rules.proofs.PostedSums.{posted_at, all_posted, sum_at, one_sum, teller_has, account_has}
 use Rattle.posting_rules.proofs.PostedSums.{branch_has, tellers_have, accounts_have, branches_have}
+use Rattle.posting_rules.specs.declared.rows.ClosingRow.{ClosingRow}
 
 -- ---- history
 
@@ -48,7 +49,7 @@ row_has_delta (d ∷ es) o r e =
       | inr f ↦ rw f (row_has_delta es o r (let h = rw f at e in h))
     ]
 
-history_has : (t : Tables) (opened : ℕ → Option Terms) (es : List DecidedRequest) → HasRows t opened es
+history_has : {runs : List ClosingRow} (t : Tables) (opened : ℕ → Option Terms) (es : List DecidedRequest) → HasRows t opened runs es
     → AllByRecursion (λ r. delta_of r ≡ sum_where (λ k. eqb k (history_key r)) (posted_at es)) t.history
 history_has t opened es s =
     all_follow (λ r. row_at history_key t.history (history_key r) ≡ Some r)

@@ -13,7 +13,7 @@ use Rattle.message_records.specs.declared.limits.TheConstants.{MAX_ACCOUNT, MAX_
 use Rattle.message_records.proofs.{Pieces.step_takes, Pieces.text_step, Requests.plain_is_request}
 use Rattle.posting_rules.specs.{declared.judgments.Verdict.Verdict, believed.Cases.case_of}
 use Rattle.posting_rules.specs.declared.judgments.Verdict.TheVariants.{Unkept, Again, Refused, Posted}
-use Rattle.posting_rules.specs.believed.Commands.{Command, Open, Post, Terms, AreCommands, IsCommand, opened}
+use Rattle.posting_rules.specs.believed.Commands.{Command, Open, Post, Close, Terms, AreCommands, IsCommand, opened}
 use Rattle.posting_rules.specs.believed.Entries.{DecidedRequest, facts, refused_entry, posted_entry, with_verdict}
 use Rattle.posting_rules.specs.believed.Entries.{with_record, decided}
 use Rattle.posting_rules.specs.believed.Tables.{Tables, HasRows, AreTablesOf, row_at, floor_key, floor_row_of}
@@ -22,6 +22,8 @@ use Rattle.posting_rules.specs.Editions.{Edition, before_floors, before_referenc
 use Rattle.posting_rules.specs.Editions.{plain}
 use Rattle.posting_rules.specs.Editions.{opened_in, decided_in, AreTablesIn}
 use Rattle.posting_rules.proofs.Keyed.{by_test}
+use Rattle.posting_rules.specs.declared.rows.ClosingRow.{ClosingRow}
+use Rattle.posting_rules.specs.believed.Closings.{closings, are_free, run_of}
 
 -- what is so of each of the three editions is so of every version
 by_edition : (P : Edition → Type 0) (version : ℕ) → P before_floors → P before_references → P present
@@ -53,8 +55,23 @@ opened_known e [] b = refl
 opened_known e (Open branch terms ∷ log) b =
     ap (λ o. option_or o (cond (eqb branch b) (Some (e.terms terms)) None)) (opened_known e log b)
     ∙ first_known e (opened log b) (eqb branch b) terms
+opened_known e (Close first last ∷ log) b = opened_known e log b
 opened_known e (Post m bytes ∷ log) b =
     opened_with_post (is_ok (e.reads bytes)) m bytes (known e log) b ∙ opened_known e log b
+
+-- every edition knows what is closed
+closings_with_post : (reads : Bool) (m : ℕ) (bytes : List ℕ) (log : List Command)
+    → closings (cond reads (Post m bytes ∷ log) log) ≡ closings log
+closings_with_post true m bytes log = refl
+closings_with_post false m bytes log = refl
+
+closings_known : (e : Edition) (log : List Command) → closings (known e log) ≡ closings log
+closings_known e [] = refl
+closings_known e (Open branch terms ∷ log) = closings_known e log
+closings_known e (Post m bytes ∷ log) =
+    closings_with_post (is_ok (e.reads bytes)) m bytes (known e log) ∙ closings_known e log
+closings_known e (Close first last ∷ log) =
+    ap (λ runs. cond (are_free runs first last) (run_of first last ∷ runs) runs) (closings_known e log)
 
 -- ---- a record
 
@@ -69,27 +86,32 @@ reads_as_now version = by_edition ReadsAsNow version plain_is_request plain_is_r
 with_post : (e : Edition) (log : List Command) (m : ℕ) (bytes : List ℕ) (read : Result RequestFields Bad)
     → ReadsAsNow e → e.reads bytes ≡ read → decided (known e log) ≡ decided_in e log
     → decided (cond (is_ok read) (Post m bytes ∷ known e log) (known e log))
-    ≡ with_record m read (λ b. opened_in e log b) (decided_in e log)
+    ≡ with_record m read (λ b. opened_in e log b) (closings log) (decided_in e log)
 with_post e log m bytes (Err fault) as_now is same = same
 with_post e log m bytes (Ok r) as_now is same =
-    ap (λ x. with_record m x (λ b. opened (known e log) b) (decided (known e log))) (as_now bytes r is)
-    ∙ ap (λ (o : ℕ → Option Terms). with_record m (Ok r) o (decided (known e log)))
+    ap (λ x. with_record m x (λ b. opened (known e log) b) (closings (known e log)) (decided (known e log)))
+    (as_now bytes r is)
+    ∙ ap (λ (o : ℕ → Option Terms). with_record m (Ok r) o (closings (known e log)) (decided (known e log)))
     (fun_ext (opened_known e log))
-    ∙ ap (λ es. with_record m (Ok r) (λ b. opened_in e log b) es) same
+    ∙ ap (λ runs. with_record m (Ok r) (λ b. opened_in e log b) runs (decided (known e log))) (closings_known e log)
+    ∙ ap (λ es. with_record m (Ok r) (λ b. opened_in e log b) (closings log) es) same
 
 decided_known : (e : Edition) → ReadsAsNow e → (log : List Command) → decided (known e log) ≡ decided_in e log
 decided_known e as_now [] = refl
 decided_known e as_now (Open branch terms ∷ log) = decided_known e as_now log
+decided_known e as_now (Close first last ∷ log) = decided_known e as_now log
 decided_known e as_now (Post m bytes ∷ log) =
     with_post e log m bytes (e.reads bytes) as_now refl (decided_known e as_now log)
 
 -- ---- the tables
 
-moved : (t : Tables) (o p : ℕ → Option Terms) (es ds : List DecidedRequest) → ((b : ℕ) → o b ≡ p b) → es ≡ ds
-    → HasRows t o es → HasRows t p ds
-moved t o p es ds opens decides s =
-    subst (λ (x : List DecidedRequest). HasRows t p x) decides
-    (subst (λ (f : ℕ → Option Terms). HasRows t f es) (fun_ext opens) s)
+moved : (t : Tables) (o p : ℕ → Option Terms) (runs others : List ClosingRow) (es ds : List DecidedRequest)
+    → ((b : ℕ) → o b ≡ p b) → runs ≡ others → es ≡ ds
+    → HasRows t o runs es → HasRows t p others ds
+moved t o p runs others es ds opens closes decides s =
+    subst (λ (x : List DecidedRequest). HasRows t p others x) decides
+    (subst (λ (x : List ClosingRow). HasRows t p x es) closes
+    (subst (λ (f : ℕ → Option Terms). HasRows t f runs es) (fun_ext opens) s))
 
 pub carries_over : (version : ℕ) (t : Tables) (log : List Command)
     → AreTablesIn version t log ↔ AreTablesOf t (plain version log)
@@ -97,12 +119,14 @@ carries_over version t log =
     let e = edition version in
     let same = decided_known e (reads_as_now version) log in (
       (λ s. record {
-        rows = moved t (λ b. opened_in e log b) (λ b. opened (plain version log) b) (decided_in e log)
-            (decided (plain version log)) (λ b. sym (opened_known e log b)) (sym same) s.rows;
+        rows = moved t (λ b. opened_in e log b) (λ b. opened (plain version log) b) (closings log)
+            (closings (plain version log)) (decided_in e log) (decided (plain version log))
+            (λ b. sym (opened_known e log b)) (sym (closings_known e log)) (sym same) s.rows;
       }),
       (λ s. record {
         rows = moved t (λ b. opened (plain version log) b) (λ b. opened_in e log b)
-            (decided (plain version log)) (decided_in e log) (opened_known e log) same s.rows;
+            (closings (plain version log)) (closings log) (decided (plain version log)) (decided_in e log)
+            (opened_known e log) (closings_known e log) same s.rows;
       }),
     )
 
@@ -115,10 +139,11 @@ is_present log = (same log, λ b. option_map_id (opened log b))
     same : (log : List Command) → decided_in present log ≡ decided log
     same [] = refl
     same (Open branch terms ∷ log) = same log
+    same (Close first last ∷ log) = same log
     same (Post m bytes ∷ log) =
-        ap (λ (o : ℕ → Option Terms). with_record m (request_of bytes) o (decided_in present log))
+        ap (λ (o : ℕ → Option Terms). with_record m (request_of bytes) o (closings log) (decided_in present log))
         (fun_ext (λ b. option_map_id (opened log b)))
-        ∙ ap (λ es. with_record m (request_of bytes) (λ b. opened log b) es) (same log)
+        ∙ ap (λ es. with_record m (request_of bytes) (λ b. opened log b) (closings log) es) (same log)
 
 -- rows of which none is under a key
 none_at : {R : Type 0} (key : R → ℕ) (rows : List R) → ((k : ℕ) → row_at key rows k ≡ None) → rows ≡ []
@@ -179,24 +204,25 @@ no_row_of_verdict m r (Posted account teller branch) es o none rest =
     no_row es (posted_entry m r account) o none rest
 
 no_row_of_record : (m : ℕ) (read : Result RequestFields Bad) (opened : ℕ → Option Terms)
-    (es : List DecidedRequest)
+    (runs : List ClosingRow) (es : List DecidedRequest)
     (o : ℕ)
     → ((r : RequestFields) → read ≡ Ok r → HasNone r)
-    → reference_row es o ≡ None → reference_row (with_record m read opened es) o ≡ None
-no_row_of_record m (Err fault) opened es o none rest = rest
-no_row_of_record m (Ok r) opened es o none rest =
-    no_row_of_verdict m r (case_of (facts opened es r) r) es o (none r refl) rest
+    → reference_row es o ≡ None → reference_row (with_record m read opened runs es) o ≡ None
+no_row_of_record m (Err fault) opened runs es o none rest = rest
+no_row_of_record m (Ok r) opened runs es o none rest =
+    no_row_of_verdict m r (case_of (facts opened runs es r) r) es o (none r refl) rest
 
 no_reference_row : (e : Edition) → ReadsNone e → (log : List Command) (o : ℕ)
     → reference_row (decided_in e log) o ≡ None
 no_reference_row e none [] o = refl
 no_reference_row e none (Open branch terms ∷ log) o = no_reference_row e none log o
+no_reference_row e none (Close first last ∷ log) o = no_reference_row e none log o
 no_reference_row e none (Post m bytes ∷ log) o =
-    no_row_of_record m (e.reads bytes) (λ b. opened_in e log b) (decided_in e log) o (none bytes)
+    no_row_of_record m (e.reads bytes) (λ b. opened_in e log b) (closings log) (decided_in e log) o (none bytes)
     (no_reference_row e none log o)
 
 no_references_in : (e : Edition) → ReadsNone e → (t : Tables) (log : List Command)
-    → HasRows t (λ b. opened_in e log b) (decided_in e log) → t.references ≡ []
+    → HasRows t (λ b. opened_in e log b) (closings log) (decided_in e log) → t.references ≡ []
 no_references_in e none t log rows =
     none_at reference_key t.references (λ o. rows.references o ∙ no_reference_row e none log o)
 
@@ -226,6 +252,7 @@ pub plain_are_commands : (version : ℕ) (log : List Command) → AreCommands lo
 plain_are_commands version [] are = tt
 plain_are_commands version (Open branch terms ∷ log) are =
     (known_opening version branch terms are.0, plain_are_commands version log are.1)
+plain_are_commands version (Close first last ∷ log) are = (are.0, plain_are_commands version log are.1)
 plain_are_commands version (Post m bytes ∷ log) are =
     with_post_are (is_ok ((edition version).reads bytes)) m bytes (plain version log) are.0
     (plain_are_commands version log are.1)

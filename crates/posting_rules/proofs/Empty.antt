@@ -5,7 +5,7 @@ use Rattle.std.specs.List.{IsDistinct}
 use Rattle.std.proofs.lemmas.Bool.{and_right}
 use Rattle.posting_rules.specs.believed.Tables.{AreTablesOf}
 
-none_distinct : IsDistinct nat_eq []
+pub none_distinct : IsDistinct nat_eq []
 unfolding IsDistinct
 none_distinct = tt
 
@@ -18,6 +18,7 @@ pub empty_shown : AreTablesOf (record {
   requests = [];
   floors = [];
   references = [];
+  closings = [];
 }) []
 empty_shown = record {
   rows = record {
@@ -29,6 +30,7 @@ empty_shown = record {
     requests = λ o. refl;
     floors = λ b. refl;
     references = λ o. refl;
+    closings = λ x. refl;
     branch_keys = none_distinct;
     teller_keys = none_distinct;
     account_keys = none_distinct;
@@ -36,5 +38,6 @@ empty_shown = record {
     request_keys = none_distinct;
     floor_keys = none_distinct;
     reference_keys = none_distinct;
+    closing_keys = none_distinct;
   };
 }

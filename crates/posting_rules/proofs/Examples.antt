@@ -218,12 +218,12 @@ unfolding drained drained_by on_branch_two
 branch_at_its_limit = refl
 
 -- a request that is below the floor and over the limit is refused for the floor
-floor_before_limit : case_of (facts (λ b. opened floored b) drained (on_branch_one (negsuc 1000)))
+floor_before_limit : case_of (facts (λ b. opened floored b) [] drained (on_branch_one (negsuc 1000)))
     (on_branch_one (negsuc 1000)) ≡ Refused BelowFloor
 unfolding floored drained drained_by on_branch_two on_branch_one case_of
 floor_before_limit = refl
 
-limit_above_the_floor : case_of (facts (λ b. opened floored b) drained (on_branch_one (negsuc 0)))
+limit_above_the_floor : case_of (facts (λ b. opened floored b) [] drained (on_branch_one (negsuc 0)))
     (on_branch_one (negsuc 0)) ≡ Refused OverLimit
 unfolding floored drained drained_by on_branch_two on_branch_one case_of
 limit_above_the_floor = refl

@@ -2,6 +2,8 @@ pub mod Examples
 pub mod Keyed
 pub mod Verdicts
 pub mod Requests
+pub mod Closings
+pub mod ClosedTables
 pub mod Looked
 pub mod TablesWithRecord
 pub mod NamedOpen
@@ -18,6 +20,8 @@ pub mod Editions
 pub mod Answering
 pub mod VerdictsStated
 pub mod AsStated
+pub mod SealedBooks
+pub mod TwoYears
 pub mod Sequence
 pub mod Remaining
 pub mod SettledReplies

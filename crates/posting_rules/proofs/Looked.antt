@@ -8,12 +8,15 @@ use Rattle.posting_rules.specs.believed.Commands.{Command, opened, is_teller_ope
 use Rattle.posting_rules.specs.believed.Numbering.{branch_of_teller, branch_of_account}
 use Rattle.posting_rules.specs.believed.Entries.{DecidedRequest, facts, teller_balance, branch_balance}
 use Rattle.posting_rules.specs.believed.Entries.{account_balance, decided, balance_after}
-use Rattle.posting_rules.specs.believed.Tables.{Tables, HasRows, AreTablesOf, row_at, branch_key, branch_row_of}
+use Rattle.posting_rules.specs.believed.Tables.{Tables, HasRows, HasKeys, AreTablesOf, row_at, branch_key}
+use Rattle.posting_rules.specs.believed.Tables.{branch_row_of, closing_key}
+use Rattle.posting_rules.specs.declared.judgments.Books.{Books}
 use Rattle.posting_rules.specs.believed.Tables.{teller_row, teller_row_of, account_row_of, floor_row_of}
 use Rattle.posting_rules.specs.believed.LookUps.{found_in, both_of, teller_balances_in, account_balance_in, floor_in}
 use Rattle.posting_rules.specs.believed.LookUps.{lowest_of, balance_of_branch, balance_of_teller, balance_of_account}
 use Rattle.posting_rules.specs.believed.LookUps.{terms_in, terms_of_branch}
-use Rattle.posting_rules.proofs.Requests.{AreNew, kept_shown}
+use Rattle.posting_rules.proofs.{Requests.AreNew, Requests.kept_shown, Closings.books_shown}
+use Rattle.posting_rules.specs.declared.rows.ClosingRow.{ClosingRow}
 
 -- an open teller has its branch's row
 both_rows : (low : Bool) (o : Option Terms) (t b : ℕ) (x y : ℤ)
@@ -25,8 +28,8 @@ both_rows true None t b x y = refl
 both_rows false (Some n) t b x y = refl
 both_rows false None t b x y = refl
 
-pub teller_balances_shown : (t : Tables) (opened : ℕ → Option Terms) (es : List DecidedRequest) (n : ℕ)
-    → HasRows t opened es
+pub teller_balances_shown : {runs : List ClosingRow} (t : Tables) (opened : ℕ → Option Terms) (es : List DecidedRequest) (n : ℕ)
+    → HasRows t opened runs es
     → teller_balances_in t n ≡ cond (is_teller_open opened n)
     (Some (teller_balance es n, branch_balance es (branch_of_teller n))) None
 teller_balances_shown t opened es n s =
@@ -42,8 +45,8 @@ balance_if_open : (b : Bool) (n : ℕ) (z : ℤ)
 balance_if_open true n z = refl
 balance_if_open false n z = refl
 
-pub account_balance_shown : (t : Tables) (opened : ℕ → Option Terms) (es : List DecidedRequest) (n : ℕ)
-    → HasRows t opened es
+pub account_balance_shown : {runs : List ClosingRow} (t : Tables) (opened : ℕ → Option Terms) (es : List DecidedRequest) (n : ℕ)
+    → HasRows t opened runs es
     → account_balance_in t n ≡ cond (is_account_open opened n) (Some (account_balance es n)) None
 account_balance_shown t opened es n s =
     ap (option_map balance_of_account) (s.accounts n) ∙ balance_if_open (is_account_open opened n) n
@@ -54,8 +57,8 @@ floor_of_row (Some z) b = refl
 floor_of_row None b = refl
 
 -- the floor of a branch
-pub floor_shown : (t : Tables) (opened : ℕ → Option Terms) (es : List DecidedRequest) (b : ℕ)
-    → HasRows t opened es → floor_in t b ≡ floor_of opened b
+pub floor_shown : {runs : List ClosingRow} (t : Tables) (opened : ℕ → Option Terms) (es : List DecidedRequest) (b : ℕ)
+    → HasRows t opened runs es → floor_in t b ≡ floor_of opened b
 floor_shown t opened es b s = ap (option_map lowest_of) (s.floors b) ∙ floor_of_row (floor_of opened b) b
 
 terms_of_row : (o : Option Terms) (b : ℕ) (z : ℤ)
@@ -63,8 +66,8 @@ terms_of_row : (o : Option Terms) (b : ℕ) (z : ℤ)
 terms_of_row (Some n) b z = refl
 terms_of_row None b z = refl
 
-pub terms_shown : (t : Tables) (opened : ℕ → Option Terms) (es : List DecidedRequest) (b : ℕ)
-    → HasRows t opened es
+pub terms_shown : {runs : List ClosingRow} (t : Tables) (opened : ℕ → Option Terms) (es : List DecidedRequest) (b : ℕ)
+    → HasRows t opened runs es
     → terms_in t b ≡ opened b
 terms_shown t opened es b s =
     ap (λ o. option_map (terms_of_branch o) (row_at branch_key t.branches b)) (floor_shown t opened es b s)
@@ -72,20 +75,22 @@ terms_shown t opened es b s =
     ∙ terms_of_row (opened b) b (branch_balance es b)
 
 -- all that is looked up for a request
-pub found_shown : (t : Tables) (opened : ℕ → Option Terms) (es : List DecidedRequest) (r : RequestFields)
-    → AreNew es
-    → HasRows t opened es → found_in t r ≡ facts opened es r
-found_shown t opened es r new s =
-    made _ _ _ _ _ _ _ _ _ _ (teller_balances_shown t opened es r.teller s)
+pub found_shown : (t : Tables) (opened : ℕ → Option Terms) (runs : List ClosingRow) (es : List DecidedRequest)
+    (r : RequestFields)
+    → AreNew es → HasKeys closing_key runs
+    → HasRows t opened runs es → found_in t r ≡ facts opened runs es r
+found_shown t opened runs es r new keys s =
+    made _ _ _ _ _ _ _ _ _ _ _ _ (teller_balances_shown t opened es r.teller s)
     (kept_shown t.requests t.references es s.request_keys s.requests s.references new r.teller r.number)
+    (books_shown t.closings runs r.teller r.number s.closing_keys keys s.closings)
     s.decided (account_balance_shown t opened es r.account s)
     (floor_shown t opened es (branch_of_account r.account) s)
   where
-    made : (a a' : Option (ℤ × ℤ)) (k k' : Option KeptFields) (n n' : ℕ) (b b' l l' : Option ℤ) → a ≡ a'
-        → k ≡ k' → n ≡ n' → b ≡ b' → l ≡ l'
-        → (let f : Found = record { teller = a; kept = k; decided = n; account = b; floor = l } in f) ≡
-        record { teller = a'; kept = k'; decided = n'; account = b'; floor = l' }
-    made a a' k k' n n' b b' l l' ea ek en eb el = rw (ea, ek, en, eb, el) refl
+    made : (a a' : Option (ℤ × ℤ)) (k k' : Option KeptFields) (c c' : Books) (n n' : ℕ) (b b' l l' : Option ℤ)
+        → a ≡ a' → k ≡ k' → c ≡ c' → n ≡ n' → b ≡ b' → l ≡ l'
+        → (let f : Found = record { teller = a; kept = k; books = c; decided = n; account = b; floor = l } in f) ≡
+        record { teller = a'; kept = k'; books = c'; decided = n'; account = b'; floor = l' }
+    made a a' k k' c c' n n' b b' l l' ea ek ec en eb el = rw (ea, ek, ec, en, eb, el) refl
 
 -- the balance that an account shows is its balance after the log
 pub balance_shown : (t : Tables) (log : List Command) (a : ℕ) → AreTablesOf t log

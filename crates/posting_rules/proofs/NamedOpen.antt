@@ -7,11 +7,13 @@ use Rattle.std.proofs.lemmas.Bool.{and_parts}
 use Rattle.message_records.specs.{declared.fault.Bad.Bad, believed.Records.RequestFields, believed.Reading.request_of}
 use Rattle.posting_rules.specs.{declared.judgments.Verdict.Verdict, believed.Cases.case_of}
 use Rattle.posting_rules.specs.declared.judgments.Verdict.TheVariants.{Unkept, Again, Refused, Posted}
-use Rattle.posting_rules.specs.believed.Commands.{Command, Open, Post, opened, is_within, is_teller_open}
+use Rattle.posting_rules.specs.believed.Commands.{Command, Open, Post, Close, opened, is_within, is_teller_open}
 use Rattle.posting_rules.specs.believed.Commands.{is_account_open, Terms}
 use Rattle.posting_rules.specs.believed.Numbering.{branch_of_teller, branch_of_account, place_of_account}
 use Rattle.posting_rules.specs.believed.Entries.{DecidedRequest, is_posted, facts, with_verdict, with_record, decided}
 use Rattle.posting_rules.proofs.Verdicts.{IsVerdict, verdict_is}
+use Rattle.posting_rules.specs.declared.rows.ClosingRow.{ClosingRow}
+use Rattle.posting_rules.specs.believed.Closings.{closings}
 
 pub record NamesOpen (opened : ℕ → Option Terms) (e : DecidedRequest) : Type 0 where
   pub teller : is_posted e ≡ true → is_teller_open opened e.request.teller ≡ true
@@ -76,16 +78,17 @@ all_verdict opened es m r (Refused o) h all = (
 all_verdict opened es m r (Posted a t b) h all =
     (record { teller = λ p. h.teller_open; account = λ p. h.account_open; branch = λ p. h.its_branch }, all)
 
-all_record : (opened : ℕ → Option Terms) (es : List DecidedRequest) (m : ℕ) (read : Result RequestFields Bad)
-    → AllNameOpen opened es → AllNameOpen opened (with_record m read opened es)
-all_record opened es m (Ok r) all = all_verdict opened es m r (case_of (facts opened es r) r)
-    (verdict_is opened es r) all
-all_record opened es m (Err fault) all = all
+all_record : (opened : ℕ → Option Terms) (runs : List ClosingRow) (es : List DecidedRequest) (m : ℕ) (read : Result RequestFields Bad)
+    → AllNameOpen opened es → AllNameOpen opened (with_record m read opened runs es)
+all_record opened runs es m (Ok r) all = all_verdict opened es m r (case_of (facts opened runs es r) r)
+    (verdict_is opened runs es r) all
+all_record opened runs es m (Err fault) all = all
 
 pub all_name_open : (log : List Command) → AllNameOpen (λ b. opened log b) (decided log)
 all_name_open [] = tt
 all_name_open (Open b terms ∷ log) = all_stay (λ x. opened log x) b terms (decided log) (all_name_open log)
-all_name_open (Post m bytes ∷ log) = all_record (λ b. opened log b) (decided log) m (request_of bytes)
+all_name_open (Close first last ∷ log) = all_name_open log
+all_name_open (Post m bytes ∷ log) = all_record (λ b. opened log b) (closings log) (decided log) m (request_of bytes)
     (all_name_open log)
 
 -- the branch of a teller that is open is open

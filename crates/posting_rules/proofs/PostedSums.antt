@@ -13,6 +13,7 @@ use Rattle.posting_rules.specs.believed.Tables.{branch_row_of, teller_row_of, ac
 use Rattle.posting_rules.specs.believed.LookUps.{balance_of_branch, balance_of_teller, balance_of_account}
 use Rattle.posting_rules.proofs.{Keyed.by_test, NamedOpen.AllNameOpen, NamedOpen.NamesOpen, NamedOpen.open_home}
 use Rattle.posting_rules.proofs.Totals.{sum_where, HaveRows, spread, values_are, each_under_its_key, all_follow}
+use Rattle.posting_rules.specs.declared.rows.ClosingRow.{ClosingRow}
 
 -- ---- what was posted, under the keys of one kind
 
@@ -68,7 +69,7 @@ some_if : {R : Type 0} (b : Bool) (r x : R) → cond b (Some r) None ≡ Some x 
 some_if true r x e = cc
 some_if false r x e = absurd cc
 
-pub teller_has : (t : Tables) (opened : ℕ → Option Terms) (es : List DecidedRequest) → HasRows t opened es
+pub teller_has : {runs : List ClosingRow} (t : Tables) (opened : ℕ → Option Terms) (es : List DecidedRequest) → HasRows t opened runs es
     → AllByRecursion (λ r. balance_of_teller r ≡ posted_sum (λ x. eqb x.teller (teller_key r)) es) t.tellers
 teller_has t opened es s =
     all_follow (λ r. row_at teller_key t.tellers (teller_key r) ≡ Some r)
@@ -77,7 +78,7 @@ teller_has t opened es s =
     (teller_row_of r.teller (teller_balance es r.teller)) r (sym (s.tellers r.teller) ∙ e)))
     (each_under_its_key teller_key t.tellers s.teller_keys)
 
-pub account_has : (t : Tables) (opened : ℕ → Option Terms) (es : List DecidedRequest) → HasRows t opened es
+pub account_has : {runs : List ClosingRow} (t : Tables) (opened : ℕ → Option Terms) (es : List DecidedRequest) → HasRows t opened runs es
     → AllByRecursion (λ r. balance_of_account r ≡ posted_sum (λ x. eqb x.account (account_key r)) es)
     t.accounts
 account_has t opened es s =
@@ -94,7 +95,7 @@ branch_balance_is (Some count) b z r e = let is : branch_row_of b z count ≡ r 
     (ap balance_of_branch is)
 branch_balance_is None b z r e = absurd cc
 
-pub branch_has : (t : Tables) (opened : ℕ → Option Terms) (es : List DecidedRequest) → HasRows t opened es
+pub branch_has : {runs : List ClosingRow} (t : Tables) (opened : ℕ → Option Terms) (es : List DecidedRequest) → HasRows t opened runs es
     → AllByRecursion (λ r. balance_of_branch r ≡ posted_sum (λ x. eqb x.branch (branch_key r)) es) t.branches
 branch_has t opened es s =
     all_follow (λ r. row_at branch_key t.branches (branch_key r) ≡ Some r)
@@ -124,24 +125,24 @@ rows_have key rows name (e ∷ es) h =
       | inr f ↦ rw f (rows_have key rows name es h.1)
     ]
 
-pub tellers_have : (t : Tables) (opened : ℕ → Option Terms) (all es : List DecidedRequest)
-    → HasRows t opened all
+pub tellers_have : {runs : List ClosingRow} (t : Tables) (opened : ℕ → Option Terms) (all es : List DecidedRequest)
+    → HasRows t opened runs all
     → AllNameOpen opened es → HaveRows teller_key t.tellers (posted_under (λ r. r.teller) es)
 tellers_have t opened all es s h =
     rows_have teller_key t.tellers (λ r. r.teller) es (all_follow (NamesOpen opened) _ es
     (λ e named p. let n = e.request.teller in ap is_some (s.tellers n)
     ∙ some_is (is_teller_open opened n) (teller_row_of n (teller_balance all n)) (named.teller p)) h)
 
-pub accounts_have : (t : Tables) (opened : ℕ → Option Terms) (all es : List DecidedRequest)
-    → HasRows t opened all
+pub accounts_have : {runs : List ClosingRow} (t : Tables) (opened : ℕ → Option Terms) (all es : List DecidedRequest)
+    → HasRows t opened runs all
     → AllNameOpen opened es → HaveRows account_key t.accounts (posted_under (λ r. r.account) es)
 accounts_have t opened all es s h =
     rows_have account_key t.accounts (λ r. r.account) es (all_follow (NamesOpen opened) _ es
     (λ e named p. let n = e.request.account in ap is_some (s.accounts n)
     ∙ some_is (is_account_open opened n) (account_row_of n (account_balance all n)) (named.account p)) h)
 
-pub branches_have : (t : Tables) (opened : ℕ → Option Terms) (all es : List DecidedRequest)
-    → HasRows t opened all
+pub branches_have : {runs : List ClosingRow} (t : Tables) (opened : ℕ → Option Terms) (all es : List DecidedRequest)
+    → HasRows t opened runs all
     → AllNameOpen opened es → HaveRows branch_key t.branches (posted_under (λ r. r.branch) es)
 branches_have t opened all es s h =
     rows_have branch_key t.branches (λ r. r.branch) es (all_follow (NamesOpen opened) _ es

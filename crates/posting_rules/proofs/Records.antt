@@ -12,6 +12,7 @@ use Rattle.posting_rules.proofs.TablesWithRecord.{malformed_shown}
 use Rattle.posting_rules.specs.believed.Changes.{tables_read, tables_past, tables_past_all, reply_read, reply_past}
 use Rattle.posting_rules.specs.believed.Changes.{replies_past_all}
 use Rattle.posting_rules.proofs.Calls.{posts as posts_shown, IsChange, replies}
+use Rattle.posting_rules.specs.believed.Closings.{closings}
 
 pub past_shown : (t : Tables) (log : List Command) (m : ℕ) (bytes : List ℕ) → Show t log
     → Show (tables_past t m bytes) (Post m bytes ∷ log)
@@ -42,7 +43,7 @@ past_reply t log bytes shows = by_reading (request_of bytes) refl
         → reply_read t x ≡ reply_spelling (reply log bytes)
     by_reading (Ok r) read = replies t log bytes r read shows
     by_reading (Err fault) read = ap
-        (λ (x : Result RequestFields Bad). reply_spelling (reply_given x (λ b. opened log b) (decided log)))
+        (λ (x : Result RequestFields Bad). reply_spelling (reply_given x (λ b. opened log b) (closings log) (decided log)))
         (sym read)
 
 pub all_replies : (t : Tables) (log : List Command) (m : ℕ) (records : List (List ℕ)) → Show t log

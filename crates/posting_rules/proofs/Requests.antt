@@ -9,7 +9,7 @@ use Rattle.message_records.specs.{declared.fault.Bad.Bad, believed.Records.Reque
 use Rattle.posting_rules.specs.{declared.judgments.Verdict.Verdict, declared.rows.RequestRow.RequestRow}
 use Rattle.posting_rules.specs.{declared.rows.ReferenceRow.ReferenceRow, believed.Cases.case_of, believed.Laws.Differ}
 use Rattle.posting_rules.specs.declared.judgments.Verdict.TheVariants.{Unkept, Again, Refused, Posted}
-use Rattle.posting_rules.specs.believed.Commands.{Command, Open, Post, opened, Terms}
+use Rattle.posting_rules.specs.believed.Commands.{Command, Open, Post, Close, opened, Terms}
 use Rattle.posting_rules.specs.believed.Kept.{KeptFields, kept_with}
 use Rattle.posting_rules.specs.believed.Entries.{DecidedRequest, kept, facts, with_verdict, with_record, decided}
 use Rattle.posting_rules.specs.believed.Tables.{row_at, HasKeys, request_key, request_row, request_row_of}
@@ -17,6 +17,8 @@ use Rattle.posting_rules.specs.believed.Tables.{reference_key, reference_row, re
 use Rattle.posting_rules.specs.believed.LookUps.{kept_in, kept_of_row, text_of_reference}
 use Rattle.posting_rules.proofs.Keyed.{by_test, row_at-found, found_passes, none_passes}
 use Rattle.posting_rules.proofs.Verdicts.{IsVerdict, verdict_is}
+use Rattle.posting_rules.specs.declared.rows.ClosingRow.{ClosingRow}
+use Rattle.posting_rules.specs.believed.Closings.{closings}
 
 -- no older request has the teller and the number of a decided one
 abbrev pub AreNew : List DecidedRequest → Type 0
@@ -30,17 +32,18 @@ new_verdict opened es m r (Again x) h all = all
 new_verdict opened es m r (Refused o) h all = (h.new, all)
 new_verdict opened es m r (Posted a t b) h all = (h.new, all)
 
-new_record : (opened : ℕ → Option Terms) (es : List DecidedRequest) (m : ℕ) (read : Result RequestFields Bad)
+new_record : (opened : ℕ → Option Terms) (runs : List ClosingRow) (es : List DecidedRequest) (m : ℕ) (read : Result RequestFields Bad)
     → AreNew es
-    → AreNew (with_record m read opened es)
-new_record opened es m (Ok r) all = new_verdict opened es m r (case_of (facts opened es r) r)
-    (verdict_is opened es r) all
-new_record opened es m (Err fault) all = all
+    → AreNew (with_record m read opened runs es)
+new_record opened runs es m (Ok r) all = new_verdict opened es m r (case_of (facts opened runs es r) r)
+    (verdict_is opened runs es r) all
+new_record opened runs es m (Err fault) all = all
 
 pub are_new : (log : List Command) → AreNew (decided log)
 are_new [] = tt
 are_new (Open b terms ∷ log) = are_new log
-are_new (Post m bytes ∷ log) = new_record (λ b. opened log b) (decided log) m (request_of bytes) (are_new log)
+are_new (Close first last ∷ log) = are_new log
+are_new (Post m bytes ∷ log) = new_record (λ b. opened log b) (closings log) (decided log) m (request_of bytes) (are_new log)
 
 -- ---- tests of teller and number
 

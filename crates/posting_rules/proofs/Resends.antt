@@ -3,13 +3,14 @@ use Rattle.std.proofs.Common.{◌≡◌, ℕ, List, [], ◌∷◌, ◌++◌, len
 use Rattle.std.proofs.Common.{append_assoc, inl, inr}
 use Rattle.std.proofs.Math.Seq.{get_or-append_seam}
 use Rattle.message_records.specs.believed.{Spelling.reply_spelling, Reading.request_of}
-use Rattle.posting_rules.specs.believed.Commands.{Command, Open, Post, AreCommands, opened, Terms}
+use Rattle.posting_rules.specs.believed.Commands.{Command, Open, Post, Close, AreCommands, opened, Terms}
 use Rattle.posting_rules.specs.believed.Entries.{DecidedRequest, decided, with_record, reply}
 use Rattle.posting_rules.specs.believed.{Tables.Tables, Tables.HasRows, Tables.AreTablesOf, Counter.Seen}
 use Rattle.posting_rules.specs.believed.{Counter.ShowsLog, Runs.followed_by, Runs.replies_to, Runs.ArePosts}
 use Rattle.posting_rules.specs.Resends.{Place, Skips}
 use Rattle.posting_rules.proofs.{Sequence.commands_after, Sequence.commands_apart, Sequence.after-append}
 use Rattle.posting_rules.proofs.{Sequence.replies_to-append, Sequence.one_reply_each, Settled.again}
+use Rattle.posting_rules.specs.believed.Closings.{closings}
 
 -- ---- posts
 
@@ -19,33 +20,46 @@ opened_after : (log cs : List Command) → ArePosts cs
     (λ b. opened log b)
 opened_after log [] h = refl
 opened_after log (Open b terms ∷ cs) h = absurd h
+opened_after log (Close first last ∷ cs) h = absurd h
 opened_after log (Post m r ∷ cs) h = opened_after (Post m r ∷ log) cs h
 
--- what is decided after a log depends on what is open and decided there
+-- and close nothing
+pub closings_after : (log cs : List Command) → ArePosts cs → closings (followed_by log cs) ≡ closings log
+closings_after log [] h = refl
+closings_after log (Open b terms ∷ cs) h = absurd h
+closings_after log (Close first last ∷ cs) h = absurd h
+closings_after log (Post m r ∷ cs) h = closings_after (Post m r ∷ log) cs h
+
+-- what is decided after a log depends on what is open, closed and decided there
 decided_same : (one two cs : List Command) → ArePosts cs → ◌≡◌ {A = ℕ → Option Terms} (λ b. opened one b)
-    (λ b. opened two b) → decided one ≡ decided two
+    (λ b. opened two b) → closings one ≡ closings two → decided one ≡ decided two
     → decided (followed_by one cs) ≡ decided (followed_by two cs)
-decided_same one two [] h eo ed = ed
-decided_same one two (Open b terms ∷ cs) h eo ed = absurd h
-decided_same one two (Post m r ∷ cs) h eo ed =
-    decided_same (Post m r ∷ one) (Post m r ∷ two) cs h eo
-    (ap (λ (o : ℕ → Option Terms). with_record m (request_of r) o (decided one)) eo
-    ∙ ap (λ (es : List DecidedRequest). with_record m (request_of r) (λ b. opened two b) es) ed)
+decided_same one two [] h eo ec ed = ed
+decided_same one two (Open b terms ∷ cs) h eo ec ed = absurd h
+decided_same one two (Close first last ∷ cs) h eo ec ed = absurd h
+decided_same one two (Post m r ∷ cs) h eo ec ed =
+    decided_same (Post m r ∷ one) (Post m r ∷ two) cs h eo ec
+    (ap (λ (o : ℕ → Option Terms). with_record m (request_of r) o (closings one) (decided one)) eo
+    ∙ ap (λ runs. with_record m (request_of r) (λ b. opened two b) runs (decided one)) ec
+    ∙ ap (λ (es : List DecidedRequest). with_record m (request_of r) (λ b. opened two b) (closings two) es) ed)
 
 pub posts_both : (xs ys : List Command) → ArePosts xs → ArePosts ys → ArePosts (xs ++ ys)
 posts_both [] ys a b = b
 posts_both (Open branch terms ∷ xs) ys a b = absurd a
+posts_both (Close first last ∷ xs) ys a b = absurd a
 posts_both (Post m r ∷ xs) ys a b = posts_both xs ys a b
 
 posts_end : (xs ys : List Command) → ArePosts (xs ++ ys) → ArePosts ys
 posts_end [] ys h = h
 posts_end (Open b terms ∷ xs) ys h = absurd h
+posts_end (Close first last ∷ xs) ys h = absurd h
 posts_end (Post m r ∷ xs) ys h = posts_end xs ys h
 
 -- what is kept of posts are posts
 posts_skip : (p r f : List Command) → ArePosts r → Skips p r f → ArePosts f
 posts_skip p [] f h s = subst ArePosts (sym s) tt
 posts_skip p (Open b terms ∷ r) f h s = absurd h
+posts_skip p (Close first last ∷ r) f h s = absurd h
 posts_skip p (Post m bytes ∷ r) f h (inl s) = posts_skip p r f h s.1
 posts_skip p (Post m bytes ∷ r) f h (inr s) = subst ArePosts (sym s.1) (posts_skip p r s.0 h s.2)
 
@@ -72,6 +86,7 @@ adds_nothing log p q m bytes at hp hq =
 posts_start : (xs ys : List Command) → ArePosts (xs ++ ys) → ArePosts xs
 posts_start [] ys h = tt
 posts_start (Open b terms ∷ xs) ys h = absurd h
+posts_start (Close first last ∷ xs) ys h = absurd h
 posts_start (Post m r ∷ xs) ys h = posts_start xs ys h
 
 -- it gets its reply again, at its place
@@ -100,9 +115,10 @@ left_out : (log p q r f : List Command) → ArePosts p → ArePosts q → ArePos
 left_out log p q [] f hp hq hr s = ap (λ (x : List Command). decided (followed_by (followed_by (followed_by log p) q) x))
     (sym s)
 left_out log p q (Open b terms ∷ r) f hp hq hr s = absurd hr
+left_out log p q (Close first last ∷ r) f hp hq hr s = absurd hr
 left_out log p q (Post m bytes ∷ r) f hp hq hr (inl s) =
     let now = followed_by (followed_by log p) q in
-    decided_same (Post m bytes ∷ now) now r hr refl ((adds_nothing log p q m bytes s.0 hp hq).1)
+    decided_same (Post m bytes ∷ now) now r hr refl refl ((adds_nothing log p q m bytes s.0 hp hq).1)
     ∙ left_out log p q r f hp hq hr s.1
 left_out log p q (Post m bytes ∷ r) f hp hq hr (inr s) =
     let now = followed_by (followed_by log p) q in
@@ -123,10 +139,12 @@ shows_left_out t log p r f hp hr s shows =
     let all = opened_after (followed_by log p) r hr in
     let less = opened_after (followed_by log p) f (posts_skip p r f hr s) in
     record {
-      rows = subst (λ (es : List DecidedRequest). HasRows t (λ b. opened after b) es)
+      rows = subst (λ (es : List DecidedRequest). HasRows t (λ b. opened after b) (closings after) es)
           (left_out log p [] r f hp tt hr s)
-          (subst (λ (o : ℕ → Option Terms). HasRows t o (decided (followed_by (followed_by log p) r))) (all ∙ sym less)
-          shows.rows);
+          (subst (λ runs. HasRows t (λ b. opened after b) runs (decided (followed_by (followed_by log p) r)))
+          (closings_after (followed_by log p) r hr ∙ sym (closings_after (followed_by log p) f (posts_skip p r f hr s)))
+          (subst (λ (o : ℕ → Option Terms). HasRows t o (closings (followed_by (followed_by log p) r))
+          (decided (followed_by (followed_by log p) r))) (all ∙ sym less) shows.rows));
     }
 
 -- ---- what is left are commands of the bank
@@ -134,6 +152,7 @@ shows_left_out t log p r f hp hr s shows =
 skip_are : (p r f : List Command) → Skips p r f → AreCommands r → AreCommands f
 skip_are p [] f s are = subst AreCommands (sym s) tt
 skip_are p (Open b terms ∷ r) f s are = absurd s
+skip_are p (Close first last ∷ r) f s are = absurd s
 skip_are p (Post m bytes ∷ r) f (inl s) are = skip_are p r f s.1 are.1
 skip_are p (Post m bytes ∷ r) f (inr s) are = subst AreCommands (sym s.1) (are.0, skip_are p r s.0 s.2 are.1)
 

@@ -1,7 +1,7 @@
 -- Commands one after another.
 use Rattle.std.proofs.Common.{◌≡◌, ℕ, suc, List, [], ◌∷◌, ◌++◌, length, refl, ap}
 use Rattle.message_records.specs.believed.Spelling.{reply_spelling}
-use Rattle.posting_rules.specs.believed.Commands.{Command, Open, Post, AreCommands}
+use Rattle.posting_rules.specs.believed.Commands.{Command, Open, Post, Close, AreCommands}
 use Rattle.posting_rules.specs.believed.{Entries.reply, Runs.followed_by, Runs.replies_to, Runs.ArePosts}
 
 -- commands and then others after a log
@@ -27,6 +27,7 @@ pub replies_to-append : (log cs ds : List Command)
     → replies_to log (cs ++ ds) ≡ replies_to log cs ++ replies_to (followed_by log cs) ds
 replies_to-append log [] ds = refl
 replies_to-append log (Open b terms ∷ cs) ds = replies_to-append (Open b terms ∷ log) cs ds
+replies_to-append log (Close first last ∷ cs) ds = replies_to-append (Close first last ∷ log) cs ds
 replies_to-append log (Post m r ∷ cs) ds = ap (λ (t : List (List ℕ)). reply_spelling (reply log r) ∷ t)
     (replies_to-append (Post m r ∷ log) cs ds)
 
@@ -34,4 +35,5 @@ replies_to-append log (Post m r ∷ cs) ds = ap (λ (t : List (List ℕ)). reply
 pub one_reply_each : (log cs : List Command) → ArePosts cs → length (replies_to log cs) ≡ length cs
 one_reply_each log [] h = refl
 one_reply_each log (Open b terms ∷ cs) h = absurd h
+one_reply_each log (Close first last ∷ cs) h = absurd h
 one_reply_each log (Post m r ∷ cs) h = ap suc (one_reply_each (Post m r ∷ log) cs h)

@@ -10,9 +10,11 @@ use Rattle.message_records.specs.{declared.fault.Bad.Bad, Records.IsRequest, bel
 use Rattle.message_records.specs.believed.Records.{RequestFields}
 use Rattle.message_records.proofs.Requests.{read_in_range}
 use Rattle.posting_rules.specs.declared.judgments.Verdict.TheVariants.{Unkept, Again, Refused, Posted}
-use Rattle.posting_rules.specs.believed.Commands.{Command, Open, Post, IsCommand, AreCommands, opened, Terms}
+use Rattle.posting_rules.specs.believed.Commands.{Command, Open, Post, Close, IsCommand, AreCommands, opened, Terms}
 use Rattle.posting_rules.specs.believed.Entries.{DecidedRequest, facts, with_verdict, with_record, decided}
 use Rattle.posting_rules.proofs.Verdicts.{IsVerdict, by_case, verdict_is}
+use Rattle.posting_rules.specs.declared.rows.ClosingRow.{ClosingRow}
+use Rattle.posting_rules.specs.believed.Closings.{closings}
 
 -- ---- what is open
 
@@ -25,6 +27,7 @@ pub open_within : (log : List Command) → AreCommands log → (b : ℕ)
     → IfSome (opened log b) (λ n. IsCommand (Open b n))
 open_within [] are b = tt
 open_within (Post m bytes ∷ log) are b = open_within log are.1 b
+open_within (Close first last ∷ log) are b = open_within log are.1 b
 open_within (Open c terms ∷ log) are b =
     or_within (λ n. IsCommand (Open b n)) (opened log b) (cond (eqb c b) (Some terms) None)
     (open_within log are.1 b) (here (eqb c b) refl)
@@ -58,10 +61,10 @@ abbrev IsKeepable : Verdict → Type 0
 IsKeepable (Refused outcome) = is_kept_with outcome (pos 0) ≡ true
 IsKeepable v = Unit {0}
 
-keepable : (opened : ℕ → Option Terms) (es : List DecidedRequest) (r : RequestFields)
-    → IsKeepable (case_of (facts opened es r) r)
-keepable opened es r =
-    by_case (λ v. IsKeepable v) (facts opened es r) r (λ o. tt) (λ a. tt) (λ o kept unposted new room. kept)
+keepable : (opened : ℕ → Option Terms) (runs : List ClosingRow) (es : List DecidedRequest) (r : RequestFields)
+    → IsKeepable (case_of (facts opened runs es r) r)
+keepable opened runs es r =
+    by_case (λ v. IsKeepable v) (facts opened runs es r) r (λ o. tt) (λ a. tt) (λ o kept unposted new room. kept)
     (λ x y w h. tt)
 
 sound_verdict : (opened : ℕ → Option Terms) (es : List DecidedRequest) (m : ℕ) (r : RequestFields) (v : Verdict)
@@ -74,19 +77,20 @@ sound_verdict opened es m r (Refused o) h k read late all =
 sound_verdict opened es m r (Posted a t b) h k read late all =
     (record { request = read; moment = late; kept = refl; balance = h.account_is.within }, h.room, all)
 
-sound_record : (opened : ℕ → Option Terms) (es : List DecidedRequest) (m : ℕ) (bytes : List ℕ)
+sound_record : (opened : ℕ → Option Terms) (runs : List ClosingRow) (es : List DecidedRequest) (m : ℕ) (bytes : List ℕ)
     (read : Result RequestFields Bad)
     → request_of bytes ≡ read → IsCommand (Post m bytes) → AreSound es
-    → AreSound (with_record m read opened es)
-sound_record opened es m bytes (Ok r) e is all =
-    sound_verdict opened es m r (case_of (facts opened es r) r) (verdict_is opened es r)
-    (keepable opened es r)
+    → AreSound (with_record m read opened runs es)
+sound_record opened runs es m bytes (Ok r) e is all =
+    sound_verdict opened es m r (case_of (facts opened runs es r) r) (verdict_is opened runs es r)
+    (keepable opened runs es r)
     (read_in_range bytes r is.1 e) is.0 all
-sound_record opened es m bytes (Err fault) e is all = all
+sound_record opened runs es m bytes (Err fault) e is all = all
 
 -- every request that a log of commands decides is sound
 pub are_sound : (log : List Command) → AreCommands log → AreSound (decided log)
 are_sound [] are = tt
 are_sound (Open b terms ∷ log) are = are_sound log are.1
-are_sound (Post m bytes ∷ log) are = sound_record (λ b. opened log b) (decided log) m bytes
+are_sound (Close first last ∷ log) are = are_sound log are.1
+are_sound (Post m bytes ∷ log) are = sound_record (λ b. opened log b) (closings log) (decided log) m bytes
     (request_of bytes) refl are.0 (are_sound log are.1)

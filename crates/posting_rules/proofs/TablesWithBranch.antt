@@ -18,6 +18,8 @@ use Rattle.posting_rules.specs.believed.Numbering.{first_teller, first_account}
 use Rattle.posting_rules.proofs.{Keyed.by_test, NumbersInARow.tellers_in_a_row, NumbersInARow.accounts_in_a_row}
 use Rattle.posting_rules.proofs.NamedOpen.{AllNameOpen, with_branch, all_name_open, teller_stays, account_stays}
 use Rattle.posting_rules.proofs.NoBalance.{teller_none, account_none, branch_none}
+use Rattle.posting_rules.specs.declared.rows.ClosingRow.{ClosingRow}
+use Rattle.posting_rules.specs.believed.Closings.{closings}
 
 -- ---- the rows with a branch more
 
@@ -122,11 +124,11 @@ either_none : (opened : ℕ → Option Terms) (b x : ℕ) → opened b ≡ None 
 either_none opened b x closed =
     elim (by_test (eqb b x)) [ inl t ↦ inl (ap opened (sym (eqb-true b x t)) ∙ closed) | inr f ↦ inr f ]
 
-branch_added : (old new : Tables) (opened : ℕ → Option Terms) (es : List DecidedRequest) (b : ℕ)
+branch_added : {runs : List ClosingRow} (old new : Tables) (opened : ℕ → Option Terms) (es : List DecidedRequest) (b : ℕ)
     (terms : Terms)
     → AllNameOpen opened es → opened b ≡ None → 1 ≤ b → terms.accounts ≤ MAX_ACCOUNTS
-    → HasRows old opened es → OpensBranch old new b terms
-    → HasRows new (λ x. with_branch opened b terms x) es
+    → HasRows old opened runs es → OpensBranch old new b terms
+    → HasRows new (λ x. with_branch opened b terms x) runs es
 branch_added old new opened es b terms all closed hb hc s step = record {
   decided = step.decided ∙ s.decided;
   branches = λ n. step.branches.rows n
@@ -157,6 +159,7 @@ branch_added old new opened es b terms all closed hb hc s step = record {
   history = λ o. rw step.history (s.history o);
   requests = λ o. rw step.requests (s.requests o);
   references = λ o. rw step.references (s.references o);
+  closings = λ x. rw step.closings (s.closings x);
   floors = floors_added old.floors new.floors opened b terms terms.floor refl closed step.floors s.floors;
   branch_keys = step.branches.keys;
   teller_keys = step.tellers.keys;
@@ -165,6 +168,7 @@ branch_added old new opened es b terms all closed hb hc s step = record {
   request_keys = rw step.requests s.request_keys;
   floor_keys = floor_keys_added old.floors new.floors b terms.floor step.floors s.floor_keys;
   reference_keys = rw step.references s.reference_keys;
+  closing_keys = rw step.closings s.closing_keys;
 }
 
 -- a branch that wasn't open is added
@@ -199,6 +203,6 @@ pub already_open_shown : (t : Tables) (log : List Command) (b : ℕ) (terms n : 
     → AreTablesOf t log → AreTablesOf t (Open b terms ∷ log)
 already_open_shown t log b terms n h s =
     record {
-      rows = subst (λ (o : ℕ → Option Terms). HasRows t o (decided log))
+      rows = subst (λ (o : ℕ → Option Terms). HasRows t o (closings log) (decided log))
           (sym (fun_ext (opened_again log b terms n h))) s.rows;
     }

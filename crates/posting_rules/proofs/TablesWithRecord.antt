@@ -25,8 +25,10 @@ use Rattle.posting_rules.specs.believed.Changes.{with_history, with_branch_balan
 use Rattle.posting_rules.specs.believed.Changes.{with_account_balance}
 use Rattle.posting_rules.specs.ChangesByKey as steps
 use Rattle.posting_rules.proofs.Verdicts.{IsVerdict, IsPosting, IsRefusal, verdict_is}
-use Rattle.posting_rules.proofs.{Requests.are_new, Looked.found_shown}
+use Rattle.posting_rules.proofs.{Requests.are_new, Looked.found_shown, Closings.closing_keys}
 use Rattle.posting_rules.proofs.RowChanges.{row_at-put, row_changes, keys-put}
+use Rattle.posting_rules.specs.declared.rows.ClosingRow.{ClosingRow}
+use Rattle.posting_rules.specs.believed.Closings.{closings}
 
 -- ---- rows under ordinals
 
@@ -54,19 +56,19 @@ reference_row_past (e ∷ es) o le = rw (other_ordinal (length es) o (omega arit
     (reference_row_past es o (omega arith))
 
 -- and none has the next one
-pub next_request : (t : Tables) (opened : ℕ → Option Terms) (es : List DecidedRequest) → HasRows t opened es
+pub next_request : {runs : List ClosingRow} (t : Tables) (opened : ℕ → Option Terms) (es : List DecidedRequest) → HasRows t opened runs es
     → row_at request_key t.requests (length es + 1) ≡ None
 next_request t opened es s =
     ap (row_at request_key t.requests) (one_more (length es)) ∙ s.requests (suc (length es))
     ∙ request_row_past es (length es) (omega arith)
 
-pub next_posting : (t : Tables) (opened : ℕ → Option Terms) (es : List DecidedRequest) → HasRows t opened es
+pub next_posting : {runs : List ClosingRow} (t : Tables) (opened : ℕ → Option Terms) (es : List DecidedRequest) → HasRows t opened runs es
     → row_at history_key t.history (length es + 1) ≡ None
 next_posting t opened es s =
     ap (row_at history_key t.history) (one_more (length es)) ∙ s.history (suc (length es))
     ∙ history_row_past es (length es) (omega arith)
 
-pub next_reference : (t : Tables) (opened : ℕ → Option Terms) (es : List DecidedRequest) → HasRows t opened es
+pub next_reference : {runs : List ClosingRow} (t : Tables) (opened : ℕ → Option Terms) (es : List DecidedRequest) → HasRows t opened runs es
     → row_at reference_key t.references (length es + 1) ≡ None
 next_reference t opened es s =
     ap (row_at reference_key t.references) (one_more (length es)) ∙ s.references (suc (length es))
@@ -159,11 +161,11 @@ account_changed false hit n z old delta h = refl
 
 -- ---- the two verdicts that change tables
 
-refusal_shown : (t : Tables) (opened : ℕ → Option Terms) (es : List DecidedRequest) (m : ℕ)
-    (r : RequestFields) (o : Outcome) → HasRows t opened es → IsRefusal es r o
-    → HasRows (tables_kept t (length es + 1) (refused_entry m r o)) opened (refused_entry m r o ∷ es)
+refusal_shown : (t : Tables) (opened : ℕ → Option Terms) (runs : List ClosingRow) (es : List DecidedRequest) (m : ℕ)
+    (r : RequestFields) (o : Outcome) → HasRows t opened runs es → IsRefusal es r o
+    → HasRows (tables_kept t (length es + 1) (refused_entry m r o)) opened runs (refused_entry m r o ∷ es)
 unfolding with_decided with_request with_reference
-refusal_shown t opened es m r o s h =
+refusal_shown t opened runs es m r o s h =
     let e = refused_entry m r o in
     record {
       decided = one_more (length es);
@@ -179,6 +181,8 @@ refusal_shown t opened es m r o s h =
       requests = requests_added t.requests es e s.requests;
       references = references_added t.references es e r.reference refl s.references;
       floors = s.floors;
+      closings = s.closings;
+      closing_keys = s.closing_keys;
       branch_keys = s.branch_keys;
       teller_keys = s.teller_keys;
       account_keys = s.account_keys;
@@ -190,12 +194,12 @@ refusal_shown t opened es m r o s h =
           (next_reference t opened es s);
     }
 
-posting_shown : (t : Tables) (opened : ℕ → Option Terms) (es : List DecidedRequest) (m : ℕ)
-    (r : RequestFields) (a te b : ℤ) → HasRows t opened es → IsPosting opened es r a te b
-    → HasRows (tables_posted t (length es + 1) (posted_entry m r a) te b) opened (posted_entry m r a ∷ es)
+posting_shown : (t : Tables) (opened : ℕ → Option Terms) (runs : List ClosingRow) (es : List DecidedRequest) (m : ℕ)
+    (r : RequestFields) (a te b : ℤ) → HasRows t opened runs es → IsPosting opened es r a te b
+    → HasRows (tables_posted t (length es + 1) (posted_entry m r a) te b) opened runs (posted_entry m r a ∷ es)
 unfolding with_decided with_request with_reference with_history
     with_branch_balance with_teller_balance with_account_balance
-posting_shown t opened es m r a te b s h =
+posting_shown t opened runs es m r a te b s h =
     let e = posted_entry m r a in
     let home = branch_of_teller r.teller in
     let branches = row_changes branch_key home (steps.with_branch_balance b) t.branches (λ _. refl)
@@ -224,6 +228,8 @@ posting_shown t opened es m r a te b s h =
       requests = requests_added t.requests es e s.requests;
       references = references_added t.references es e r.reference refl s.references;
       floors = s.floors;
+      closings = s.closings;
+      closing_keys = s.closing_keys;
       branch_keys = branches.keys;
       teller_keys = tellers.keys;
       account_keys = accounts.keys;
@@ -237,19 +243,19 @@ posting_shown t opened es m r a te b s h =
     }
 
 -- the entry of a verdict stands under the ordinal after the count
-verdict_shown : (t : Tables) (opened : ℕ → Option Terms) (es : List DecidedRequest) (m : ℕ)
-    (r : RequestFields) (v : Verdict) → HasRows t opened es → IsVerdict opened es r v
-    → HasRows (tables_after t m r v) opened (with_verdict m r v es)
-verdict_shown t opened es m r (Unkept o) s h = s
-verdict_shown t opened es m r (Again x) s h = s
-verdict_shown t opened es m r (Refused o) s h =
+verdict_shown : (t : Tables) (opened : ℕ → Option Terms) (runs : List ClosingRow) (es : List DecidedRequest) (m : ℕ)
+    (r : RequestFields) (v : Verdict) → HasRows t opened runs es → IsVerdict opened es r v
+    → HasRows (tables_after t m r v) opened runs (with_verdict m r v es)
+verdict_shown t opened runs es m r (Unkept o) s h = s
+verdict_shown t opened runs es m r (Again x) s h = s
+verdict_shown t opened runs es m r (Refused o) s h =
     let e = refused_entry m r o in
-    subst (λ (n : ℕ). HasRows (tables_kept t (n + 1) e) opened (e ∷ es)) (sym s.decided)
-    (refusal_shown t opened es m r o s h)
-verdict_shown t opened es m r (Posted a te b) s h =
+    subst (λ (n : ℕ). HasRows (tables_kept t (n + 1) e) opened runs (e ∷ es)) (sym s.decided)
+    (refusal_shown t opened runs es m r o s h)
+verdict_shown t opened runs es m r (Posted a te b) s h =
     let e = posted_entry m r a in
-    subst (λ (n : ℕ). HasRows (tables_posted t (n + 1) e te b) opened (e ∷ es)) (sym s.decided)
-    (posting_shown t opened es m r a te b s h)
+    subst (λ (n : ℕ). HasRows (tables_posted t (n + 1) e te b) opened runs (e ∷ es)) (sym s.decided)
+    (posting_shown t opened runs es m r a te b s h)
 
 -- ---- a request after a log
 
@@ -259,13 +265,15 @@ pub post_shown : (t : Tables) (log : List Command) (m : ℕ) (bytes : List ℕ) 
 post_shown t log m bytes r read s =
     let es = decided log in
     let open_ = λ (b : ℕ). opened log b in
-    let v = case_of (facts open_ es r) r in
-    let found : found_in t r ≡ facts open_ es r = found_shown t open_ es r (are_new log) s.rows in
+    let runs = closings log in
+    let v = case_of (facts open_ runs es r) r in
+    let found : found_in t r ≡ facts open_ runs es r = found_shown t open_ runs es r (are_new log)
+    (closing_keys log) s.rows in
     record {
-      rows = subst (λ (x : Result RequestFields Bad). HasRows (tables_with t m r) open_
-          (with_record m x open_ es)) (sym read)
-          (subst (λ (f : Found). HasRows (tables_after t m r (case_of f r)) open_ (with_verdict m r v es))
-          (sym found) (verdict_shown t open_ es m r v s.rows (verdict_is open_ es r)));
+      rows = subst (λ (x : Result RequestFields Bad). HasRows (tables_with t m r) open_ runs
+          (with_record m x open_ runs es)) (sym read)
+          (subst (λ (f : Found). HasRows (tables_after t m r (case_of f r)) open_ runs (with_verdict m r v es))
+          (sym found) (verdict_shown t open_ runs es m r v s.rows (verdict_is open_ runs es r)));
     }
 
 -- bytes that are no request change nothing
@@ -273,15 +281,15 @@ pub malformed_shown : (t : Tables) (log : List Command) (m : ℕ) (bytes : List 
     → request_of bytes ≡ Err fault → AreTablesOf t log → AreTablesOf t (Post m bytes ∷ log)
 malformed_shown t log m bytes fault read s =
     record {
-      rows = subst (λ (x : Result RequestFields Bad). HasRows t (λ b. opened log b)
-          (with_record m x (λ b. opened log b) (decided log))) (sym read) s.rows;
+      rows = subst (λ (x : Result RequestFields Bad). HasRows t (λ b. opened log b) (closings log)
+          (with_record m x (λ b. opened log b) (closings log) (decided log))) (sym read) s.rows;
     }
 
 -- the reply that the verdict on what was looked up tells
 pub reply_shown : (t : Tables) (log : List Command) (bytes : List ℕ) (r : RequestFields)
     → request_of bytes ≡ Ok r → AreTablesOf t log → reply_in (case_of (found_in t r) r) r ≡ reply log bytes
 reply_shown t log bytes r read s =
-    let found : found_in t r ≡ facts (λ b. opened log b) (decided log) r = found_shown t (λ b. opened log b)
-    (decided log) r (are_new log) s.rows in
+    let found : found_in t r ≡ facts (λ b. opened log b) (closings log) (decided log) r =
+    found_shown t (λ b. opened log b) (closings log) (decided log) r (are_new log) (closing_keys log) s.rows in
     ap (λ (f : Found). reply_in (case_of f r) r) found ∙ ap
-    (λ (x : Result RequestFields Bad). reply_given x (λ b. opened log b) (decided log)) (sym read)
+    (λ (x : Result RequestFields Bad). reply_given x (λ b. opened log b) (closings log) (decided log)) (sym read)

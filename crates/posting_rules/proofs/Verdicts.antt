@@ -12,7 +12,11 @@ use Rattle.message_records.specs.believed.{Outcomes.has_balance, Records.Request
 use Rattle.posting_rules.specs.declared.judgments.Verdict.TheVariants.{Unkept, Again, Refused, Posted}
 use Rattle.posting_rules.specs.believed.Commands.{is_teller_open, is_account_open, Terms, floor_of}
 use Rattle.posting_rules.specs.believed.Numbering.{branch_of_teller, branch_of_account}
-use Rattle.posting_rules.specs.believed.Cases.{case_of, teller_case, known_case, new_case, account_case, posting_of}
+use Rattle.posting_rules.specs.believed.Cases.{case_of, teller_case, known_case, books_case, new_case, account_case}
+use Rattle.posting_rules.specs.believed.Cases.{posting_of}
+use Rattle.posting_rules.specs.declared.judgments.Books.{Books}
+use Rattle.posting_rules.specs.declared.judgments.Books.TheVariants.{Current, Closed, Sealed}
+use Rattle.posting_rules.specs.declared.rows.ClosingRow.{ClosingRow}
 use Rattle.posting_rules.specs.believed.Cases.{plus_within, is_below, is_same}
 use Rattle.posting_rules.specs.believed.Entries.{DecidedRequest, facts, kept, teller_balance, branch_balance}
 use Rattle.posting_rules.specs.believed.Entries.{account_balance}
@@ -98,9 +102,15 @@ module _ (P : Verdict → Type 0) where
             ])
       ]
 
+  pub by_books : (books : Books) (f : Found) (r : RequestFields) (t b : ℤ) → P (Unkept outcome.Closed)
+      → P (Unkept outcome.Sealed) → (books ≡ Current → P (new_case f r t b)) → P (books_case books f r t b)
+  by_books Closed f r t b closed sealed new = closed
+  by_books Sealed f r t b closed sealed new = sealed
+  by_books Current f r t b closed sealed new = new refl
+
   pub by_known : (k : Option KeptFields) (f : Found) (r : RequestFields) (t b : ℤ)
       → P (Unkept outcome.ReusedNumber) → ((a : ReplyFields) → P (Again a))
-      → (k ≡ None → P (new_case f r t b)) → P (known_case k f r t b)
+      → (k ≡ None → P (books_case f.books f r t b)) → P (known_case k f r t b)
   by_known None f r t b reused again new = new refl
   by_known (Some k) f r t b reused again new =
       elim (by_test (is_same k r)) [ inl h ↦ rw h (again _) | inr h ↦ rw h reused ]
@@ -134,6 +144,7 @@ unfolding case_of
 by_case P f r unkept again refused posted =
     by_teller P f.teller f r (unkept outcome.NoTeller) (λ z tellers.
     by_known P f.kept f r z.0 z.1 (unkept outcome.ReusedNumber) again (λ new.
+    by_books P f.books f r z.0 z.1 (unkept outcome.Closed) (unkept outcome.Sealed) (λ current.
     by_new P f r z.0 z.1 (unkept outcome.Full) (refused outcome.WrongBranch refl refl new) (λ room its.
     by_account P f.account f.floor z.0 z.1 r.delta (refused outcome.NoAccount refl refl new room)
     (refused outcome.BelowFloor refl refl new room) (λ a account above.
@@ -150,13 +161,32 @@ by_case P f r unkept again refused posted =
       account_sum = ex;
       teller_sum = ey;
       branch_sum = ew;
-    }))))))
+    })))))))
+
+-- a request is decided in current books alone
+abbrev pub IsOfBooks : Books → Verdict → Type 0
+IsOfBooks books (Refused outcome) = books ≡ Current
+IsOfBooks books (Posted account teller branch) = books ≡ Current
+IsOfBooks books _ = Unit {0}
+
+pub of_books : (f : Found) (r : RequestFields) → IsOfBooks f.books (case_of f r)
+unfolding case_of
+of_books f r =
+    let P = IsOfBooks f.books in
+    by_teller P f.teller f r tt (λ z tellers. by_known P f.kept f r z.0 z.1 tt (λ a. tt) (λ new.
+    by_books P f.books f r z.0 z.1 tt tt (λ current. any current (new_case f r z.0 z.1))))
+  where
+    any : f.books ≡ Current → (v : Verdict) → IsOfBooks f.books v
+    any current (Unkept o) = tt
+    any current (Again a) = tt
+    any current (Refused o) = current
+    any current (Posted a t b) = current
 
 -- what the case of a request says, by what stands before it
-pub verdict_is : (opened : ℕ → Option Terms) (es : List DecidedRequest) (r : RequestFields)
-    → IsVerdict opened es r (case_of (facts opened es r) r)
-verdict_is opened es r =
-    let f = facts opened es r in
+pub verdict_is : (opened : ℕ → Option Terms) (runs : List ClosingRow) (es : List DecidedRequest) (r : RequestFields)
+    → IsVerdict opened es r (case_of (facts opened runs es r) r)
+verdict_is opened runs es r =
+    let f = facts opened runs es r in
     by_case (IsVerdict opened es r) f r (λ o. tt) (λ a. tt)
     (λ o kept unposted new room. record { new = new; room = room; unposted = unposted }) (λ x y w h.
     let z = h.tellers in

@@ -18,6 +18,7 @@ use Rattle.posting_rules.specs.believed.Entries.{facts, kept, account_balance, t
 use Rattle.posting_rules.specs.believed.Entries.{decided}
 use Rattle.posting_rules.specs.Stated.{IsDecided, IsWithin, StaysAbove, IsPosted, HasContent}
 use Rattle.posting_rules.proofs.{Keyed.by_test, Verdicts.is_above}
+use Rattle.posting_rules.specs.believed.Closings.{closings, closed, sealed}
 
 -- ---- tests, and what they mean
 
@@ -96,10 +97,10 @@ other_content k r h =
 
 module _ (before : List Command) (r : RequestFields) where
   abbrev pub verdict : Verdict
-  verdict = case_of (facts (λ b. opened before b) (decided before) r) r
+  verdict = case_of (facts (λ b. opened before b) (closings before) (decided before) r) r
 
   abbrev new_verdict : Verdict
-  new_verdict = new_case (facts (λ b. opened before b) (decided before) r) r
+  new_verdict = new_case (facts (λ b. opened before b) (closings before) (decided before) r) r
       (teller_balance (decided before) r.teller) (branch_balance (decided before) (branch_of_teller r.teller))
 
   pub no_teller : is_teller_open (λ b. opened before b) r.teller ≡ false → verdict ≡ Unkept outcome.NoTeller
@@ -112,11 +113,23 @@ module _ (before : List Command) (r : RequestFields) where
   unfolding case_of
   known k h e = rw (h, e) refl
 
-  pub new : is_teller_open (λ b. opened before b) r.teller ≡ true
-      → kept (decided before) r.teller r.number ≡ None
-      → verdict ≡ new_verdict
+  pub is_closed : is_teller_open (λ b. opened before b) r.teller ≡ true
+      → kept (decided before) r.teller r.number ≡ None → closed before r.teller r.number ≡ true
+      → verdict ≡ Unkept outcome.Closed
   unfolding case_of
-  new h e = rw (h, e) refl
+  is_closed h e c = rw (h, e, c) refl
+
+  pub is_sealed : is_teller_open (λ b. opened before b) r.teller ≡ true
+      → kept (decided before) r.teller r.number ≡ None → closed before r.teller r.number ≡ false
+      → sealed before ≡ true → verdict ≡ Unkept outcome.Sealed
+  unfolding case_of
+  is_sealed h e c s = rw (h, e, c, s) refl
+
+  pub new : is_teller_open (λ b. opened before b) r.teller ≡ true
+      → kept (decided before) r.teller r.number ≡ None → closed before r.teller r.number ≡ false
+      → sealed before ≡ false → verdict ≡ new_verdict
+  unfolding case_of
+  new h e c s = rw (h, e, c, s) refl
 
   pub full : MAX_DECIDED ≤ length (decided before) → new_verdict ≡ Unkept outcome.Full
   full h = rw (le-leb _ _ h) refl
@@ -204,7 +217,7 @@ module _ (before : List Command) (r : RequestFields) where
 
   -- a decided request is posted, or it is refused and kept
   pub decided_verdict : (bytes : List ℕ) → IsDecided before bytes r → verdict ≡ new_verdict
-  decided_verdict bytes d = new d.names.teller d.new
+  decided_verdict bytes d = new d.names.teller d.new d.unclosed d.unsealed
 
   pub posted_verdict : (bytes : List ℕ) → IsDecided before bytes r → IsPosted before r → verdict
       ≡ Posted (account_balance (decided before) r.account +ℤ r.delta)

@@ -12,6 +12,8 @@ use Rattle.posting_rules.specs.declared.judgments.Verdict.TheVariants.{Unkept, A
 abbrev pub is_unkept : Outcome → Bool
 is_unkept outcome.NoTeller = true
 is_unkept outcome.ReusedNumber = true
+is_unkept outcome.Closed = true
+is_unkept outcome.Sealed = true
 is_unkept outcome.Full = true
 is_unkept _ = false
 

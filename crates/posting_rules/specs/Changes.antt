@@ -1,8 +1,9 @@
 -- A row that is put in, and tables with a branch more.
 use Rattle.std.specs.Prelude.{ℕ, ◌≡◌}
-use Rattle.std.specs.Prelude.{Option, Some, None, IsSome}
+use Rattle.std.specs.Prelude.{Option, Some, None, IsSome, if◌then◌else◌}
 use Rattle.posting_rules.specs.believed.Tables.{Tables, branch_key, teller_key, account_key}
-use Rattle.posting_rules.specs.believed.Tables.{row_at}
+use Rattle.posting_rules.specs.believed.Tables.{row_at, closing_key}
+use Rattle.posting_rules.specs.believed.Closings.{are_free, run_of}
 use Rattle.posting_rules.specs.declared.rows.BranchRow.{BranchRow}
 use Rattle.posting_rules.specs.declared.rows.TellerRow.{TellerRow}
 use Rattle.posting_rules.specs.declared.rows.AccountRow.{AccountRow}
@@ -25,6 +26,12 @@ pub record HasRowsOf (t : Tables) (r : RequestFields) : Type 0 where
   pub teller : IsSome (row_at teller_key t.tellers r.teller)
   pub branch : IsSome (row_at branch_key t.branches r.branch)
   pub its_branch : r.branch ≡ branch_of_teller r.teller
+
+-- what a closing leaves
+abbrev pub tables_closed : Tables → ℕ → ℕ → Tables
+tables_closed t first last =
+    if are_free t.closings first last
+    then record t { closings = row_put closing_key (run_of first last) t.closings } else t
 
 -- what an opening leaves, by the row that is there
 abbrev pub opened_where : Option BranchRow → Tables → ℕ → Terms → Tables

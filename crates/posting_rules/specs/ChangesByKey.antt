@@ -64,4 +64,5 @@ pub record OpensBranch (old new : Tables) (b : ℕ) (terms : Terms) : Type 0 whe
   pub history : new.history ≡ old.history
   pub requests : new.requests ≡ old.requests
   pub references : new.references ≡ old.references
+  pub closings : new.closings ≡ old.closings
   pub floors : AddsFloor b terms.floor old.floors new.floors

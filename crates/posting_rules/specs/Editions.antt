@@ -5,7 +5,8 @@ use Rattle.std.specs.Option.{option_map}
 use Rattle.message_records.specs.declared.fault.Bad.{Bad}
 use Rattle.message_records.specs.believed.Records.{RequestFields}
 use Rattle.message_records.specs.believed.Reading.{plain_request_of, request_of}
-use Rattle.posting_rules.specs.believed.Commands.{Command, Open, Post, Terms, AreCommands, opened, opened_with}
+use Rattle.posting_rules.specs.believed.Commands.{Command, Open, Post, Close, Terms, AreCommands, opened, opened_with}
+use Rattle.posting_rules.specs.believed.Closings.{closings}
 use Rattle.posting_rules.specs.believed.Entries.{DecidedRequest, with_record, decided}
 use Rattle.posting_rules.specs.believed.Tables.{Tables, HasRows, AreTablesOf}
 
@@ -41,6 +42,7 @@ known e [] = []
 known e (Open branch terms ∷ log) = Open branch (e.terms terms) ∷ known e log
 known e (Post moment bytes ∷ log) =
     if is_ok (e.reads bytes) then Post moment bytes ∷ known e log else known e log
+known e (Close first last ∷ log) = Close first last ∷ known e log
 
 abbrev pub plain : ℕ → List Command → List Command
 plain version log = known (edition version) log
@@ -54,11 +56,13 @@ abbrev pub decided_in : Edition → List Command → List DecidedRequest
 decided_in e [] = []
 decided_in e (Open branch terms ∷ log) = decided_in e log
 decided_in e (Post moment bytes ∷ log) =
-    with_record moment (e.reads bytes) (λ b. opened_in e log b) (decided_in e log)
+    with_record moment (e.reads bytes) (λ b. opened_in e log b) (closings log) (decided_in e log)
+decided_in e (Close first last ∷ log) = decided_in e log
 
 -- the tables are those of the log in a file of the version
 pub record AreTablesIn (version : ℕ) (tables : Tables) (log : List Command) : Type 0 where
-  pub rows : HasRows tables (λ b. opened_in (edition version) log b) (decided_in (edition version) log)
+  pub rows : HasRows tables (λ b. opened_in (edition version) log b) (closings log)
+      (decided_in (edition version) log)
 
 -- the tables of a log in a file of the version are the present ones of the log with what the version knows
 abbrev pub CarriesOver : Type 0

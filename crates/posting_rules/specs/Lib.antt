@@ -8,6 +8,7 @@ pub mod Stated
 pub mod Laws
 pub mod Damage
 pub mod Counter
+pub mod Closings
 pub mod Resends
 pub mod Changes
 pub mod Sound

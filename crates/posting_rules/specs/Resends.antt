@@ -1,7 +1,7 @@
 -- Records that come again, where no branch was opened since.
 use Rattle.std.specs.Prelude.{◌≡◌, ◌⊎◌, ℕ, List, [], ◌∷◌, ◌++◌, length, get_or}
 use Rattle.message_records.specs.believed.Spelling.{reply_spelling}
-use Rattle.posting_rules.specs.believed.Commands.{Command, Open, Post, AreCommands}
+use Rattle.posting_rules.specs.believed.Commands.{Command, Open, Post, Close, AreCommands}
 use Rattle.posting_rules.specs.believed.Entries.{reply, decided}
 use Rattle.posting_rules.specs.believed.Tables.{Tables, AreTablesOf}
 use Rattle.posting_rules.specs.believed.Runs.{followed_by, replies_to, ArePosts}
@@ -17,6 +17,7 @@ pub record Place (bytes : List ℕ) (commands : List Command) : Type 0 where
 abbrev pub Skips : List Command → List Command → List Command → Type 0
 Skips p [] kept = kept ≡ []
 Skips p (Open branch terms ∷ r) kept = ⊥
+Skips p (Close first last ∷ r) kept = ⊥
 Skips p (Post moment bytes ∷ r) kept = (Place bytes p × Skips p r kept) ⊎
     ((others : List Command) × (kept ≡ Post moment bytes ∷ others) × Skips p r others)
 

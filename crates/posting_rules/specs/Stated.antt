@@ -9,6 +9,7 @@ use Rattle.message_records.specs.declared.fault.Bad.{Bad}
 use Rattle.message_records.specs.believed.Records.{RequestFields, ReplyFields, unreferenced}
 use Rattle.message_records.specs.believed.Reading.{request_of}
 use Rattle.posting_rules.specs.believed.Commands.{Command, Post, opened, is_teller_open, is_account_open, floor_of}
+use Rattle.posting_rules.specs.believed.Closings.{closed, sealed}
 use Rattle.posting_rules.specs.believed.Numbering.{branch_of_teller, branch_of_account}
 use Rattle.posting_rules.specs.believed.Kept.{KeptFields}
 use Rattle.posting_rules.specs.believed.Cases.{balance_shown}
@@ -20,11 +21,13 @@ pub record Names (before : List Command) (bytes : List ℕ) (r : RequestFields) 
   pub read : request_of bytes ≡ Ok r
   pub teller : is_teller_open (λ b. opened before b) r.teller ≡ true
 
--- a record is decided where it names a request, nothing is kept under the teller and number, and there is
--- room
+-- a record is decided where it names a request, nothing is kept under the teller and number, no closed books
+-- decided that number, these books aren't sealed, and there is room
 pub record IsDecided (before : List Command) (bytes : List ℕ) (r : RequestFields) : Type 0 where
   pub names : Names before bytes r
   pub new : kept (decided before) r.teller r.number ≡ None
+  pub unclosed : closed before r.teller r.number ≡ false
+  pub unsealed : sealed before ≡ false
   pub room : length (decided before) < MAX_DECIDED
 
 abbrev pub IsWithin : ℤ → Type 0
@@ -96,7 +99,14 @@ pub record RepliesAsStated (before : List Command) (bytes : List ℕ) : Type 0 w
   pub reused_number : (r : RequestFields) (k : KeptFields) → Names before bytes r
       → kept (decided before) r.teller r.number ≡ Some k → (HasContent k r → ⊥)
       → reply before bytes ≡ refusal outcome.ReusedNumber r
+  pub closed_number : (r : RequestFields) → Names before bytes r → kept (decided before) r.teller r.number ≡ None
+      → closed before r.teller r.number ≡ true
+      → reply before bytes ≡ refusal outcome.Closed r
+  pub sealed_books : (r : RequestFields) → Names before bytes r → kept (decided before) r.teller r.number ≡ None
+      → closed before r.teller r.number ≡ false → sealed before ≡ true
+      → reply before bytes ≡ refusal outcome.Sealed r
   pub full : (r : RequestFields) → Names before bytes r → kept (decided before) r.teller r.number ≡ None
+      → closed before r.teller r.number ≡ false → sealed before ≡ false
       → MAX_DECIDED ≤ length (decided before)
       → reply before bytes ≡ refusal outcome.Full r
   pub wrong_branch : (r : RequestFields) → IsDecided before bytes r → r.branch ≢ branch_of_teller r.teller

@@ -1,5 +1,6 @@
 pub mod Numbering
 pub mod Commands
+pub mod Closings
 pub mod Kept
 pub mod Cases
 pub mod Entries
@@ -8,6 +9,7 @@ pub mod LookUps
 pub mod Damage
 pub mod Runs
 pub mod Laws
+pub mod ClosedBooks
 pub mod Counter
 pub mod AnyTables
 pub mod Changes

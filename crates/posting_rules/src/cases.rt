@@ -4,7 +4,7 @@ ghost use Rattle.posting_rules.specs.believed.Cases.{account_case, case_of, is_b
 ghost use Rattle.posting_rules.specs.Cases.{IsProper};
 ghost use Rattle.posting_rules.specs.believed.Entries.{malformed_reply};
 
-use crate::judgments::{Found, Verdict};
+use crate::judgments::{Books, Found, Verdict};
 use crate::limits::MAX_DECIDED;
 use crate::numbering::branch_of_teller;
 use message_records::{Cents, Outcome, Reply, Request};
@@ -43,6 +43,11 @@ pub fn judge(found: &Found, request: &Request) -> Verdict
         } else {
             Verdict::Unkept(Outcome::ReusedNumber)
         };
+    }
+    match found.books {
+        Books::Closed => return Verdict::Unkept(Outcome::Closed),
+        Books::Sealed => return Verdict::Unkept(Outcome::Sealed),
+        Books::Current => (),
     }
     if found.decided >= MAX_DECIDED {
         return Verdict::Unkept(Outcome::Full);

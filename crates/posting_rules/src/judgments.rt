@@ -62,7 +62,12 @@ impl Decision {
             Outcome::Posted => true,
             Outcome::WrongBranch | Outcome::NoAccount | Outcome::BelowFloor | Outcome::OverLimit =>
                 balance.get() == 0,
-            Outcome::NoTeller | Outcome::ReusedNumber | Outcome::Full | Outcome::Malformed => false,
+            Outcome::NoTeller
+            | Outcome::ReusedNumber
+            | Outcome::Closed
+            | Outcome::Sealed
+            | Outcome::Full
+            | Outcome::Malformed => false,
         };
         if belongs {
             Some(Decision {
@@ -216,6 +221,17 @@ fn is_same_reference(one: &Option<Reference>, other: &Option<Reference>) -> bool
     }
 }
 
+/// What closed books say of a request that these books don't keep.
+#[derive(Clone, Copy, Debug, PartialEq, Eq)]
+pub enum Books {
+    /// Nothing: it is for these books to decide.
+    Current,
+    /// Its number was decided in closed books.
+    Closed,
+    /// These books are sealed, and decide nothing more.
+    Sealed,
+}
+
 /// What is looked up for a request.
 #[derive(Clone, Copy, Debug)]
 pub struct Found {
@@ -224,6 +240,8 @@ pub struct Found {
     pub teller: Option<(Cents, Cents)>,
     /// The request that is kept under the teller and the number.
     pub kept: Option<Kept>,
+    /// What closed books say of the teller's number.
+    pub books: Books,
     /// How many requests are decided: 0..=`MAX_DECIDED`.
     pub decided: u64,
     /// The balance of the account in cents, where it is open.
@@ -236,7 +254,7 @@ pub struct Found {
 #[derive(Clone, Copy, Debug, PartialEq, Eq)]
 #[must_use]
 pub enum Verdict {
-    /// It is refused, and leaves no trace: `NoTeller`, `ReusedNumber` or `Full`.
+    /// It is refused, and leaves no trace: `NoTeller`, `ReusedNumber`, `Closed`, `Sealed` or `Full`.
     Unkept(Outcome),
     /// It was decided before, and gets the reply that it got.
     Again(Reply),

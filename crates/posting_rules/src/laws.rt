@@ -9,6 +9,7 @@ ghost use Rattle.posting_rules.specs.Damage.{TablesAreUndamaged};
 ghost use Rattle.posting_rules.specs.Resends.{RepliesAgain, RepliesInPlace, AddsOnce, KeepsCommands};
 ghost use Rattle.posting_rules.specs.Editions.{CarriesOver, PlainAreCommands, HasNoFloors, HasNoReferences};
 ghost use Rattle.posting_rules.specs.Editions.{IsPresent};
+ghost use Rattle.posting_rules.specs.believed.ClosedBooks.{SealedDecidesNothing, SealsAlone, StillCarries, TwoYears};
 
 /// Which records are decided, which of them are posted, and what is replied, said case by case.
 pub fn cases_are_as_stated()
@@ -58,6 +59,20 @@ pub fn resends_get_their_replies()
     ensures in_place { RepliesInPlace }
     ensures tables { AddsOnce }
     ensures commands { KeepsCommands }
+{}
+
+/// Sealed books stay sealed and decide nothing more: what they keep gets its first reply, and anything else of an open
+/// teller is refused, as closed or as sealed. A seal changes nothing else.
+pub fn sealed_law()
+    ensures sealed { SealedDecidesNothing }
+    ensures alone { SealsAlone }
+{}
+
+/// New books that carry on sealed ones answer whatever comes as one bank would that never closed its books, but for numbers
+/// that the old books used, which are refused for good. The balances stay those of the one bank.
+pub fn two_years_law()
+    ensures places { TwoYears }
+    ensures still { StillCarries }
 {}
 
 /// The tables of a log in a file of an earlier version are the present tables of what that version knew of the

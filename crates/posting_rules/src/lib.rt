@@ -6,7 +6,7 @@
 //!
 //! ```rust
 //! use message_records::{Account, Branch, Cents, Number, Request, Teller};
-//! use posting_rules::{Found, Verdict, judge, reply_to};
+//! use posting_rules::{Books, Found, Verdict, judge, reply_to};
 //!
 //! pub fn first_verdict(balance: Option<Cents>) -> (Verdict, Option<Cents>) {
 //!     let (account, teller) = (Account::new(1).unwrap(), Teller::new(1).unwrap());
@@ -16,6 +16,7 @@
 //!     let found = Found {
 //!         teller: Some((zero, zero)), // the balances of the teller and of its branch
 //!         kept: None,
+//!         books: Books::Current,
 //!         decided: 0,
 //!         account: balance,
 //!         floor: None,
@@ -34,6 +35,7 @@
 #![tactic(auto)]
 
 mod cases;
+mod closed_numbers;
 mod counter;
 mod fault;
 mod judgments;
@@ -44,22 +46,24 @@ mod open_fault;
 mod rows;
 
 pub use cases::{judge, malformed_reply, reply_to};
+pub use closed_numbers::{Closing, books_of, closing_for};
 pub use counter::{BranchLine, Counter, Opening};
 pub use fault::{Fault, Rule};
-pub use judgments::{Decision, Found, Kept, Verdict};
+pub use judgments::{Books, Decision, Found, Kept, Verdict};
 pub use laws::{
     accounts_stay_above, balances_stay_within, cases_are_as_stated, each_request_once,
-    earlier_versions_carry_over, equal_tables_answer_alike, resends_get_their_replies,
-    tables_are_consistent, tables_are_undamaged,
+    earlier_versions_carry_over, equal_tables_answer_alike, resends_get_their_replies, sealed_law,
+    tables_are_consistent, tables_are_undamaged, two_years_law,
 };
 pub use limits::{
-    ACCOUNTS_PER_BRANCH, LAST_BRANCH, MAX_ACCOUNTS, MAX_DECIDED, RECORDS_PER_BATCH,
-    TELLERS_PER_BRANCH,
+    ACCOUNTS_PER_BRANCH, LAST_BRANCH, MAX_ACCOUNTS, MAX_DECIDED, NUMBERS_PER_TELLER,
+    RECORDS_PER_BATCH, TELLERS_PER_BRANCH,
 };
 pub use numbering::{
-    branch_of_account, branch_of_teller, first_account, first_teller, place_of_account,
+    branch_of_account, branch_of_teller, first_account, first_teller, number_key, place_of_account,
 };
 pub use open_fault::{BankTable, OpenFault};
 pub use rows::{
-    AccountRow, BranchRow, FloorRow, HistoryRow, Ordinal, ReferenceRow, RequestRow, TellerRow,
+    AccountRow, BranchRow, ClosingRow, FloorRow, HistoryRow, Ordinal, ReferenceRow, RequestRow,
+    TellerRow,
 };

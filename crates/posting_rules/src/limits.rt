@@ -12,6 +12,9 @@ pub const TELLERS_PER_BRANCH: u64 = 10;
 /// How many numbers of accounts a branch has, numbered through (the scaling of TPC-B).
 pub const ACCOUNTS_PER_BRANCH: u64 = 100_000;
 
+/// How many numbers a teller has for its requests, with the 0 that none of them has.
+pub const NUMBERS_PER_TELLER: u64 = 10_000_000_000;
+
 /// How many accounts a branch can be opened with.
 pub const MAX_ACCOUNTS: u32 = ACCOUNTS_PER_BRANCH as u32;
 

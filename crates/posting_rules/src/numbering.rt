@@ -4,9 +4,11 @@ ghost use Rattle.std.specs.Prelude.{◌≡◌, ◌≤◌};
 ghost use Rattle.message_records.specs.declared.limits.TheConstants.{MAX_BRANCH};
 ghost use Rattle.posting_rules.specs.believed.Numbering.{first_teller, first_account, branch_of_teller};
 ghost use Rattle.posting_rules.specs.believed.Numbering.{branch_of_account, place_of_account};
+ghost use Rattle.message_records.specs.declared.limits.TheConstants.{MAX_NUMBER, MAX_TELLER};
+ghost use Rattle.posting_rules.specs.believed.Commands.{number_key};
 
-use crate::limits::{ACCOUNTS_PER_BRANCH, TELLERS_PER_BRANCH};
-use message_records::{Account, Branch, Teller};
+use crate::limits::{ACCOUNTS_PER_BRANCH, NUMBERS_PER_TELLER, TELLERS_PER_BRANCH};
+use message_records::{Account, Branch, Number, Teller};
 
 /// The number of a branch's first teller. The branch has `TELLERS_PER_BRANCH` of them in a row.
 #[must_use]
@@ -51,4 +53,14 @@ pub fn place_of_account(account: Account) -> u64
     ensures { result ≡ place_of_account account }
 {
     (account.get() - 1) % ACCOUNTS_PER_BRANCH + 1
+}
+
+/// The key of a teller's number among the numbers of all tellers.
+#[must_use]
+pub fn number_key(teller: Teller, number: Number) -> u64
+    ensures value { result ≡ number_key teller number }
+    ensures teller { (1 ≤ teller) × (teller ≤ MAX_TELLER) }
+    ensures number { (1 ≤ number) × (number ≤ MAX_NUMBER) }
+{
+    NUMBERS_PER_TELLER * teller.get() + number.get()
 }

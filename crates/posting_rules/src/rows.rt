@@ -146,6 +146,16 @@ pub struct FloorRow {
     pub lowest: Cents,
 }
 
+/// Numbers that closed books decided, from one key to another, under the last key. The row from 0 to 0 seals the
+/// books.
+#[derive(Clone, Copy, Debug)]
+pub struct ClosingRow {
+    /// The key of the last number.
+    pub last: u64,
+    /// The key of the first number.
+    pub first: u64,
+}
+
 /// The reference of a decided request, under the request's ordinal. A request without a row has none.
 #[derive(Clone, Copy, Debug)]
 pub struct ReferenceRow {

@@ -5,7 +5,7 @@ use Rattle.std.specs.{Prelude.IfOk, Prelude.IfSome, Simd.first_chunks}
 use Rattle.std.proofs.{Math.Seq.take-append-add, lemmas.Bool.Decides.leb_tells}
 use Rattle.std.proofs.lemmas.List.{length-append, length-take-le, take-append-drop, take-append-le, take_all}
 use Rattle.message_records.specs.believed.{Reading.request_of}
-use Rattle.posting_rules.specs.believed.{Commands.AreCommands, Commands.Command, Commands.Open, Commands.Post, Commands.opened}
+use Rattle.posting_rules.specs.believed.{Commands.AreCommands, Commands.Command, Commands.Open, Commands.Post, Commands.Close, Commands.opened}
 use Rattle.posting_rules.specs.believed.{Entries.decided, Runs.followed_by, Tables.AreTablesOf}
 use Rattle.posting_rules.specs.believed.Counter.{Seen, ShowsLog, Takes}
 use Rattle.posting_rules.proofs.{CounterCalls.Takes-append, CounterCalls.takes_none, Sequence.after-append}
@@ -21,6 +21,7 @@ use Rattle.shared_log.specs.declared.joining.JoinFault.{JoinFault}
 use Rattle.shared_log.specs.declared.replicated.Replicated.{Replicated}
 use Rattle.shared_log.proofs.{Entries.record_grows, Same.leaves_up}
 use Rattle.shared_log.proofs.Appends.{cut_given}
+use Rattle.posting_rules.specs.believed.Closings.{closings}
 
 -- ---- what is asked at a place
 
@@ -106,8 +107,10 @@ pub commands_grow : (cs log : List Command) → More (log_entries log) (log_entr
 commands_grow [] log = record { added = []; are = sym (append-nil (log_entries log)) }
 commands_grow (Open b terms ∷ cs) log =
     let more = commands_grow cs (Open b terms ∷ log) in record { added = more.added; are = more.are }
+commands_grow (Close first last ∷ cs) log =
+    let more = commands_grow cs (Close first last ∷ log) in record { added = more.added; are = more.are }
 commands_grow (Post m bytes ∷ cs) log =
-    let one = record_grows (λ b. opened log b) (decided log) m (request_of bytes) in
+    let one = record_grows (λ b. opened log b) (closings log) (decided log) m (request_of bytes) in
     let more = commands_grow cs (Post m bytes ∷ log) in
     record {
       added = one.added ++ more.added;

@@ -21,6 +21,8 @@ use Rattle.posting_rules.proofs.SoundEntries.{AreSound, are_sound}
 use Rattle.posting_core.specs.Standing.{StandsUnder}
 use Rattle.posting_core.specs.believed.LogEntries.{AnsweredRequest, answered_of, each_answered, entries_of, entry_of, log_entries}
 use Rattle.posting_core.proofs.LogPlaces.{entry_at, length-entries}
+use Rattle.posting_rules.specs.declared.rows.ClosingRow.{ClosingRow}
+use Rattle.posting_rules.specs.believed.Closings.{closings}
 
 -- ---- how long
 
@@ -145,16 +147,16 @@ verdict_grows es m r (Again y) = record { added = []; are = sym (append-nil _); 
 verdict_grows es m r (Refused o) = record { added = _; are = entries_more _ es; few = omega arith }
 verdict_grows es m r (Posted x y z) = record { added = _; are = entries_more _ es; few = omega arith }
 
-pub record_grows : (opened : ℕ → Option Terms) (es : List DecidedRequest) (m : ℕ) (read : Result RequestFields Bad)
-    → Grows (entries_of (each_answered es)) (entries_of (each_answered (with_record m read opened es))) 1
-record_grows opened es m (Err f) = record { added = []; are = sym (append-nil _); few = omega arith }
-record_grows opened es m (Ok r) = verdict_grows es m r (case_of (facts opened es r) r)
+pub record_grows : (opened : ℕ → Option Terms) (runs : List ClosingRow) (es : List DecidedRequest) (m : ℕ) (read : Result RequestFields Bad)
+    → Grows (entries_of (each_answered es)) (entries_of (each_answered (with_record m read opened runs es))) 1
+record_grows opened runs es m (Err f) = record { added = []; are = sym (append-nil _); few = omega arith }
+record_grows opened runs es m (Ok r) = verdict_grows es m r (case_of (facts opened runs es r) r)
 
 pub posts_grow : (m : ℕ) (records : List (List ℕ)) (log : List Command)
     → Grows (log_entries log) (log_entries (followed_by log (posts m records))) (length records)
 posts_grow m [] log = record { added = []; are = sym (append-nil _); few = omega arith }
 posts_grow m (bytes ∷ records) log =
-    let one = record_grows (λ b. opened log b) (decided log) m (request_of bytes) in
+    let one = record_grows (λ b. opened log b) (closings log) (decided log) m (request_of bytes) in
     let more = posts_grow m records (Post m bytes ∷ log) in
     record {
       added = one.added ++ more.added;

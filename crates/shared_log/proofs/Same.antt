@@ -17,6 +17,7 @@ rows_alike t u log other one two is = record {
     requests = λ o. two.rows.requests o ∙ sym (one.rows.requests o) ∙ is.rows.requests o;
     floors = λ b. two.rows.floors b ∙ sym (one.rows.floors b) ∙ is.rows.floors b;
     references = λ o. two.rows.references o ∙ sym (one.rows.references o) ∙ is.rows.references o;
+    closings = λ x. two.rows.closings x ∙ sym (one.rows.closings x) ∙ is.rows.closings x;
     branch_keys = two.rows.branch_keys;
     teller_keys = two.rows.teller_keys;
     account_keys = two.rows.account_keys;
@@ -24,6 +25,7 @@ rows_alike t u log other one two is = record {
     request_keys = two.rows.request_keys;
     floor_keys = two.rows.floor_keys;
     reference_keys = two.rows.reference_keys;
+    closing_keys = two.rows.closing_keys;
   };
 }
 

@@ -162,12 +162,14 @@ tables_in (a ∷ b ∷ c ∷ d ∷ e ∷ f ∷ g ∷ h ∷ more) = record {
   requests = map request_in f;
   floors = map floor_in g;
   references = map reference_in h;
+  closings = [];
 }
 tables_in _ = new_tables
 
-tables_back : (t : Tables) → tables_in (contents t) ≡ t
+tables_back : (t : Tables) → t.closings ≡ [] → tables_in (contents t) ≡ t
 unfolding tables_in decided_in
-tables_back t = rw (
+tables_back t current = rw (
+  current,
   all_back branch_entry branch_in (λ _. refl) t.branches,
   all_back teller_entry teller_in (λ _. refl) t.tellers,
   all_back account_entry account_in (λ _. refl) t.accounts,
@@ -192,8 +194,8 @@ each_once db (t ∷ tables) (x ∷ xs) (y ∷ ys) p q =
     let one = entries_once db t x y p.0 q.0 in let rest = each_once db tables xs ys p.1 q.1 in cc
 
 one_database : (db : Database) (a b : Tables) → Shows db a → Shows db b → a ≡ b
-one_database db a b p q = sym (tables_back a)
-    ∙ ap tables_in (each_once db bank_tables (contents a) (contents b) p.each q.each) ∙ tables_back b
+one_database db a b p q = sym (tables_back a p.current)
+    ∙ ap tables_in (each_once db bank_tables (contents a) (contents b) p.each q.each) ∙ tables_back b q.current
 
 -- what a connection shows its trees show
 pub to_trees : (db : Database) (t : Tables) → Shows db t → ShowsTrees db.trees t

@@ -36,6 +36,7 @@ pub record Kind (R : Type 0) : Type 0 where
   pub replaced : (t : Tables) (rs : List R)
       → slice_set (contents t) place (map entry rs) ≡ contents (having rs t)
   pub again : (t : Tables) (rs : List R) → rows (having rs t) ≡ rs
+  pub closings : (t : Tables) (rs : List R) → (having rs t).closings ≡ t.closings
   pub is_plain : IsPlain (uncounted table)
 
 -- the names of its key, of its columns of numbers and of those of texts after them
@@ -55,13 +56,14 @@ abbrev pub kind_of : {R : Type 0} (place : ℕ) (table : Table) (key : R → ℕ
     → slice_get bank_tables place ≡ Some (uncounted table)
     → ((t : Tables) → slice_get (contents t) place ≡ Some (map entry (rows t)))
     → ((t : Tables) (rs : List R) → slice_set (contents t) place (map entry rs) ≡ contents (having rs t))
-    → ((t : Tables) (rs : List R) → rows (having rs t) ≡ rs) → table.references ≡ []
+    → ((t : Tables) (rs : List R) → rows (having rs t) ≡ rs)
+    → ((t : Tables) (rs : List R) → (having rs t).closings ≡ t.closings) → table.references ≡ []
     → table.key ≡ Some 0 → table.computed ≡ []
     → width_of table ≡ (length (number_names table), length (text_names table))
     → length (number_names table) + length (text_names table) ≤ 1999
     → table.columns ≡ key_column (key_name table)
     ∷ (map number_column (number_names table) ++ map text_column (text_names table)) → Kind R
-kind_of place table key entry rows having keyed listed has replaced again free at_first uncomputed wide narrow
+kind_of place table key entry rows having keyed listed has replaced again closings free at_first uncomputed wide narrow
     columns = record {
       place = place;
       table = table;
@@ -74,6 +76,7 @@ kind_of place table key entry rows having keyed listed has replaced again free a
       has = has;
       replaced = replaced;
       again = again;
+      closings = closings;
       is_plain = record {
         free = free;
         keyed = at_first;
@@ -112,6 +115,7 @@ module _ {R : Type 0} (kind : Kind R) where
     each = subst (HoldsEach new.now bank_tables) (kind.replaced t rs)
         (one_written old new table kind.is_plain.free (map kind.entry (kind.rows t)) (map kind.entry rs)
         (holds old.now t shows) left bank_tables (contents t) refl shows.each kind.place kind.listed);
+    current = kind.closings t rs ∙ shows.current;
   }
 
   pub shows_rows : (t : Tables) (rs : List R) (db : Database) → Shows db (kind.having rs t)

@@ -94,6 +94,7 @@ new_tables = record {
   requests = [];
   floors = [];
   references = [];
+  closings = [];
 }
 
 -- the first row is there, and every table but meta is as it was; or why the row can't be put in

@@ -28,6 +28,7 @@ use Rattle.store_rows.specs.declared.migration.TheConstants.{EARLIEST}
 pub record HoldsTables (written : ℤ) (db : Database) (t : Tables) : Type 0 where
   pub sound : ∥ IsDatabase db ∥₁
   pub each : HoldsEach db bank_tables ((meta_entry written t.decided ∷ []) ∷ rows_of t)
+  pub current : t.closings ≡ []
 
 -- the versions before this one, of which a file is carried over
 abbrev pub IsEarlier : ℕ → Type 0

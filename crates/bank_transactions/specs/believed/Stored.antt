@@ -1,6 +1,6 @@
 -- What a look-up, a posting, a batch and an opening answer of whatever rows a file holds, be they a bank's or
 -- not.
-use Rattle.std.specs.Prelude.{◌≡◌, ◌≢◌, ℕ, ℤ, pos, find, length, List, Option, Some, None, IsSome, Result, Ok, Err, ⊤}
+use Rattle.std.specs.Prelude.{◌≡◌, ◌≢◌, ℕ, ℤ, pos, find, length, List, [], Option, Some, None, IsSome, Result, Ok, Err, ⊤}
 use Rattle.std.specs.List.{AllByRecursion}
 use Rattle.sqlite.specs.Effect.{Database}
 use Rattle.message_records.specs.believed.Reading.{request_of}
@@ -32,6 +32,7 @@ use Rattle.store_rows.specs.believed.Stored.{FindsStored}
 use Rattle.store_rows.specs.believed.View.{Shows}
 use Rattle.posting_batch.specs.believed.Batch.{HasFreeOrdinals}
 use Rattle.bank_transactions.specs.believed.Batches.{DecidesNone}
+use Rattle.posting_rules.specs.declared.judgments.Books.TheVariants.{Current}
 
 -- the balance that the account's row has, none where it has no row; and it has one just where its branch's
 -- count says so
@@ -107,6 +108,8 @@ pub record IsStoredFound (db : Database) (r : RequestFields) (found : Found) : T
   pub kept : OfRows (λ rows. HoldsKept rows r.teller r.number found.kept) db
   pub decided : OfRows (λ rows. HoldsDecided rows found.decided) db
   pub shown : ShowsKept db r.teller r.number found.kept
+  -- so far a file knows of no closed books
+  pub current : found.books ≡ Current
 
 -- the reply is that of the case which applies to what the rows hold; where the request is kept, all is as it was
 pub record RepliesToStored (old new : Database) (r : RequestFields) (reply : List ℕ) : Type 0 where
@@ -172,5 +175,6 @@ pub record RepliesToAllStored (old new : Database) (moment : ℕ) (records repli
   pub stored : OfRows (λ rows. AllByRecursion (λ bytes. HasRead rows tables (request_of bytes)) records
       × HoldsDecided rows tables.decided) old
   pub free : HasFreeOrdinals tables (length records)
+  pub current : tables.closings ≡ []
   pub are : replies ≡ replies_past_all tables moment records
   pub stays : DecidesNone tables moment records → new ≡ old

@@ -1,6 +1,6 @@
 //! The first program of `posting_rules`.
 use message_records::{Account, Branch, Cents, Number, Request, Teller};
-use posting_rules::{Found, Verdict, judge, reply_to};
+use posting_rules::{Books, Found, Verdict, judge, reply_to};
 
 pub fn first_verdict(balance: Option<Cents>) -> (Verdict, Option<Cents>) {
     let (account, teller) = (Account::new(1).unwrap(), Teller::new(1).unwrap());
@@ -10,6 +10,7 @@ pub fn first_verdict(balance: Option<Cents>) -> (Verdict, Option<Cents>) {
     let found = Found {
         teller: Some((zero, zero)), // the balances of the teller and of its branch
         kept: None,
+        books: Books::Current,
         decided: 0,
         account: balance,
         floor: None,

@@ -3,7 +3,7 @@ use Rattle.std.specs.Prelude.{◌≡◌, ◌≤◌, ◌+◌, ℕ, zero, suc, Lis
 use Rattle.std.specs.Prelude.{if◌then◌else◌}
 use Rattle.message_records.specs.believed.Outcomes.{has_balance}
 use Rattle.message_records.specs.believed.Spelling.{request_spelling}
-use Rattle.posting_rules.specs.believed.Commands.{Command, Open, Post, opened, Terms}
+use Rattle.posting_rules.specs.believed.Commands.{Command, Open, Post, Close, opened, Terms}
 use Rattle.posting_rules.specs.believed.Entries.{reply}
 use Rattle.posting_core.specs.believed.Batches.{Batch}
 use Rattle.branch_loader.specs.believed.Plans.{Rows}
@@ -52,5 +52,6 @@ AreFull (batch ∷ batches) = IsFull batch batches × AreFull batches
 unfoldable pub posted_among : List Command → List Command → ℕ
 posted_among log [] = 0
 posted_among log (Open branch count ∷ commands) = posted_among (Open branch count ∷ log) commands
+posted_among log (Close first last ∷ commands) = posted_among (Close first last ∷ log) commands
 posted_among log (Post moment bytes ∷ commands) =
     (if has_balance (reply log bytes).outcome then 1 else 0) + posted_among (Post moment bytes ∷ log) commands

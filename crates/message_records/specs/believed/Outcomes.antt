@@ -4,7 +4,7 @@ use Rattle.std.specs.List.{find}
 use Rattle.message_records.specs.declared.records.Outcome.{Outcome}
 use Rattle.message_records.specs.declared.records.Outcome.TheVariants.{Posted, NoTeller, WrongBranch}
 use Rattle.message_records.specs.declared.records.Outcome.TheVariants.{NoAccount, BelowFloor, OverLimit}
-use Rattle.message_records.specs.declared.records.Outcome.TheVariants.{ReusedNumber, Full, Malformed}
+use Rattle.message_records.specs.declared.records.Outcome.TheVariants.{ReusedNumber, Closed, Sealed, Full, Malformed}
 
 abbrev pub code_of : Outcome → ℕ
 code_of Posted = 0
@@ -14,12 +14,15 @@ code_of NoAccount = 13
 code_of BelowFloor = 17
 code_of OverLimit = 14
 code_of ReusedNumber = 15
+code_of Closed = 18
+code_of Sealed = 19
 code_of Full = 16
 code_of Malformed = 90
 
 -- all of them
 abbrev pub outcomes : List Outcome
-outcomes = Posted ∷ NoTeller ∷ WrongBranch ∷ NoAccount ∷ BelowFloor ∷ OverLimit ∷ ReusedNumber ∷ Full ∷ Malformed ∷ []
+outcomes = Posted ∷ NoTeller ∷ WrongBranch ∷ NoAccount ∷ BelowFloor ∷ OverLimit ∷ ReusedNumber ∷ Closed ∷ Sealed ∷ Full ∷
+    Malformed ∷ []
 
 -- the outcome that has this code
 abbrev pub outcome_with : ℕ → Option Outcome
@@ -33,6 +36,8 @@ name_of NoAccount = codes "NO ACCOUNT"
 name_of BelowFloor = codes "BELOW FLOOR"
 name_of OverLimit = codes "OVER LIMIT"
 name_of ReusedNumber = codes "REUSED NUMBER"
+name_of Closed = codes "CLOSED"
+name_of Sealed = codes "SEALED"
 name_of Full = codes "FULL"
 name_of Malformed = codes "MALFORMED"
 

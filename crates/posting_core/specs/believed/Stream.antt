@@ -11,7 +11,7 @@ use Rattle.posting_rules.specs.declared.fault.Fault.TheVariants.{Memory, Down}
 use Rattle.posting_rules.specs.declared.limits.TheConstants.{RECORDS_PER_BATCH}
 use Rattle.posting_core.specs.declared.stream.StreamFault.{StreamFault}
 use Rattle.posting_core.specs.declared.stream.StreamFault.TheVariants.{Truncated, Read, Write, Bank}
-use Rattle.posting_rules.specs.believed.Commands.{Command, Open, Post}
+use Rattle.posting_rules.specs.believed.Commands.{Command, Open, Post, Close}
 use Rattle.posting_rules.specs.believed.Counter.{Seen, ShowsLog, LeavesOnly, StandsAt, ShowsPrefix, Takes, Refuses}
 use Rattle.posting_rules.specs.believed.AnyTables.{HasRoom}
 use Rattle.posting_rules.specs.believed.Runs.{followed_by, replies_to, ArePosts}
@@ -115,6 +115,7 @@ whole_records bytes = first_chunks REQUEST_BYTES (length bytes / REQUEST_BYTES) 
 abbrev pub posted_records : List Command → List (List ℕ)
 posted_records [] = []
 posted_records (Open branch terms ∷ cs) = posted_records cs
+posted_records (Close first last ∷ cs) = posted_records cs
 posted_records (Post moment bytes ∷ cs) = bytes ∷ posted_records cs
 
 -- how many replies, written one after another, had a byte accepted when so many bytes were: a writer may take a

@@ -9,6 +9,8 @@ use Rattle.message_records.specs.declared.records.Outcome.{Outcome}
 use Rattle.message_records.specs.declared.records.Outcome.TheVariants as outcome
 use Rattle.message_records.specs.believed.Ranges.{cents_within}
 use Rattle.message_records.specs.believed.Records.{RequestFields, ReplyFields, unreferenced}
+use Rattle.posting_rules.specs.declared.judgments.Books.{Books}
+use Rattle.posting_rules.specs.declared.judgments.Books.TheVariants.{Current, Closed, Sealed}
 use Rattle.posting_rules.specs.declared.judgments.Found.{Found}
 use Rattle.posting_rules.specs.declared.judgments.Verdict.{Verdict}
 use Rattle.posting_rules.specs.declared.judgments.Verdict.TheVariants.{Unkept, Again, Refused, Posted}
@@ -64,8 +66,14 @@ new_case f r teller branch =
     else if r.branch == branch_of_teller r.teller then account_case f.account f.floor teller branch r.delta
     else Refused outcome.WrongBranch
 
+-- closed books have decided it, or these books decide nothing more
+abbrev pub books_case : Books → Found → RequestFields → ℤ → ℤ → Verdict
+books_case Closed f r teller branch = Unkept outcome.Closed
+books_case Sealed f r teller branch = Unkept outcome.Sealed
+books_case Current f r teller branch = new_case f r teller branch
+
 abbrev pub known_case : Option KeptFields → Found → RequestFields → ℤ → ℤ → Verdict
-known_case None f r teller branch = new_case f r teller branch
+known_case None f r teller branch = books_case f.books f r teller branch
 known_case (Some k) f r teller branch = if is_same k r then Again
     (kept_reply k r) else Unkept outcome.ReusedNumber
 

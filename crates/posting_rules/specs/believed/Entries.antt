@@ -12,8 +12,10 @@ use Rattle.message_records.specs.believed.Reading.{request_of}
 use Rattle.posting_rules.specs.declared.judgments.Found.{Found}
 use Rattle.posting_rules.specs.declared.judgments.Verdict.{Verdict}
 use Rattle.posting_rules.specs.declared.judgments.Verdict.TheVariants.{Unkept, Again, Refused, Posted}
-use Rattle.posting_rules.specs.believed.Commands.{Command, Open, Post, opened, is_teller_open, Terms, is_account_open}
-use Rattle.posting_rules.specs.believed.Commands.{floor_of}
+use Rattle.posting_rules.specs.declared.rows.ClosingRow.{ClosingRow}
+use Rattle.posting_rules.specs.believed.Commands.{Command, Open, Post, Close, opened, is_teller_open, Terms}
+use Rattle.posting_rules.specs.believed.Commands.{is_account_open, floor_of}
+use Rattle.posting_rules.specs.believed.Closings.{closings, books_of}
 use Rattle.posting_rules.specs.believed.Numbering.{branch_of_teller, branch_of_account}
 use Rattle.posting_rules.specs.believed.Kept.{DecisionFields, KeptFields}
 use Rattle.posting_rules.specs.believed.Cases.{case_of, reply_in}
@@ -62,11 +64,12 @@ abbrev pub kept : List DecidedRequest → ℕ → ℕ → Option KeptFields
 kept es t n = option_map kept_fields (find (λ e. (e.request.teller == t) && (e.request.number == n)) es)
 
 -- what is known where a request comes in
-abbrev pub facts : (ℕ → Option Terms) → List DecidedRequest → RequestFields → Found
-facts opened es r = record {
+abbrev pub facts : (ℕ → Option Terms) → List ClosingRow → List DecidedRequest → RequestFields → Found
+facts opened runs es r = record {
   teller = if is_teller_open opened r.teller then Some
       (teller_balance es r.teller, branch_balance es (branch_of_teller r.teller)) else None;
   kept = kept es r.teller r.number;
+  books = books_of runs r.teller r.number;
   decided = length es;
   account = if is_account_open opened r.account then Some (account_balance es r.account) else None;
   floor = floor_of opened (branch_of_account r.account);
@@ -85,27 +88,30 @@ with_verdict moment r (Again first) es = es
 with_verdict moment r (Refused outcome) es = refused_entry moment r outcome ∷ es
 with_verdict moment r (Posted account teller branch) es = posted_entry moment r account ∷ es
 
-abbrev pub with_record : ℕ → Result RequestFields Bad → (ℕ → Option Terms) → List DecidedRequest
-    → List DecidedRequest
-with_record moment (Err fault) opened es = es
-with_record moment (Ok r) opened es = with_verdict moment r (case_of (facts opened es r) r) es
+abbrev pub with_record : ℕ → Result RequestFields Bad → (ℕ → Option Terms) → List ClosingRow
+    → List DecidedRequest → List DecidedRequest
+with_record moment (Err fault) opened runs es = es
+with_record moment (Ok r) opened runs es = with_verdict moment r (case_of (facts opened runs es r) r) es
 
 -- the decided requests of a log, the newest first
 abbrev pub decided : List Command → List DecidedRequest
 decided [] = []
 decided (Open branch terms ∷ log) = decided log
-decided (Post moment bytes ∷ log) = with_record moment (request_of bytes) (λ b. opened log b) (decided log)
+decided (Post moment bytes ∷ log) =
+    with_record moment (request_of bytes) (λ b. opened log b) (closings log) (decided log)
+decided (Close first last ∷ log) = decided log
 
 abbrev pub malformed_reply : ReplyFields
 malformed_reply = record { outcome = outcome.Malformed; request = None; balance = None }
 
-abbrev pub reply_given : Result RequestFields Bad → (ℕ → Option Terms) → List DecidedRequest → ReplyFields
-reply_given (Err fault) opened es = malformed_reply
-reply_given (Ok r) opened es = reply_in (case_of (facts opened es r) r) r
+abbrev pub reply_given : Result RequestFields Bad → (ℕ → Option Terms) → List ClosingRow → List DecidedRequest
+    → ReplyFields
+reply_given (Err fault) opened runs es = malformed_reply
+reply_given (Ok r) opened runs es = reply_in (case_of (facts opened runs es r) r) r
 
 -- the reply to a record after a log
 abbrev pub reply : List Command → List ℕ → ReplyFields
-reply log bytes = reply_given (request_of bytes) (λ b. opened log b) (decided log)
+reply log bytes = reply_given (request_of bytes) (λ b. opened log b) (closings log) (decided log)
 
 -- the balance of an open account after a log
 abbrev pub balance_after : List Command → ℕ → Option ℤ

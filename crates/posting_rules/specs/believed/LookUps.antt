@@ -11,6 +11,7 @@ use Rattle.posting_rules.specs.declared.rows.RequestRow.{RequestRow}
 use Rattle.posting_rules.specs.declared.rows.FloorRow.{FloorRow}
 use Rattle.posting_rules.specs.declared.rows.ReferenceRow.{ReferenceRow}
 use Rattle.posting_rules.specs.believed.Commands.{Terms, opened_with}
+use Rattle.posting_rules.specs.believed.Closings.{books_of}
 use Rattle.posting_rules.specs.believed.Numbering.{branch_of_teller, branch_of_account}
 use Rattle.posting_rules.specs.believed.Kept.{KeptFields, kept_with}
 use Rattle.posting_rules.specs.believed.Tables.{Tables, row_at, branch_key, teller_key, account_key, floor_key}
@@ -77,6 +78,7 @@ abbrev pub found_in : Tables → RequestFields → Found
 found_in t r = record {
   teller = teller_balances_in t r.teller;
   kept = kept_in t.requests t.references r.teller r.number;
+  books = books_of t.closings r.teller r.number;
   decided = t.decided;
   account = account_balance_in t r.account;
   floor = floor_in t (branch_of_account r.account);

@@ -10,7 +10,9 @@ use Rattle.posting_rules.specs.declared.rows.HistoryRow.{HistoryRow}
 use Rattle.posting_rules.specs.declared.rows.RequestRow.{RequestRow}
 use Rattle.posting_rules.specs.declared.rows.FloorRow.{FloorRow}
 use Rattle.posting_rules.specs.declared.rows.ReferenceRow.{ReferenceRow}
+use Rattle.posting_rules.specs.declared.rows.ClosingRow.{ClosingRow}
 use Rattle.posting_rules.specs.believed.Commands.{Command, Terms, opened, is_teller_open, is_account_open, floor_of}
+use Rattle.posting_rules.specs.believed.Closings.{closings}
 use Rattle.posting_rules.specs.believed.Entries.{DecidedRequest, is_posted, account_balance, teller_balance}
 use Rattle.posting_rules.specs.believed.Entries.{branch_balance}
 use Rattle.posting_rules.specs.believed.Entries.{decision_of, decided}
@@ -25,6 +27,7 @@ pub record Tables : Type 0 where
   pub requests : List RequestRow
   pub floors : List FloorRow
   pub references : List ReferenceRow
+  pub closings : List ClosingRow
 
 -- the row under a key
 abbrev pub row_at : {R : Type 0} → (R → ℕ) → List R → ℕ → Option R
@@ -54,6 +57,9 @@ floor_key r = r.branch
 
 abbrev pub reference_key : ReferenceRow → ℕ
 reference_key r = r.ordinal
+
+abbrev pub closing_key : ClosingRow → ℕ
+closing_key r = r.last
 
 -- ---- the rows that a log leads to, by what is open and what is decided
 
@@ -123,7 +129,8 @@ reference_row (e ∷ es) o = if length es + 1 == o then option_map
     (reference_row_of o) e.request.reference else reference_row es o
 
 -- the tables have these rows and no others, in whatever order
-pub record HasRows (tables : Tables) (opened : ℕ → Option Terms) (es : List DecidedRequest) : Type 0 where
+pub record HasRows (tables : Tables) (opened : ℕ → Option Terms) (runs : List ClosingRow)
+    (es : List DecidedRequest) : Type 0 where
   pub decided : tables.decided ≡ length es
   pub branches : (b : ℕ) → row_at branch_key tables.branches b ≡ branch_row opened es b
   pub tellers : (t : ℕ) → row_at teller_key tables.tellers t ≡ teller_row opened es t
@@ -132,6 +139,7 @@ pub record HasRows (tables : Tables) (opened : ℕ → Option Terms) (es : List 
   pub requests : (o : ℕ) → row_at request_key tables.requests o ≡ request_row es o
   pub floors : (b : ℕ) → row_at floor_key tables.floors b ≡ floor_row opened b
   pub references : (o : ℕ) → row_at reference_key tables.references o ≡ reference_row es o
+  pub closings : (x : ℕ) → row_at closing_key tables.closings x ≡ row_at closing_key runs x
   pub branch_keys : HasKeys branch_key tables.branches
   pub teller_keys : HasKeys teller_key tables.tellers
   pub account_keys : HasKeys account_key tables.accounts
@@ -139,7 +147,8 @@ pub record HasRows (tables : Tables) (opened : ℕ → Option Terms) (es : List 
   pub request_keys : HasKeys request_key tables.requests
   pub floor_keys : HasKeys floor_key tables.floors
   pub reference_keys : HasKeys reference_key tables.references
+  pub closing_keys : HasKeys closing_key tables.closings
 
 -- the tables are those of the log
 pub record AreTablesOf (tables : Tables) (log : List Command) : Type 0 where
-  pub rows : HasRows tables (λ b. opened log b) (decided log)
+  pub rows : HasRows tables (λ b. opened log b) (closings log) (decided log)

@@ -1,5 +1,5 @@
 -- The one view of a database as the tables of a bank.
-use Rattle.std.specs.Prelude.{◌+◌, ℕ, ℤ, pos, nat_abs, List, [], ◌∷◌, map, take}
+use Rattle.std.specs.Prelude.{◌≡◌, ◌+◌, ℕ, ℤ, pos, nat_abs, List, [], ◌∷◌, map, take}
 use Rattle.sqlite.specs.Schema.{Schema}
 use Rattle.sqlite.specs.Table.{Table}
 use Rattle.sqlite.specs.Tree.{Trees}
@@ -77,10 +77,12 @@ tables_of version = take (5 + version) bank_tables
 abbrev pub contents_of : ℕ → Tables → List (List Entry)
 contents_of version t = (meta_entry (pos version) t.decided ∷ []) ∷ take (4 + version) (rows_of t)
 
--- a sound database defines the tables of a version and holds these rows by rising keys, whatever else it has
+-- a sound database defines the tables of a version and holds these rows by rising keys, whatever else it has; so far no
+-- version has a table of closed books
 pub record ShowsAs (version : ℕ) (db : Database) (t : Tables) : Type 0 where
   pub sound : ∥ IsDatabase db ∥₁
   pub each : HoldsEach db (tables_of version) (contents_of version t)
+  pub current : t.closings ≡ []
 
 -- a sound database has the tables of a bank with these rows
 abbrev pub Shows : Database → Tables → Type 0

@@ -1,5 +1,5 @@
 -- What is kept of requests is filled after the rest.
-use Rattle.std.proofs.Common.{List, map, sym, ap, subst, ◌∙◌}
+use Rattle.std.proofs.Common.{List, map, refl, sym, ap, subst, ◌∙◌}
 use Rattle.std.specs.List.{AllByRecursion}
 use Rattle.std.proofs.lemmas.Result.{on_ok_weaker}
 use Rattle.sqlite.specs.{Effect.Database, Held.state}
@@ -39,7 +39,7 @@ returns-clause-says g c =
     (put_back kv _ c.fill_all.new.slots c.deref_mut.ensures.value c.fill_all.auto.slots) in
     let known = reads_ok c.in_ok-fill_known.ensures.says in
     reads_wider (handed_last c.fill_all.result known c.fill_all.ensures.says (λ last.
-    reads_so (kept_after known (c.deref_mut.ensures.value ∙ kept) last)
+    reads_so (kept_after known refl (c.deref_mut.ensures.value ∙ kept) last)
     (λ t so. (so, λ e. held ∙ e))))
 
 -- ---- of whatever rows a file holds
@@ -69,6 +69,7 @@ returns-clause-stored g c = on_ok_weaker c.fill_all.result (λ stored clean home
           (sym (put_back kv _ c.fill_all.new.slots c.deref_mut.ensures.value c.fill_all.auto.slots))
           (stored clean rows has1 (nothing_asked _));
       decided = first.decided;
+      runs = refl;
     }) c.fill_all.ensures.stored
 
 pub returns-clause-shown : goal.returns-clause-shown

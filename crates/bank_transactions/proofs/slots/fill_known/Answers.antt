@@ -179,6 +179,7 @@ returns-clause-stored g c = on_ok_weaker c.fill_all-4.result (λ last clean home
           (c.deref-3.ensures ∙ fs) c.deref_mut-4.ensures.value
           (two.same ∙ ap (map emptied_floor) c.deref_mut-2.ensures.value) floors homes.floors)));
       decided = zero.stored clean0 rows has;
+      runs = refl;
     }) c.fill_all-4.ensures.stored
 
 -- ---- whatever tables it has

@@ -6,6 +6,7 @@ use Rattle.posting_rules.specs.{declared.judgments.Found.Found, declared.limits.
 use Rattle.posting_rules.specs.{believed.Numbering.branch_of_teller, believed.Kept.KeptFields}
 use Rattle.posting_rules.specs.declared.judgments.Verdict.TheVariants.{Unkept, Again}
 use Rattle.posting_rules.specs.believed.Cases.{case_of, new_case, account_case, is_same, kept_reply}
+use Rattle.posting_rules.specs.declared.judgments.Books.TheVariants.{Current, Closed, Sealed}
 use Rattle.posting_rules.proofs.cases.judge.Goals as goal
 
 -- an unknown teller
@@ -20,11 +21,22 @@ again : (f : Found) (r : RequestFields) (teller branch : ℤ) (kept : KeptFields
 unfolding case_of
 again f r teller branch kept known there same = rw (known, there, sym same) refl
 
+-- a request that closed books refuse
+closed : (f : Found) (r : RequestFields) (teller branch : ℤ) → f.teller ≡ Some (teller, branch)
+    → f.kept ≡ None → f.books ≡ Closed → Unkept outcome.Closed ≡ case_of f r
+unfolding case_of
+closed f r teller branch known none books = rw (known, none, books) refl
+
+sealed : (f : Found) (r : RequestFields) (teller branch : ℤ) → f.teller ≡ Some (teller, branch)
+    → f.kept ≡ None → f.books ≡ Sealed → Unkept outcome.Sealed ≡ case_of f r
+unfolding case_of
+sealed f r teller branch known none books = rw (known, none, books) refl
+
 -- a request that wasn't
 undecided : (f : Found) (r : RequestFields) (teller branch : ℤ) → f.teller ≡ Some (teller, branch)
-    → f.kept ≡ None → new_case f r teller branch ≡ case_of f r
+    → f.kept ≡ None → f.books ≡ Current → new_case f r teller branch ≡ case_of f r
 unfolding case_of
-undecided f r teller branch known none = rw (known, none) refl
+undecided f r teller branch known none books = rw (known, none, books) refl
 
 full : (f : Found) (r : RequestFields) (teller branch : ℤ) → MAX_DECIDED ≤ f.decided
     → Unkept outcome.Full ≡ new_case f r teller branch
@@ -50,6 +62,7 @@ returns-then-found-ge-MAX_DECIDED-clause-value c =
     let none : c.args.found.now.kept ≡ None = cc in
     full c.args.found.now c.args.request.now c.in-Some.teller c.in-Some.branch c.if-found-ge-MAX_DECIDED.true
     ∙ undecided c.args.found.now c.args.request.now c.in-Some.teller c.in-Some.branch c.in-Some.is none
+    c.in-Current.is
 
 pub returns-clause-value : goal.returns-clause-value
 returns-clause-value c =
@@ -60,4 +73,4 @@ returns-clause-value c =
     ∙ posting c.args.found.now c.args.request.now c.in-Some-account.account c.in-Some.teller c.in-Some.branch
     (omega arith) home c.in-Some-account.is
     ∙ undecided c.args.found.now c.args.request.now c.in-Some.teller c.in-Some.branch c.in-Some.is
-    c.in_default-kept.is
+    c.in_default-kept.is c.in-Current.is

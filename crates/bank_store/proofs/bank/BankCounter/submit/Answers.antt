@@ -22,6 +22,7 @@ use Rattle.bank_store.proofs.{Broke.breaks_shown, Either.either_after, Either.un
 use Rattle.bank_store.proofs.Refusing.{answered_call, committed_call, breaks, is_up, refused_call, transaction_refused, untried_call, Refusal}
 use Rattle.bank_store.specs.Seen.{fault_of}
 use Rattle.bank_store.proofs.bank.BankCounter.submit.Goals as goal
+use Rattle.posting_rules.specs.believed.Closings.{closings}
 
 no_request : {a : RequestFields} {bad : Bad} → ◌≡◌ {A = Result RequestFields Bad} (Ok a) (Err bad) → ⊥
 no_request is = cc
@@ -33,7 +34,7 @@ first is = cc
 module _ (bytes : List ℕ) (bad : Bad) (read : request_of bytes ≡ Err bad) where
   is_told : (log : List Command) → reply_spelling malformed_reply ≡ reply_spelling (reply log bytes)
   is_told log =
-      ap (λ (x : Result RequestFields Bad). reply_spelling (reply_given x (λ b. opened log b) (decided log))) (sym read)
+      ap (λ (x : Result RequestFields Bad). reply_spelling (reply_given x (λ b. opened log b) (closings log) (decided log))) (sym read)
 
   changes_nothing : (m : ℕ) → IsChange (λ t. t) (Post m bytes ∷ [])
   changes_nothing m t log shows = malformed_shown t log m bytes bad read shows

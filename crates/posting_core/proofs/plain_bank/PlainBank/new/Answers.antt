@@ -11,4 +11,5 @@ returns c =
       c.new-5.ensures.items,
       c.new-6.ensures.items,
       c.new-7.ensures.items,
+      c.new-8.ensures.items,
     ) empty_shown
