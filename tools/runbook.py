@@ -198,6 +198,7 @@ class Drill:
         one.does("systemctl enable --now teller evening.timer watch.timer; systemctl enable bank")
         one.plays("A teller joins, or leaves", part=slice(1), changes=(*named, ("anna", "bert")))
         one.plays("Is it up?")
+        one.plays("It refuses a lot")
         # nginx takes up what it reads anew a moment after it was told.
         time.sleep(2)
         self.posts(one)
