@@ -1,5 +1,5 @@
 -- A bank whose database is left as it was found, stands where it stood, and spares the tables of other products.
-use Rattle.std.proofs.Common.{Result, Ok, Err, arith, refl, sym, subst, ◌∙◌, ◌≡◌}
+use Rattle.std.proofs.Common.{Result, Ok, Err, arith, inl, inr, refl, sym, subst, ◌∙◌, ◌≡◌}
 use Rattle.std.specs.Prelude.{IsTrue}
 use Rattle.sqlite.specs.{Effect.Database, Held.Held, Held.state, State.HasCleanDisk, State.Survives, Tree.Trees}
 use Rattle.sqlite.proofs.StateLemmas.{survives_then, survives_weaker}
@@ -11,7 +11,9 @@ use Rattle.store_rows.specs.believed.Sparing.{SparesOthers, bank_names}
 use Rattle.bank_transactions.specs.Undone.{IsUndone}
 use Rattle.bank_store.specs.Leaving.{CommitsAsFound, LeavesAsFound, OnlyReads}
 use Rattle.bank_store.specs.{OpenBankSparing.SparesWhileOpen, Walks.IsUntouchedIfOpen, declared.bank.Bank.Bank}
-use Rattle.bank_store.specs.believed.Seen.{connection_of, database_of, file_of}
+use Rattle.posting_rules.specs.Counter.{StaysByTables}
+use Rattle.store_rows.specs.believed.View.{Shows, ShowsTrees}
+use Rattle.bank_store.specs.believed.Seen.{bank_seen, connection_of, database_of, file_of}
 
 module _ {S : Type 0} (g : Ghosts S) where
   -- nothing was done
@@ -47,8 +49,12 @@ module _ {S : Type 0} (g : Ghosts S) where
 
   -- a call that only reads tried nothing
   pub idle_reads : {X : Type 0} (bank : Bank S g) (r : Result X Fault) → OnlyReads g bank bank r
-  idle_reads bank (Ok x) = record { still = λ clean. refl; leaves = idle_commits bank }
-  idle_reads bank (Err fault) = record { still = tt; leaves = idle_commits bank }
+  idle_reads bank (Ok x) = record {
+    still = λ clean. refl;
+    by_tables = record { shows = λ clean t shown. shown; survives = λ clean t shown only. only };
+    leaves = idle_commits bank;
+  }
+  idle_reads bank (Err fault) = record { still = tt; by_tables = tt; leaves = idle_commits bank }
 
   module _ (old new : Bank S g) where
     -- the database that was found may be committed, and then rows were read, or the bank went down
@@ -64,12 +70,32 @@ module _ {S : Type 0} (g : Ghosts S) where
       left = down_keeps old new mid _ left quiet;
     }
 
+    -- where it is the same, and a crash leaves what it could leave, or that one, all tables stay
+    stays_by : (HasCleanDisk (file_of new) → database_of g new ≡ database_of g old)
+        → Survives (file_of old) (file_of new) (λ trees. trees ≡ (database_of g old).trees)
+        → StaysByTables (bank_seen g old) (bank_seen g new)
+    stays_by still left = record {
+      shows = λ clean t shown. subst (λ (db : Database). Shows db t) (sym (still clean)) shown;
+      survives = λ clean t shown only trees may. elim (left.crash clean trees may) [
+        | inl before ↦ only trees before
+        | inr is ↦ (
+          t,
+          subst (λ (found : Trees). ShowsTrees found t) (sym is) ((database_of g old).schema, shown),
+          refl,
+        )
+      ];
+    }
+
     -- a call that only reads was answered
     pub reads_done : {X : Type 0} (x : X) → (HasCleanDisk (file_of new) → database_of g new ≡ database_of g old)
         → Survives (file_of old) (file_of new) (λ trees. trees ≡ (database_of g old).trees)
         → OnlyReads g old new (Ok x)
     reads_done x still left =
-        record { still = still; leaves = record { now = λ clean is_open. still clean; left = left } }
+        record {
+          still = still;
+          by_tables = stays_by still left;
+          leaves = record { now = λ clean is_open. still clean; left = left };
+        }
 
     -- it was refused, and the bank went down
     pub reads_down : {X : Type 0} (mid : Held S) (fault : Fault)
@@ -79,6 +105,7 @@ module _ {S : Type 0} (g : Ghosts S) where
         → Survives (state g mid) (file_of new) (λ _. ⊥) → OnlyReads {X = X} g old new (Err fault)
     reads_down mid fault undone left back quiet = record {
       still = tt;
+      by_tables = tt;
       leaves = commits_then mid (λ clean is_open. (undone clean is_open).1) left back quiet;
     }
 

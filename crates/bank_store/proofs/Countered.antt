@@ -12,7 +12,7 @@ use Rattle.posting_rules.specs.declared.fault.Fault.TheVariants as faults
 use Rattle.posting_rules.specs.believed.Commands.{Command, AreCommands, Terms}
 use Rattle.posting_rules.specs.declared.limits.TheConstants.{MAX_ACCOUNTS}
 use Rattle.posting_rules.proofs.ChangesByKey.{sound_tables}
-use Rattle.bank_transactions.specs.believed.Openings.{IsReadyToOpen}
+use Rattle.posting_rules.specs.believed.AnyTables.{IsReadyToOpen}
 use Rattle.bank_transactions.proofs.OpeningRows.{room_sound}
 use Rattle.posting_rules.specs.believed.Counter.{Seen, ShowsLog, ShowsPrefix, Takes, IsCutShort, IsDamaged, Refuses}
 use Rattle.posting_rules.specs.believed.Counter.{TellsDamage}

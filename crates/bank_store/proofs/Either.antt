@@ -4,7 +4,7 @@ use Rattle.std.specs.Prelude.{◌⊎◌}
 use Rattle.sqlite.specs.{Held.Held, Held.state, State.Survives}
 use Rattle.sqlite_trees.specs.declared.store.Store.{Ghosts}
 use Rattle.sqlite.proofs.StateLemmas.{survives_then}
-use Rattle.posting_rules.specs.{Changes.opened_where, Changes.tables_with_branch, declared.fault.Fault.Fault}
+use Rattle.posting_rules.specs.{believed.Changes.opened_where, believed.Changes.tables_with_branch, declared.fault.Fault.Fault}
 use Rattle.posting_rules.specs.declared.fault.Fault.TheVariants.{Memory, Down}
 use Rattle.posting_rules.specs.declared.rows.BranchRow.{BranchRow}
 use Rattle.posting_rules.specs.believed.{Changes.tables_opened, Commands.Terms}

@@ -13,7 +13,8 @@ use Rattle.store_rows.specs.believed.Failures.{Additions}
 use Rattle.store_rows.specs.declared.fault.TableFault.{TableFault, TheVariants.Sqlite, TheVariants.Damaged}
 use Rattle.bank_transactions.specs.{Doing.Transacts, Doing.TransactsBy}
 use Rattle.bank_transactions.specs.believed.{Additions.AddsBranch, Additions.AddsForRecords, Additions.AnyRow}
-use Rattle.bank_transactions.specs.believed.{Batches.HasRoomFor, Openings.IsReadyToOpen}
+use Rattle.bank_transactions.specs.believed.{Batches.HasRoomFor}
+use Rattle.posting_rules.specs.believed.AnyTables.{IsReadyToOpen}
 use Rattle.bank_transactions.specs.{believed.Causes.Damage, believed.Causes.IsBrokenOrMet, Causes.IsFirstBroken}
 use Rattle.bank_transactions.proofs.{Blamed.between_also, NoStrays.no_damage}
 use Rattle.bank_store.specs.believed.Down.{BreaksOpening, BreaksRule, IsBankCall, KeepsCause, OfDamage}

@@ -4,6 +4,7 @@ use Rattle.sqlite.specs.State.{HasCleanDisk, Survives}
 use Rattle.sqlite_trees.specs.declared.store.Store.{Ghosts}
 use Rattle.posting_rules.specs.believed.Commands.{Command}
 use Rattle.posting_rules.specs.believed.Counter.{Seen, LeavesOnly, StandsAt, Takes}
+use Rattle.posting_rules.specs.Counter.{StaysByTables}
 use Rattle.posting_rules.specs.believed.Tables.{AreTablesOf}
 use Rattle.posting_rules.specs.declared.fault.Fault.{Fault}
 use Rattle.bank_store.specs.believed.Seen.{bank_seen, database_of, file_of}
@@ -37,7 +38,8 @@ pub record CommitsAsFound {S : Type 0} (g : Ghosts S) (old new : Bank S g) : Typ
   pub now : HasCleanDisk (file_of new) → IsTrue (file_of new).is_open → database_of g new ≡ database_of g old
   pub left : Survives (file_of old) (file_of new) (λ trees. trees ≡ (database_of g old).trees)
 
--- and once it was answered, the database is that one, be the store open or not
+-- and once it was answered, the database is that one, be the store open or not, and so are the tables that it shows
 pub record OnlyReads {S X : Type 0} (g : Ghosts S) (old new : Bank S g) (result : Result X Fault) : Type 0 where
   pub still : OnOk result (HasCleanDisk (file_of new) → database_of g new ≡ database_of g old)
+  pub by_tables : OnOk result (StaysByTables (bank_seen g old) (bank_seen g new))
   pub leaves : CommitsAsFound g old new

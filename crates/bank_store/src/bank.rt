@@ -9,6 +9,7 @@ ghost use Rattle.bank_transactions.specs.Memory.{Remembers};
 ghost use Rattle.bank_store.specs.believed.FileTables.{HasFileTables};
 ghost use Rattle.message_records.specs.believed.Spelling.{reply_spelling};
 ghost use Rattle.posting_rules.specs.Branches.{IsNextBranch, IsLineAbove};
+ghost use Rattle.posting_rules.specs.believed.AnyTables.{OpensByTables};
 ghost use Rattle.posting_rules.specs.believed.Commands.{Command, Open, Post, opened_with};
 ghost use Rattle.posting_rules.specs.believed.Counter.{StandsAt, opening_after};
 ghost use Rattle.posting_rules.specs.believed.Entries.{reply, balance_after};
@@ -376,6 +377,8 @@ impl<S: Alter + Drop> Counter for Bank<S> {
         ensures answer { AnswersBy S.Store self.old self.new result
             (λ log opening. opening ≡ opening_after log branch (opened_with count floor)) }
         ensures call { IsBankCall S.Store self.old self.new (Open branch (opened_with count floor) ∷ []) result }
+        ensures by_tables { IfOk result (OpensByTables (bank_seen S.Store self.old) (bank_seen S.Store self.new) branch
+            (opened_with count floor)) }
         ensures frugal { result ≢ Err fault.Memory }
         // Whatever rows the file holds: of a branch that is opened all rows are written, and nothing else; a crash leaves
         // all of them or nothing.

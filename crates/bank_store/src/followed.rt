@@ -1,7 +1,6 @@
 //! A bank in a file whose log another bank can follow, and whose tellers are asked what they hold.
-ghost use Rattle.std.specs.Prelude.{◌≡◌, ◌≢◌, [], Err, IfErr, IfOk, OnOk};
+ghost use Rattle.std.specs.Prelude.{◌≡◌, ◌≢◌, [], Err, IfErr, IfOk};
 ghost use Rattle.std.specs.Option.{option_map};
-ghost use Rattle.posting_rules.specs.believed.Tables.{Tables};
 ghost use Rattle.posting_rules.specs.declared.fault.Fault.TheVariants as fault;
 ghost use Rattle.posting_core.specs.believed.LogEntries.{entries_given};
 ghost use Rattle.posting_core.specs.believed.Tills.{teller_after};
@@ -35,8 +34,6 @@ impl<S: Alter + Drop> Followed for Bank<S> {
         ensures answer { AnswersBy S.Store self.old self.new result
             (λ log given. option_map (λ bytes. bytes.items) given ≡ entries_given log after) }
         ensures call { IsBankCall S.Store self.old self.new [] result }
-        ensures tables { OnOk result ((bank_seen S.Store self.new).honest → (t : Tables)
-            → (bank_seen S.Store self.old).tables t → (bank_seen S.Store self.new).tables t) }
         ensures spares { SparesOtherTables S.Store self.old self.new }
         // Whatever rows the file holds.
         ensures stored { IfOk result (λ given. (bank_seen S.Store self.new).honest
@@ -67,8 +64,6 @@ impl<S: Alter + Drop> Followed for Bank<S> {
         ensures answer { AnswersBy S.Store self.old self.new result
             (λ log balance. balance ≡ teller_after log teller) }
         ensures call { IsBankCall S.Store self.old self.new [] result }
-        ensures tables { OnOk result ((bank_seen S.Store self.new).honest → (t : Tables)
-            → (bank_seen S.Store self.old).tables t → (bank_seen S.Store self.new).tables t) }
         ensures frugal { result ≢ Err fault.Memory }
         ensures spares { SparesOtherTables S.Store self.old self.new }
         // Whatever rows the file holds.

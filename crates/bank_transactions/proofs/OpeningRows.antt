@@ -6,7 +6,7 @@ use Rattle.posting_rules.specs.believed.Changes.{with_branch, with_tellers, with
 use Rattle.posting_rules.specs.believed.Changes.{row_put, rows_put}
 use Rattle.posting_rules.specs.believed.Commands.{Terms}
 use Rattle.posting_rules.proofs.{Keyed.by_test, Ready.no_account, Ready.no_teller, Ready.ready_sound}
-use Rattle.bank_transactions.specs.believed.Openings.{HasRoomToOpen, IsReadyToOpen}
+use Rattle.posting_rules.specs.believed.AnyTables.{HasRoomToOpen, IsReadyToOpen}
 use Rattle.posting_rules.specs.{Changes.with_teller, Changes.with_account, Sound.AreSound}
 use Rattle.posting_rules.specs.{believed.Commands.opened_with, declared.limits.TheConstants.MAX_ACCOUNTS}
 use Rattle.posting_rules.specs.believed.Numbering.{first_teller, first_account}

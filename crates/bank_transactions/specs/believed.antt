@@ -1,6 +1,5 @@
 pub mod Causes
 pub mod Doing
-pub mod Openings
 pub mod Stored
 pub mod Stray
 pub mod Additions

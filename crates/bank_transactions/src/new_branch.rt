@@ -3,7 +3,7 @@ ghost use Rattle.std.specs.Prelude.{◌≡◌, ◌≤◌, ◌<◌, ◌+◌, ℕ,
 ghost use Rattle.sqlite.specs.Held.{state};
 ghost use Rattle.sqlite.specs.State.{HasCleanDisk};
 ghost use Rattle.posting_rules.specs.believed.Changes.{tables_opened, with_floor};
-ghost use Rattle.posting_rules.specs.Changes.{tables_with_branch};
+ghost use Rattle.posting_rules.specs.believed.Changes.{tables_with_branch};
 ghost use Rattle.posting_rules.specs.believed.Commands.{opened_with};
 ghost use Rattle.posting_rules.specs.believed.Counter.{opening_for};
 ghost use Rattle.posting_rules.specs.believed.LookUps.{terms_in};
@@ -14,7 +14,7 @@ ghost use Rattle.bank_transactions.specs.Causes.{IsFirstDamaged};
 ghost use Rattle.bank_transactions.specs.Doing.{Acts, Leaves, ReadsBy};
 ghost use Rattle.bank_transactions.specs.Running.{Writes};
 ghost use Rattle.bank_transactions.specs.believed.Answered.{OpensAll};
-ghost use Rattle.bank_transactions.specs.believed.Openings.{HasRoomToOpen, IsReadyToOpen};
+ghost use Rattle.posting_rules.specs.believed.AnyTables.{HasRoomToOpen, IsReadyToOpen};
 ghost use Rattle.bank_transactions.specs.NewRows.{tables_staffed, with_new, with_new_rows, is_taken, last_of};
 ghost use Rattle.bank_transactions.specs.believed.Stored.{AnswersStored};
 

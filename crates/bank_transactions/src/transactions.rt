@@ -2,13 +2,13 @@
 ghost use Rattle.std.specs.Prelude.{◌≡◌, ◌≤◌, IfOk, IsTrue, OnOk, true, false};
 ghost use Rattle.sqlite.specs.State.{HasCleanDisk, Survives};
 ghost use Rattle.sqlite.specs.Held.{state};
-ghost use Rattle.posting_rules.specs.Changes.{tables_with_branch};
+ghost use Rattle.posting_rules.specs.believed.Changes.{tables_with_branch};
 ghost use Rattle.posting_rules.specs.believed.Commands.{opened_with};
 ghost use Rattle.posting_rules.specs.believed.Counter.{opening_for};
 ghost use Rattle.posting_rules.specs.believed.LookUps.{account_balance_in};
 ghost use Rattle.posting_rules.specs.believed.LookUps.{teller_balances_in, terms_in};
 ghost use Rattle.posting_rules.specs.Sound.{AreSound};
-ghost use Rattle.bank_transactions.specs.believed.Openings.{IsReadyToOpen};
+ghost use Rattle.posting_rules.specs.believed.AnyTables.{IsReadyToOpen};
 ghost use Rattle.bank_transactions.specs.believed.Additions.{AddsBranch};
 ghost use Rattle.bank_transactions.specs.Doing.{Consults, Ends, Transacts};
 ghost use Rattle.bank_transactions.specs.believed.Answered.{KeepsOpening, OpensAll};

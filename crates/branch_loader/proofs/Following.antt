@@ -9,10 +9,14 @@ use Rattle.std.proofs.lemmas.List.Elements.{Contains-append_left, Contains-push,
 use Rattle.posting_rules.specs.believed.{Commands.Command, Commands.Open, Commands.Post, Commands.Close, Commands.Terms}
 use Rattle.posting_rules.specs.believed.Counter.{IsCounterCall, Seen, ShowsLog}
 use Rattle.posting_rules.specs.believed.{Runs.followed_by, Runs.posts, Runs.replies_to}
+use Rattle.posting_rules.specs.believed.ByCommands.{HasRoomForAll, TakesByTables}
+use Rattle.posting_rules.specs.ByCommands.{RepliesByTables, replies_past_commands}
+use Rattle.posting_rules.specs.believed.Tables.{Tables}
 use Rattle.posting_rules.specs.declared.fault.Fault.{Fault}
 use Rattle.posting_rules.specs.declared.fault.Fault.TheVariants.{Down}
 use Rattle.posting_rules.specs.declared.limits.TheConstants.{LAST_BRANCH, RECORDS_PER_BATCH}
 use Rattle.posting_rules.proofs.{CounterCalls.Takes-append, CounterCalls.takes_none, Sequence.replies_to-append}
+use Rattle.posting_rules.proofs.ByCommands.{both_replied, both_taken, nothing_taken, replied_after}
 use Rattle.posting_core.specs.Entries.{ArePostsOf, IsEntry, IsMomentOf, IsNoEntry, record_text, reply_text}
 use Rattle.posting_core.specs.believed.LogEntries.{AnsweredRequest, entries_of, entry_of}
 use Rattle.branch_loader.specs.believed.Plans.{Row, Rows}
@@ -266,12 +270,14 @@ module _ {C : Type 0} (seen : C → Seen) (spares : C → C → Type 0) (rows : 
       are = it.taken.are;
       opens = opens;
       takes = it.taken.takes;
+      by_tables = it.taken.by_tables;
       honest = it.taken.honest;
       up = it.taken.up;
       idle = it.taken.idle;
       others = it.taken.others;
     };
     replies = it.replies;
+    by_tables = it.by_tables;
   }
 
   abbrev pub followed_none : (c : C) → spares c c → HasFollowed seen spares rows c c [] []
@@ -281,12 +287,14 @@ module _ {C : Type 0} (seen : C → Seen) (spares : C → C → Type 0) (rows : 
       are = refl;
       opens = tt;
       takes = takes_none (seen c);
+      by_tables = nothing_taken (seen c);
       honest = λ h. h;
       up = λ down. down;
       idle = λ down. refl;
       others = same;
     };
     replies = λ h log shows. refl;
+    by_tables = λ h t room there. refl;
   }
 
   module _ (old mid new : C) (spares_then : spares old mid → spares mid new → spares old new)
@@ -294,7 +302,8 @@ module _ {C : Type 0} (seen : C → Seen) (spares : C → C → Type 0) (rows : 
       (cs : List Command) (are : ArePostsOf (planned rows) entries cs)
       (first : OpensFirst rows (opened_by it.commands) (entries ++ next) cs) where
     module _ {K X : Type 0} (contents : C → K) (reason : Fault → C → C → Type 0) (x : X)
-        (call : IsCounterCall seen contents reason mid new cs (Ok x)) (others : spares mid new) where
+        (call : IsCounterCall seen contents reason mid new cs (Ok x)) (others : spares mid new)
+        (on : TakesByTables (seen mid) (seen new) cs) where
       was_up : (seen mid).is_down → ⊥
       was_up down = let no : (let r : Result X Fault = Ok x in r) ≡ Err Down = call.down down in cc
 
@@ -305,6 +314,7 @@ module _ {C : Type 0} (seen : C → Seen) (spares : C → C → Type 0) (rows : 
             (sym (append_assoc done entries next))
             (opens-append rows [] done (entries ++ next) it.commands cs it.taken.are it.taken.opens first);
         takes = Takes-append (seen old) (seen mid) (seen new) it.commands cs it.taken.takes call.done call.honest;
+        by_tables = both_taken (seen old) (seen mid) (seen new) it.commands cs call.honest it.taken.by_tables on;
         honest = λ h. it.taken.honest (call.honest h);
         up = λ down. absurd (call.up down);
         idle = λ down.
@@ -326,8 +336,9 @@ module _ {C : Type 0} (seen : C → Seen) (spares : C → C → Type 0) (rows : 
       -- it gave the replies of the entries
       pub followed_more : (looked : List Bool) → LooksOpen rows looked (opened_by it.commands ++ opened_by cs)
           → GaveReplies (seen mid) (seen new) entries cs
+          → RepliesByTables (seen mid) (seen new) cs (map reply_text entries)
           → HasOpened seen spares rows old new (done ++ entries) next looked
-      followed_more looked looks gave = record {
+      followed_more looked looks gave gave_on = record {
         followed = record {
           commands = it.commands ++ cs;
           taken = taken_more;
@@ -336,30 +347,46 @@ module _ {C : Type 0} (seen : C → Seen) (spares : C → C → Type 0) (rows : 
               ∙ ap (λ (l : List (List ℕ)). map reply_text done ++ l)
               (gave h (followed_by log it.commands) (shown_then h log shows))
               ∙ sym (map-append reply_text done entries);
+          by_tables = subst (RepliesByTables (seen old) (seen new) (it.commands ++ cs))
+              (sym (map-append reply_text done entries))
+              (both_replied (seen old) (seen mid) (seen new) it.commands cs call.honest it.taken.by_tables
+              (map reply_text done) (map reply_text entries) it.by_tables gave_on);
         };
         looks = subst (λ (o : List ℕ). LooksOpen rows looked o) (sym (opened-append it.commands cs)) looks;
       }
+
+      -- behind the replies of what was done
+      first_other_behind : (given all : List (List ℕ)) (other : OtherReply)
+          → IsFirstOther (length done) given (map reply_text entries) other → all ≡ map reply_text done ++ given
+          → IsFirstOther 0 all (map reply_text (done ++ entries)) other
+      first_other_behind given all other it is =
+          subst (λ (l : List (List ℕ)). IsFirstOther 0 l (map reply_text (done ++ entries)) other) (sym is)
+          (subst (λ (l : List (List ℕ)). IsFirstOther 0 (map reply_text done ++ given) l other)
+          (sym (map-append reply_text done entries))
+          (other_behind (length done) (map reply_text done) given (map reply_text entries) other it
+          (sym (length-map done reply_text))))
 
       -- it gave others
       pub differed : next ≡ [] → (other : OtherReply) → length (done ++ entries) < other.entry + RECORDS_PER_BATCH
           → ((seen new).honest → (log : List Command) → ShowsLog (seen mid) log
           → IsFirstOther (length done) (replies_to log cs) (map reply_text entries) other)
+          → ((seen new).honest → (t : Tables) → HasRoomForAll t → (seen mid).tables t
+          → IsFirstOther (length done) (replies_past_commands t cs) (map reply_text entries) other)
           → HasDiffered seen spares rows old new (done ++ entries) other
-      differed none other last first = record {
+      differed none other last first first_on = record {
         commands = it.commands ++ cs;
         taken = subst (λ (l : List AnsweredRequest). HasTaken seen spares rows old new (done ++ entries) l
             (it.commands ++ cs)) none taken_more;
         last = last;
         first = λ h log shows.
-            let behind =
-            other_behind (length done) (map reply_text done) (replies_to (followed_by log it.commands) cs)
-            (map reply_text entries) other (first h (followed_by log it.commands) (shown_then h log shows))
-            (sym (length-map done reply_text)) in
-            subst (λ (l : List (List ℕ)). IsFirstOther 0 l (map reply_text (done ++ entries)) other)
-            (sym (replies_then h log shows))
-            (subst (λ (l : List (List ℕ)). IsFirstOther 0
-            (map reply_text done ++ replies_to (followed_by log it.commands) cs) l other)
-            (sym (map-append reply_text done entries)) behind);
+            first_other_behind (replies_to (followed_by log it.commands) cs) _ other
+            (first h (followed_by log it.commands) (shown_then h log shows)) (replies_then h log shows);
+        by_tables = λ h t room there.
+            let led = it.taken.by_tables (call.honest h) t room there in
+            first_other_behind (replies_past_commands led.leads.tables cs) _ other
+            (first_on h led.leads.tables led.room led.leads.are)
+            (replied_after (seen old) (seen mid) (seen new) it.commands cs call.honest it.taken.by_tables
+            (map reply_text done) it.by_tables h t room there);
       }
 
     -- it refused them

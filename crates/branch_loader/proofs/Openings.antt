@@ -6,7 +6,7 @@ use Rattle.std.proofs.Math.Seq.{take-append-add, take-append_seam, take-length}
 use Rattle.std.proofs.lemmas.List.{drop-map, drop_more, length-append, length-map, length-take-le, map-append}
 use Rattle.std.proofs.lemmas.List.{take-append-drop, take-map, Sums.sum_by-append}
 use Rattle.posting_rules.specs.believed.Commands.{Command, Open, AreCommands}
-use Rattle.posting_rules.specs.believed.Counter.{Seen, ShowsLog, ShowsPrefix, Takes, Refuses, opening_after}
+use Rattle.posting_rules.specs.believed.Counter.{Seen, ShowsLog, ShowsPrefix, Takes, Refuses, opening_after, opening_for}
 use Rattle.posting_rules.specs.{believed.Runs.followed_by, believed.Tables.Tables, believed.Tables.AreTablesOf}
 use Rattle.posting_rules.specs.{declared.counter.Opening.Opening, declared.fault.Fault.Fault}
 use Rattle.posting_rules.proofs.{CounterCalls.Takes-append, Sequence.after-append}
@@ -16,8 +16,12 @@ use Rattle.posting_rules.specs.declared.counter.Opening.TheVariants.{Opened, Alr
 use Rattle.posting_rules.specs.declared.fault.Fault.TheVariants.{Memory, Store, Down, Damaged}
 use Rattle.branch_loader.specs.believed.{Plans.Rows, Plans.Row, Loading.IsRefusedAfter, Loading.LeavesPrefix}
 use Rattle.branch_loader.specs.{Plans.openings, Plans.terms_of, declared.loader.Loaded.Loaded}
-use Rattle.branch_loader.specs.Loading.{LoadsAll, answers, counted, total, with_answer, is_opened, is_already}
-use Rattle.branch_loader.specs.Loading.{is_differs}
+use Rattle.branch_loader.specs.Loading.{CountsAnswers, LoadsAll, answers, answers_in, counted, total, with_answer}
+use Rattle.branch_loader.specs.Loading.{is_already, is_differs, is_opened}
+use Rattle.branch_loader.specs.Plans.{IsRow}
+use Rattle.posting_rules.specs.believed.ByCommands.{HasRoomForAll, TakesByTables, tables_past_commands}
+use Rattle.posting_rules.specs.believed.{AnyTables.OpensByTables, Changes.tables_with_branch, LookUps.terms_in}
+use Rattle.posting_rules.proofs.ByCommands.{both_taken, nothing_taken, opening_answered, opening_taken}
 
 -- ---- answers
 
@@ -29,6 +33,14 @@ answers-push log [] p = refl
 answers-push log (q ∷ rows) p =
     ap (λ (given : List Opening). opening_after log q.0 (terms_of q) ∷ given)
     (answers-push (Open q.0 (terms_of q) ∷ log) rows p)
+
+answers_in-push : (t : Tables) (rows : Rows) (p : Row)
+    → answers_in t (rows ++ p ∷ [])
+    ≡ answers_in t rows ++ opening_for (terms_in (tables_past_commands t (openings rows)) p.0) (terms_of p) ∷ []
+answers_in-push t [] p = refl
+answers_in-push t (q ∷ rows) p =
+    ap (λ (given : List Opening). opening_for (terms_in t q.0) (terms_of q) ∷ given)
+    (answers_in-push (tables_with_branch t q.0 (terms_of q)) rows p)
 
 count_by-push : (test : Opening → Bool) (given : List Opening) (o : Opening)
     → count_by test (given ++ o ∷ []) ≡ count_by test given + cond (test o) 1 0
@@ -138,6 +150,9 @@ pub record IsAfter {C : Type 0} (seen : C → Seen) (old now : C) (rows : Rows)
   pub honest : (seen now).honest → (seen old).honest
   pub counts : (seen now).honest → (log : List Command) → ShowsLog (seen old) log
       → loaded ≡ counted (answers log rows)
+  pub by_tables : TakesByTables (seen old) (seen now) (openings rows)
+  pub counts_on : (seen now).honest → (t : Tables) → HasRoomForAll t → (seen old).tables t
+      → loaded ≡ counted (answers_in t rows)
   pub sum : total loaded ≡ length rows
 
 -- before the first
@@ -151,6 +166,8 @@ after-none seen c = record {
   up = λ down. down;
   honest = λ h. h;
   counts = λ h log shown. refl;
+  by_tables = nothing_taken (seen c);
+  counts_on = λ h t room there. refl;
   sum = refl;
 }
 
@@ -174,8 +191,9 @@ pub after-more : {C : Type 0} (seen : C → Seen) (old now new : C) (rows : Rows
     → ((seen new).honest → (log : List Command) → ShowsLog (seen now) log
     → opening ≡ opening_after log p.0 (terms_of p))
     → ((seen now).is_down → ⊥) → ((seen new).is_down → ⊥) → ((seen new).honest → (seen now).honest)
+    → OpensByTables (seen now) (seen new) p.0 (terms_of p) opening → IsRow p
     → IsAfter seen old new (rows ++ p ∷ []) (with_answer loaded opening)
-after-more seen old now new rows p loaded opening b takes answer was_up is_up honest = record {
+after-more seen old now new rows p loaded opening b takes answer was_up is_up honest opens is = record {
   taken = rw (map-append (λ (q : Row). Open q.0 (terms_of q)) rows (p ∷ []))
       (Takes-append (seen old) (seen now) (seen new) (openings rows) (Open p.0 (terms_of p) ∷ []) b.taken takes
       honest);
@@ -192,6 +210,16 @@ after-more seen old now new rows p loaded opening b takes answer was_up is_up ho
       ∙ sym (counted-push (answers log rows)
       (opening_after (followed_by log (openings rows)) p.0 (terms_of p)))
       ∙ ap counted (sym (answers-push log rows p));
+  by_tables = rw (map-append (λ (q : Row). Open q.0 (terms_of q)) rows (p ∷ []))
+      (both_taken (seen old) (seen now) (seen new) (openings rows) (Open p.0 (terms_of p) ∷ []) honest b.by_tables
+      (opening_taken (seen now) (seen new) p.0 (terms_of p) opening is.0 is.1 is.3 opens));
+  counts_on = λ h t room there.
+      let given = opening_answered (seen old) (seen now) (seen new) (openings rows) [] honest b.by_tables p.0 (terms_of p)
+      opening is.0 is.1 is.3 opens h t room there in
+      ap (λ (l : Loaded). with_answer l opening) (b.counts_on (honest h) t room there)
+      ∙ ap (λ (o : Opening). with_answer (counted (answers_in t rows)) o) given
+      ∙ sym (counted-push (answers_in t rows) _)
+      ∙ ap counted (sym (answers_in-push t rows p));
   sum = with_answer-total loaded opening ∙ ap (λ (n : ℕ). n + 1) b.sum ∙ sym (length-append rows (p ∷ []));
 }
 
@@ -225,6 +253,7 @@ after-refused seen old now new rows i p loaded fault b within read refused hones
       stood = now;
       first = λ e. b.first (front ∙ e);
       taken = rw taken b.taken;
+      by_tables = rw taken b.by_tables;
       refused = rw dropped refused;
       honest = honest;
       up = λ d. (b.up d, sym front ∙ none_before (take i rows) (λ some. b.begun some (b.up d)));
@@ -245,7 +274,16 @@ loaded_all seen old now rows plan i loaded b all is =
     let count : length (openings plan) ≡ length plan = rw length-map refl in
     record {
       takes = taken;
+      by_tables = subst (λ (rs : Rows). TakesByTables (seen old) (seen now) (openings rs)) whole b.by_tables;
       survives = subst (λ (n : ℕ). LeavesPrefix (seen old) (seen now) (openings plan) n) count
           (left-all (seen old) (seen now) (openings plan) taken);
       up = b.up;
     }
+
+-- and its counts are those of the answers
+pub loaded_counts : {C : Type 0} (seen : C → Seen) (old now : C) (rows plan : Rows) (i : ℕ) (loaded : Loaded)
+    → IsAfter seen old now (take i rows) loaded → length rows ≤ i → rows ≡ plan
+    → CountsAnswers (seen old) (seen now) plan loaded
+loaded_counts seen old now rows plan i loaded b all is =
+    subst (λ (rs : Rows). CountsAnswers (seen old) (seen now) rs loaded) (take_all i rows all ∙ is)
+    (record { by_log = b.counts; by_tables = b.counts_on })

@@ -5,10 +5,12 @@ use Rattle.std.specs.Prelude.{IsSome}
 use Rattle.std.specs.List.{AllByRecursion, find, slice_get}
 use Rattle.message_records.specs.declared.records.Outcome.{Outcome}
 use Rattle.message_records.specs.declared.records.Outcome.TheVariants.{NoAccount, WrongBranch}
+use Rattle.posting_rules.specs.believed.ByCommands.{HasRoomForAll, TakesByTables}
+use Rattle.posting_rules.specs.ByCommands.{RepliesByTables, replies_past_commands}
 use Rattle.posting_rules.specs.believed.Commands.{Command, Open, Post, Close, Terms}
 use Rattle.posting_rules.specs.believed.Numbering.{branch_of_account, branch_of_teller}
 use Rattle.posting_rules.specs.believed.Counter.{Refuses, Seen, ShowsLog, Takes}
-use Rattle.posting_rules.specs.believed.Runs.{replies_to}
+use Rattle.posting_rules.specs.believed.{Runs.replies_to, Tables.Tables}
 use Rattle.posting_rules.specs.declared.fault.Fault.{Fault}
 use Rattle.posting_rules.specs.declared.fault.Fault.TheVariants.{Down}
 use Rattle.posting_rules.specs.declared.limits.TheConstants.{RECORDS_PER_BATCH}
@@ -110,6 +112,7 @@ pub record HasTaken {C : Type 0} (seen : C → Seen) (spares : C → C → Type 
   pub are : ArePostsOf (planned rows) entries commands
   pub opens : OpensFirst rows [] (entries ++ next) commands
   pub takes : Takes (seen old) (seen new) commands
+  pub by_tables : TakesByTables (seen old) (seen new) commands
   pub honest : (seen new).honest → (seen old).honest
   pub up : (seen new).is_down → (seen old).is_down
   pub idle : (seen old).is_down → new ≡ old
@@ -120,12 +123,13 @@ abbrev pub GaveReplies : (old new : Seen) → List AnsweredRequest → List Comm
 GaveReplies old new entries commands = new.honest → (log : List Command) → ShowsLog old log
     → replies_to log commands ≡ map reply_text entries
 
--- it took them, and gave these replies
+-- it took them, and gave these replies, on whatever log it showed, and on whatever tables with room for all
 pub record HasFollowed {C : Type 0} (seen : C → Seen) (spares : C → C → Type 0) (rows : Rows) (old new : C)
     (entries next : List AnsweredRequest) : Type 0 where
   pub commands : List Command
   pub taken : HasTaken seen spares rows old new entries next commands
   pub replies : GaveReplies (seen old) (seen new) entries commands
+  pub by_tables : RepliesByTables (seen old) (seen new) commands (map reply_text entries)
 
 -- and the branches are open for which the plan was looked at
 pub record HasOpened {C : Type 0} (seen : C → Seen) (spares : C → C → Type 0) (rows : Rows) (old new : C)
@@ -198,6 +202,8 @@ pub record HasDiffered {C : Type 0} (seen : C → Seen) (spares : C → C → Ty
   pub last : length entries < other.entry + RECORDS_PER_BATCH
   pub first : (seen new).honest → (log : List Command) → ShowsLog (seen old) log
       → IsFirstOther 0 (replies_to log commands) (map reply_text entries) other
+  pub by_tables : (seen new).honest → (t : Tables) → HasRoomForAll t → (seen old).tables t
+      → IsFirstOther 0 (replies_past_commands t commands) (map reply_text entries) other
 
 -- why it stops where entries are posted, or branches opened for the next, and what was done with those that were given, if
 -- they can be counted

@@ -1,8 +1,6 @@
 //! Loading a plan into a counter.
 ghost use Rattle.std.specs.Prelude.{◌≡◌, ◌≢◌, ◌+◌, ◌≤◌, ◌↔◌, ℕ, List, [], length, IfOk, IfErr, OnOk};
 ghost use Rattle.std.specs.Result.{IsErrOf};
-ghost use Rattle.posting_rules.specs.believed.Commands.{Command};
-ghost use Rattle.posting_rules.specs.believed.Counter.{ShowsLog};
 ghost use Rattle.posting_rules.specs.Counter.{HasRefused};
 ghost use Rattle.posting_core.specs.Sparing.{IsSpared};
 ghost use Rattle.branch_loader.specs.Plans.{openings};
@@ -22,7 +20,7 @@ pub struct Loaded {
 }
 
 ghost use Rattle.branch_loader.specs.believed.Loading.{IsRefusedAfter};
-ghost use Rattle.branch_loader.specs.Loading.{LoadsAll, answers, counted, total, with_answer};
+ghost use Rattle.branch_loader.specs.Loading.{CountsAnswers, LoadsAll, total, with_answer};
 
 // The counts with one answer more.
 fn with_answer(loaded: Loaded, opening: Opening) -> Loaded
@@ -49,9 +47,7 @@ fn with_answer(loaded: Loaded, opening: Opening) -> Loaded
 /// open, and what the counter says of the fault holds of the rest: after `Memory` it can be used, and the
 /// plan can be loaded again.
 pub fn load<C: Counter>(plan: &Plan, counter: &mut C) -> Result<Loaded, Fault>
-    ensures counts { IfOk result (λ loaded. (C.seen counter.new).honest → (log : List Command)
-        → ShowsLog (C.seen counter.old) log
-        → loaded ≡ counted (answers log plan.now)) }
+    ensures counts { IfOk result (CountsAnswers (C.seen counter.old) (C.seen counter.new) plan.now) }
     ensures all { IfOk result (λ loaded. total loaded ≡ length plan.now) }
     ensures done { OnOk result (LoadsAll (C.seen counter.old) (C.seen counter.new) plan.now) }
 

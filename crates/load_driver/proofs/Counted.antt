@@ -9,7 +9,7 @@ use Rattle.message_records.specs.believed.Spelling.{digits, reply_spelling}
 use Rattle.message_records.specs.declared.records.Outcome.TheVariants.{Posted}
 use Rattle.posting_rules.specs.believed.Commands.{Command, Open, Post, Close}
 use Rattle.posting_rules.specs.believed.{Entries.reply, Runs.followed_by, Runs.replies_to}
-use Rattle.load_driver.specs.{Counted.is_posted, believed.Records.posted_among}
+use Rattle.load_driver.specs.believed.Records.{is_posted, posted_among}
 
 by_outcome : (outcome : Outcome) (rest : List ℕ)
     → is_posted (codes "DR01" ++ (digits 2 (code_of outcome) ++ rest)) ≡ has_balance outcome

@@ -12,6 +12,8 @@ use Rattle.posting_rules.proofs.{Resends.shows_log_left_out, SoundEntries.open_w
 use Rattle.posting_rules.proofs.CounterCalls.{Takes-append, refused_after}
 use Rattle.posting_core.specs.believed.Batches.{Batch, posts_of, records_of}
 use Rattle.posting_core.specs.{believed.Stream.IfUp, Stream.IsOfCall}
+use Rattle.posting_rules.specs.Counter.{StaysByTables}
+use Rattle.posting_core.proofs.ByTables.{batches_after_read, no_batches}
 use Rattle.posting_core.proofs.{Batched.all_posts, Batched.posted_is, Stops.refused_stop, Stops.stop_all}
 use Rattle.branch_loader.specs.believed.Plans.{Row, Rows}
 use Rattle.load_driver.specs.{believed.Requests.IsAscending, declared.drive.Driven.Driven, Records.NoneOpen}
@@ -88,6 +90,10 @@ module _ {C : Type 0} (seen : C → Seen) (old new : C) (k : Option (List ℕ)) 
       honest_first = u.honest_first;
       honest = u.honest;
       takes = u.takes;
+      replies = [];
+      by_tables = batches_after_read (seen old) (seen u.stood) (seen u.stood) [] [] (λ h. h) u.by_tables
+          (no_batches (seen u.stood));
+      counted = tt;
       ends = record { one = omega arith; refuses = u.refuses };
       survives = λ h log s. refused_stop fault (seen u.stood) (seen new) log [] u.refuses h
           (u.takes.stands (u.honest h) log s);
@@ -98,10 +104,11 @@ module _ {C : Type 0} (seen : C → Seen) (old new : C) (k : Option (List ℕ)) 
 
   -- there was nothing to draw from, or memory was refused
   pub ended_empty : (plan : Rows) (fault : DriveFault) → MayRefuse plan fault → Takes (seen old) (seen new) []
+      → StaysByTables (seen old) (seen new)
       → ((seen new).honest → (seen old).honest)
       → ((seen new).honest → (log : List Command) → ShowsLog (seen old) log → plan ≡ open_branches log)
       → ((seen old).is_down → new ≡ old) → Drives seen old new k k seed count (Err fault)
-  ended_empty plan NoBranches none takes honest listed idle = record {
+  ended_empty plan NoBranches none takes stays honest listed idle = record {
     rows = plan;
     submits = record {
       taken = [];
@@ -114,6 +121,9 @@ module _ {C : Type 0} (seen : C → Seen) (old new : C) (k : Option (List ℕ)) 
       honest_first = honest;
       honest = λ h. h;
       takes = takes;
+      replies = [];
+      by_tables = batches_after_read (seen old) (seen new) (seen new) [] [] (λ h. h) stays (no_batches (seen new));
+      counted = tt;
       ends = record { no_rows = none; none_taken = refl; none_refused = refl; stays = refl };
       survives = λ h log s. stop_all (seen new) log [] [] refl (takes.stands h log s);
     };
@@ -121,7 +131,7 @@ module _ {C : Type 0} (seen : C → Seen) (old new : C) (k : Option (List ℕ)) 
         (no_rows_rise plan none);
     idle = idle;
   }
-  ended_empty plan (Bank fault) memory takes honest listed idle =
+  ended_empty plan (Bank fault) memory takes stays honest listed idle =
       let same : Refuses Memory (seen new) (seen new) [] =
       record { tables = λ t h. h; down = λ d. d; left = λ remains left. (remains, left, λ t h. h) } in
       ended_unlisted fault (record {
@@ -129,6 +139,7 @@ module _ {C : Type 0} (seen : C → Seen) (old new : C) (k : Option (List ℕ)) 
         honest_first = honest;
         honest = λ h. h;
         takes = takes;
+        by_tables = stays;
         refuses = subst (λ (f : Fault). Refuses f (seen new) (seen new) []) (sym memory) same;
         idle = idle;
       })
@@ -147,7 +158,7 @@ on_ok P (Err e) p = tt
 
 module _ {C : Type 0} (seen : C → Seen) (old mid new : C) (k k' : Option (List ℕ)) (rows : Rows)
     (seed count : ℕ)
-    (listing : Takes (seen old) (seen mid) []) (honest_first : (seen mid).honest → (seen old).honest)
+    (listing : Takes (seen old) (seen mid) []) (stays : StaysByTables (seen old) (seen mid)) (honest_first : (seen mid).honest → (seen old).honest)
     (honest : (seen new).honest → (seen mid).honest) where
   ends_after : (stood : C) (taken refused : List Batch) (result : Result Driven DriveFault)
       → EndsDrive seen mid stood new rows count taken refused result
@@ -177,6 +188,9 @@ module _ {C : Type 0} (seen : C → Seen) (old mid new : C) (k k' : Option (List
     honest = s.honest;
     takes = Takes-append (seen old) (seen mid) (seen s.stood) [] (posts_of s.taken) listing s.takes
         s.honest_first;
+    replies = s.replies;
+    by_tables = batches_after_read (seen old) (seen mid) (seen s.stood) s.taken s.replies s.honest_first stays s.by_tables;
+    counted = s.counted;
     ends = ends_after s.stood s.taken s.refused result s.ends;
     survives = λ h log stood. s.survives h log (listing.stands (honest h) log stood);
   }

@@ -1,8 +1,8 @@
 -- How a drive goes on by a batch, and how it ends.
-use Rattle.std.proofs.Common.{◌≡◌, ◌≤◌, ◌<◌, ◌+◌, ◌-◌, ℕ, List, [], ◌∷◌, ◌++◌, length, take, Option, Ok, Err, refl}
+use Rattle.std.proofs.Common.{◌≡◌, ◌≤◌, ◌<◌, ◌+◌, ◌-◌, ℕ, List, [], ◌∷◌, ◌++◌, length, take, Option, Ok, Err, cond, refl}
 use Rattle.std.proofs.Common.{sym, ap, subst, ◌∙◌, arith, append-nil}
-use Rattle.std.specs.{Prelude.min, List.AllByRecursion}
-use Rattle.std.proofs.lemmas.List.{length-append, length-take-le}
+use Rattle.std.specs.{Prelude.count_by, Prelude.min, List.AllByRecursion}
+use Rattle.std.proofs.lemmas.List.{length-append, length-take-le, Sums.sum_by-append}
 use Rattle.posting_rules.specs.declared.fault.Fault.{Fault}
 use Rattle.posting_rules.specs.believed.{Commands.Command, Runs.followed_by, Runs.posts}
 use Rattle.posting_rules.specs.declared.fault.Fault.TheVariants.{Memory}
@@ -10,12 +10,14 @@ use Rattle.posting_rules.specs.believed.Counter.{Seen, ShowsLog, Takes, Refuses}
 use Rattle.posting_core.specs.believed.Batches.{Batch, moments_of, posts_of, records_of}
 use Rattle.posting_core.specs.{believed.Clock.AreReadings, Clock.IsReading, believed.Stream.IfUp}
 use Rattle.posting_core.proofs.{Batched.posts_of_one_more, Batched.records_one_more, StreamedBatches.all_more}
+use Rattle.posting_core.specs.believed.ByTables.{BatchesByTables}
+use Rattle.posting_core.proofs.ByTables.{batch_more, no_batches}
 use Rattle.posting_core.proofs.{StreamedBatches.clock_batch, StreamedBatches.takes_batch, Stops.refused_stop}
 use Rattle.posting_core.proofs.Stops.{stop_all, stop_part}
 use Rattle.branch_loader.specs.believed.Plans.{Rows}
 use Rattle.load_driver.specs.{Counts.Driving, Counted.IsCounted, believed.Drives.Submits}
 use Rattle.load_driver.specs.{declared.drive.Driven.Driven, declared.drive_fault.DriveFault.TheVariants.Bank}
-use Rattle.load_driver.specs.believed.Records.{AreFull, drawn, first_drawn, posted_among}
+use Rattle.load_driver.specs.believed.Records.{AreFull, drawn, first_drawn, is_posted, posted_among}
 use Rattle.load_driver.proofs.{Counted.posted_among-append, Drawn.drawn_on}
 
 -- ---- batches
@@ -49,6 +51,9 @@ pub record Going {C : Type 0} (seen : C → Seen) (old now : C) (k k' : Option (
   pub total : driven.posted + driven.refused ≡ driver.given
   pub posted : (seen now).honest → (log : List Command) → ShowsLog (seen old) log
       → driven.posted ≡ posted_among log (posts_of batches)
+  pub replies : List (List ℕ)
+  pub by_tables : BatchesByTables (seen old) (seen now) batches replies
+  pub counted : driven.posted ≡ count_by is_posted replies
 
 pub going_first : {C : Type 0} (seen : C → Seen) (c : C) (k : Option (List ℕ)) (first : Driving) (count : ℕ)
     → first.given ≡ 0 → ((seen c).is_down → ⊥)
@@ -69,6 +74,9 @@ going_first seen c k first count none up = record {
   up = up;
   total = sym none;
   posted = λ h log s. refl;
+  replies = [];
+  by_tables = no_batches (seen c);
+  counted = refl;
 }
 
 -- the records of a batch that was drawn next
@@ -104,7 +112,7 @@ module _ {C : Type 0} (seen : C → Seen) (old now new : C) (k k' k'' : Option (
   pub going_on : (posted : ℕ) (after : Driving) (later : Driven)
       → after ≡ (let d : Driving = record driver { given = driver.given + size } in d)
       → later.posted ≡ driven.posted + posted → later.refused ≡ driven.refused + (size - posted)
-      → (size < left → size ≡ 64) → IsCounted (seen now) (seen new) (posts moment records) posted
+      → (size < left → size ≡ 64) → IsCounted (seen now) (seen new) moment records posted
       → posted ≤ size → ((seen new).is_down → ⊥)
       → Going seen old new k k'' first after count (left - size) later
   going_on posted after later goes_on more rest whole counted most up =
@@ -132,6 +140,13 @@ module _ {C : Type 0} (seen : C → Seen) (old now new : C) (k k' k'' : Option (
             ∙ ap (λ (n : ℕ). posted_among log (posts_of g.batches) + n) one
             ∙ sym (posted_among-append log (posts_of g.batches) (posts moment records))
             ∙ ap (posted_among log) (sym (posts_of_one_more g.batches batch));
+        replies = g.replies ++ counted.replies;
+        by_tables = batch_more (seen old) (seen now) (seen new) g.batches batch g.replies counted.replies honest
+            g.by_tables counted.by_tables;
+        counted = more
+            ∙ ap (λ (n : ℕ). n + posted) g.counted
+            ∙ ap (λ (n : ℕ). count_by is_posted g.replies + n) counted.counted
+            ∙ sym (sum_by-append (λ (reply : List ℕ). cond (is_posted reply) 1 0) g.replies counted.replies);
       }
 
   -- it was refused
@@ -150,6 +165,9 @@ module _ {C : Type 0} (seen : C → Seen) (old now new : C) (k k' k'' : Option (
         honest_first = g.honest;
         honest = honest;
         takes = g.takes;
+        replies = g.replies;
+        by_tables = g.by_tables;
+        counted = tt;
         ends = record {
           one = omega arith;
           refuses = subst (λ (cs : List Command). Refuses fault (seen now) (seen new) cs) (sym one) refuses;
@@ -181,6 +199,9 @@ end_done seen old now k k' first driver count left driven g none =
       honest_first = g.honest;
       honest = λ h. h;
       takes = g.takes;
+      replies = g.replies;
+      by_tables = g.by_tables;
+      counted = g.counted;
       ends = record {
         none_refused = refl;
         stays = refl;

@@ -13,6 +13,8 @@ use Rattle.posting_rules.specs.believed.Counter.{Seen, ShowsLog, Takes}
 use Rattle.branch_loader.specs.{believed.Plans.Row, believed.Plans.Rows, declared.fault.PlanFault.PlanFault}
 use Rattle.branch_loader.specs.Plans.{IsRow, floor_within, names, plan_of_list, row_of_listed, rows_by}
 use Rattle.posting_rules.proofs.CounterCalls.{Takes-append, was_up}
+use Rattle.posting_rules.specs.Counter.{StaysByTables}
+use Rattle.posting_core.proofs.ByTables.{stays_itself, stays_then}
 use Rattle.branch_loader.proofs.Stated.{rows_by-ok, rows_by-done}
 use Rattle.load_driver.specs.believed.Records.{open_branches, open_up_to, row_if_open}
 
@@ -113,6 +115,7 @@ pub record Listing {C : Type 0} (seen : C → Seen) (old now : C) (rows : Rows) 
   pub listed : (seen now).honest → (log : List Command) → ShowsLog (seen old) log
       → rows ≡ open_up_to log after
   pub takes : Takes (seen old) (seen now) []
+  pub by_tables : StaysByTables (seen old) (seen now)
   pub honest : (seen now).honest → (seen old).honest
   pub up : (seen now).is_down → (seen old).is_down
   pub idle : (seen old).is_down → now ≡ old
@@ -125,6 +128,7 @@ listing_first seen c = record {
   few = omega arith;
   listed = λ h log s. refl;
   takes = record { shows = λ h log s. s; stands = λ h log s. s };
+  by_tables = stays_itself (seen c);
   honest = λ h. h;
   up = λ d. d;
   idle = λ d. refl;
@@ -135,8 +139,8 @@ pub listing_more : {C : Type 0} (seen : C → Seen) (old now new : C) (rows : Ro
     → Listing seen old now rows after → IsLineAbove after line → Takes (seen now) (seen new) []
     → ((seen new).honest → (log : List Command) → ShowsLog (seen now) log → IsNextOpen log after line)
     → ((seen now).is_down → ⊥) → ((seen new).is_down → ⊥) → ((seen new).honest → (seen now).honest)
-    → Listing seen old new (rows ++ (line.branch, line.accounts, line.floor) ∷ []) line.branch
-listing_more seen old now new rows after line l in_range takes next up_now is_up honest =
+    → StaysByTables (seen now) (seen new) → Listing seen old new (rows ++ (line.branch, line.accounts, line.floor) ∷ []) line.branch
+listing_more seen old now new rows after line l in_range takes next up_now is_up honest stays =
     let p : Row = (line.branch, line.accounts, line.floor) in
     let above = in_range.above in
     let row : IsRow p = (omega arith, in_range.branch, in_range.some, in_range.few, in_range.floor) in
@@ -148,6 +152,7 @@ listing_more seen old now new rows after line l in_range takes next up_now is_up
           ap (λ (rs : Rows). rs ++ p ∷ []) (l.listed (honest h) log s)
           ∙ sym (next_more log after line (next h log (l.takes.shows (honest h) log s)));
       takes = Takes-append (seen old) (seen now) (seen new) [] [] l.takes takes honest;
+      by_tables = stays_then (seen old) (seen now) (seen new) honest l.by_tables stays;
       honest = λ h. l.honest (honest h);
       up = λ d. absurd (is_up d);
       idle = λ d. absurd (was_up seen old now l.idle up_now d);

@@ -4,7 +4,7 @@ use Rattle.posting_rules.specs.declared.fault.Fault.{Fault}
 use Rattle.posting_rules.specs.declared.fault.Fault.TheVariants.{Memory}
 use Rattle.posting_rules.specs.believed.Commands.{Command}
 use Rattle.posting_rules.specs.believed.Counter.{Seen, ShowsLog, Takes, Refuses}
-use Rattle.posting_rules.specs.Resends.{Skips}
+use Rattle.posting_rules.specs.{Counter.StaysByTables, Resends.Skips}
 use Rattle.posting_rules.specs.believed.Runs.{followed_by, ArePosts}
 use Rattle.posting_core.specs.believed.Stream.{IfUp, posted_records}
 use Rattle.branch_loader.specs.believed.Plans.{Rows}
@@ -22,6 +22,7 @@ MayRefuse rows (Bank fault) = fault ≡ Memory
 -- the counter listed its branches: it was given nothing, and can be used
 pub record IsListed (old new : Seen) : Type 0 where
   pub takes : Takes old new []
+  pub by_tables : StaysByTables old new
   pub up : new.is_down → ⊥
   pub honest : new.honest → old.honest
 
@@ -31,6 +32,7 @@ pub record IsUnlisted {C : Type 0} (seen : C → Seen) (old new : C) (fault : Fa
   pub honest_first : (seen stood).honest → (seen old).honest
   pub honest : (seen new).honest → (seen stood).honest
   pub takes : Takes (seen old) (seen stood) []
+  pub by_tables : StaysByTables (seen old) (seen stood)
   pub refuses : Refuses fault (seen stood) (seen new) []
   pub idle : (seen old).is_down → new ≡ old
 

@@ -4,8 +4,8 @@ ghost use Rattle.posting_rules.specs.believed.Counter.{Refuses};
 ghost use Rattle.posting_rules.specs.Counter.{HasRefused};
 ghost use Rattle.posting_rules.specs.believed.Runs.{posts};
 ghost use Rattle.posting_core.specs.Clock.{IsReading};
-ghost use Rattle.load_driver.specs.Counted.{IsCounted, is_posted};
-ghost use Rattle.load_driver.specs.believed.Records.{drawn};
+ghost use Rattle.load_driver.specs.Counted.{IsCounted};
+ghost use Rattle.load_driver.specs.believed.Records.{drawn, is_posted};
 
 use crate::{Driver, MAX_RECORDS};
 use message_records::{REPLY_BYTES, REQUEST_BYTES};
@@ -54,7 +54,7 @@ pub(crate) fn submit_batch<C: Counter, K: Clock>(
     ensures goes_on { driver.new ≡ record driver.old { given = driver.old.given + length batch.old } }
     ensures answers { (moment : ℕ) × IsReading (K.readings clock.old) (K.readings clock.new) moment
         × MatchResult result
-        (λ posted. IsCounted (C.seen counter.old) (C.seen counter.new) (posts moment batch.new) posted)
+        (λ posted. IsCounted (C.seen counter.old) (C.seen counter.new) moment batch.new posted)
         (λ fault. Refuses fault (C.seen counter.old) (C.seen counter.new) (posts moment batch.new)) }
     ensures up { OnOk result ((C.seen counter.new).is_down → ⊥) }
     ensures why { IfErr result (HasRefused C.seen C.reason counter.old counter.new) }

@@ -1,11 +1,12 @@
 -- Batches on whatever tables a counter shows, be they those of a log or not.
 use Rattle.std.proofs.Common.{◌≡◌, ℕ, List, [], ◌∷◌, ◌++◌, refl, sym, ap, subst, ◌∙◌, append_assoc, append-nil}
+use Rattle.posting_rules.specs.Counter.{StaysByTables}
 use Rattle.posting_rules.specs.believed.AnyTables.{AnswersByTables, HasRoom}
 use Rattle.posting_rules.specs.believed.Changes.{replies_past_all, tables_past_all}
 use Rattle.posting_rules.specs.believed.{Counter.LeavesOnly, Counter.Seen, Tables.Tables}
 use Rattle.posting_rules.proofs.AnyTables.{room_past_all}
 use Rattle.posting_core.specs.believed.{Batches.Batch, Batches.replies_past_batches, Batches.tables_past_batches}
-use Rattle.posting_core.specs.ByTables.{BatchesByTables}
+use Rattle.posting_core.specs.believed.ByTables.{BatchesByTables}
 
 -- none was answered
 pub no_batches : (c : Seen) → BatchesByTables c c [] []
@@ -51,4 +52,25 @@ batch_more c c' c'' bs b before replies honest led it = record {
       (sym (tables_one_more t bs b))
       (it.survives h (tables_past_batches t bs) (room_past_batches t bs room) (led.shows (honest h) t room there)
       (led.survives (honest h) t room there only));
+}
+
+-- ---- reads before them
+
+pub stays_itself : (c : Seen) → StaysByTables c c
+stays_itself c = record { shows = λ h t there. there; survives = λ h t there only. only }
+
+pub stays_then : (a b c : Seen) → (c.honest → b.honest) → StaysByTables a b → StaysByTables b c → StaysByTables a c
+stays_then a b c honest one two = record {
+  shows = λ h t there. two.shows h t (one.shows (honest h) t there);
+  survives = λ h t there only.
+      two.survives h t (one.shows (honest h) t there) (one.survives (honest h) t there only);
+}
+
+pub batches_after_read : (a b c : Seen) (bs : List Batch) (replies : List (List ℕ)) → (c.honest → b.honest)
+    → StaysByTables a b → BatchesByTables b c bs replies → BatchesByTables a c bs replies
+batches_after_read a b c bs replies honest read led = record {
+  are = λ h t room there. led.are h t room (read.shows (honest h) t there);
+  shows = λ h t room there. led.shows h t room (read.shows (honest h) t there);
+  survives = λ h t room there only.
+      led.survives h t room (read.shows (honest h) t there) (read.survives (honest h) t there only);
 }

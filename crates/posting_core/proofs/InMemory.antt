@@ -12,6 +12,7 @@ use Rattle.posting_rules.specs.believed.Changes.{replies_past_all, tables_past_a
 use Rattle.posting_rules.specs.believed.Commands.{Command, AreCommands}
 use Rattle.posting_rules.specs.believed.{Runs.followed_by, Tables.Tables, Tables.AreTablesOf}
 use Rattle.posting_rules.specs.believed.Counter.{IsCounterCall, IsSeenUnchanged, ShowsLog, StandsAt, Takes}
+use Rattle.posting_rules.specs.Counter.{StaysByTables}
 use Rattle.posting_batch.specs.Slots.{in_slot}
 use Rattle.posting_core.specs.declared.plain_bank.PlainBank.{PlainBank}
 use Rattle.posting_core.specs.Plain.{plain_reason, plain_tables, plain_seen}
@@ -118,6 +119,14 @@ stays_plain old new same = record {
   tables = λ t is. is ∙ sym same;
   down = λ down. down;
   left = λ remains is. (remains, is ∙ same, λ t found. found);
+}
+
+-- so they are on whatever tables they were
+pub stays_by_plain : (old new : PlainBank) → plain_tables new ≡ plain_tables old
+    → StaysByTables (plain_seen old) (plain_seen new)
+stays_by_plain old new same = record {
+  shows = λ h t is. is ∙ sym same;
+  survives = λ h t is only remains left. (remains, refl, left ∙ same ∙ sym is);
 }
 
 -- it only read

@@ -3,6 +3,7 @@ mod NextBranch
 pub mod Telling
 pub mod Appending
 pub mod InMemory
+pub mod Opened
 pub mod Transferred
 pub mod Timeless
 pub mod Batched

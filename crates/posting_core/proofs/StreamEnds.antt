@@ -15,7 +15,7 @@ use Rattle.posting_rules.specs.believed.Runs.{followed_by, posts, replies_to}
 use Rattle.posting_core.specs.believed.Batches.{Batch, IsBatch, IsRecord, joined, moments_of, records_of, posts_of}
 use Rattle.posting_core.specs.believed.Stream.{EndsStream, IsStreamedOn, RepliesAreWritten, IfUp, UnlessDown}
 use Rattle.posting_rules.specs.believed.AnyTables.{HasRoom}
-use Rattle.posting_core.specs.ByTables.{BatchesByTables}
+use Rattle.posting_core.specs.believed.ByTables.{BatchesByTables}
 use Rattle.posting_core.proofs.{Batched.joined-append, ByTables.batch_more}
 use Rattle.posting_core.specs.Stream.{FollowReads, StreamsAsRead, read_by, submitted_by}
 use Rattle.posting_core.proofs.{ReadsFollowed.Following, Prompt.prompt_written, Streaming.Going}

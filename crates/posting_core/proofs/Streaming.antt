@@ -10,7 +10,7 @@ use Rattle.posting_core.specs.{declared.stream.TheConstants.BUFFER, believed.Clo
 use Rattle.posting_rules.specs.believed.{Commands.Command, Runs.replies_to}
 use Rattle.posting_rules.specs.believed.Counter.{Seen, ShowsLog, Takes}
 use Rattle.posting_core.specs.believed.Batches.{Batch, IsBatch, IsRecord, joined, moments_of, records_of, posts_of}
-use Rattle.posting_core.specs.ByTables.{BatchesByTables}
+use Rattle.posting_core.specs.believed.ByTables.{BatchesByTables}
 use Rattle.posting_core.proofs.ByTables.{no_batches}
 
 -- ---- where the loop stands

@@ -6,7 +6,6 @@ pub mod EndCalls
 pub mod Once
 pub mod Clock
 pub mod Batches
-pub mod ByTables
 pub mod Stream
 pub mod Readings
 pub mod Again

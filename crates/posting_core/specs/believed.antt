@@ -4,3 +4,4 @@ pub mod Batches
 pub mod Stream
 pub mod LogEntries
 pub mod Tills
+pub mod ByTables

@@ -1,8 +1,8 @@
 //! A counter whose log another bank can follow, and whose tellers are asked what they hold.
 ghost use Rattle.std.specs.Prelude.{◌≡◌, [], OnOk};
 ghost use Rattle.std.specs.Option.{option_map};
-ghost use Rattle.posting_rules.specs.believed.Tables.{Tables};
 ghost use Rattle.posting_rules.specs.believed.Counter.{Answers, IsCounterCall};
+ghost use Rattle.posting_rules.specs.Counter.{StaysByTables};
 ghost use Rattle.posting_core.specs.believed.LogEntries.{entries_given};
 ghost use Rattle.posting_core.specs.believed.Tills.{teller_after};
 
@@ -20,8 +20,7 @@ pub trait Followed: Counter {
         ensures answer { Answers (Self.seen self.old) (Self.seen self.new) result
             (λ log given. option_map (λ bytes. bytes.items) given ≡ entries_given log after) }
         ensures call { IsCounterCall Self.seen Self.contents Self.reason self.old self.new [] result }
-        ensures tables { OnOk result ((Self.seen self.new).honest → (t : Tables) → (Self.seen self.old).tables t
-            → (Self.seen self.new).tables t) }
+        ensures by_tables { OnOk result (StaysByTables (Self.seen self.old) (Self.seen self.new)) }
         ensures spares { Self.spares self.old self.new };
 
     /// The balance of a teller in cents; none where it isn't open. It changes nothing.
@@ -29,7 +28,6 @@ pub trait Followed: Counter {
         ensures answer { Answers (Self.seen self.old) (Self.seen self.new) result
             (λ log balance. balance ≡ teller_after log teller) }
         ensures call { IsCounterCall Self.seen Self.contents Self.reason self.old self.new [] result }
-        ensures tables { OnOk result ((Self.seen self.new).honest → (t : Tables) → (Self.seen self.old).tables t
-            → (Self.seen self.new).tables t) }
+        ensures by_tables { OnOk result (StaysByTables (Self.seen self.old) (Self.seen self.new)) }
         ensures spares { Self.spares self.old self.new };
 }

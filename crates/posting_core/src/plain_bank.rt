@@ -442,6 +442,7 @@ impl Counter for PlainBank {
     ghost use Rattle.posting_rules.specs.believed.Entries.{balance_after};
     ghost use Rattle.posting_rules.specs.believed.Tables.{Tables};
     ghost use Rattle.posting_rules.specs.believed.Counter.{Answers, IsCounterCall};
+    ghost use Rattle.posting_rules.specs.Counter.{StaysByTables};
     ghost use Rattle.posting_core.specs.Plain.{plain_reason, plain_seen, plain_spares, plain_tables};
 
     ghost seen = { plain_seen };
@@ -508,6 +509,7 @@ impl Counter for PlainBank {
         ensures answer { Answers (plain_seen self.old) (plain_seen self.new) result
             (λ log balance. balance ≡ balance_after log account) }
         ensures call { IsCounterCall plain_seen plain_tables plain_reason self.old self.new [] result }
+        ensures by_tables { OnOk result (StaysByTables (plain_seen self.old) (plain_seen self.new)) }
         ensures stays { plain_tables self.new ≡ plain_tables self.old }
     {
         Ok(balance_at(&self.accounts, account.get()))
@@ -520,6 +522,7 @@ impl Counter for PlainBank {
             (λ log line. IsNextBranch log after line) }
         ensures within { IfOk result (λ line. IfSome line (IsLineAbove after)) }
         ensures call { IsCounterCall plain_seen plain_tables plain_reason self.old self.new [] result }
+        ensures by_tables { OnOk result (StaysByTables (plain_seen self.old) (plain_seen self.new)) }
         ensures stays { plain_tables self.new ≡ plain_tables self.old }
     {
         let Some(row) = next_at(&self.branches, after) else {

@@ -2,8 +2,8 @@
 use Rattle.std.proofs.Common.{◌≡◌, ℕ, List, [], ◌∷◌, refl, sym, ap, ◌∙◌}
 use Rattle.message_records.specs.believed.Spelling.{reply_spelling}
 use Rattle.posting_rules.specs.believed.Commands.{Command, Open, Post, Close, AreCommands}
-use Rattle.posting_rules.specs.{believed.Changes.tables_past, Changes.tables_with_branch, believed.Entries.reply}
-use Rattle.posting_rules.specs.Changes.{tables_closed}
+use Rattle.posting_rules.specs.{believed.Changes.tables_past, believed.Changes.tables_with_branch, believed.Entries.reply}
+use Rattle.posting_rules.specs.believed.Changes.{tables_closed}
 use Rattle.posting_rules.proofs.ClosedTables.{closing_shown}
 use Rattle.posting_rules.specs.{believed.Tables.Tables, believed.Tables.AreTablesOf, believed.Runs.replies_to}
 use Rattle.posting_rules.proofs.{Calls.opens, Records.past_reply, Records.past_shown}

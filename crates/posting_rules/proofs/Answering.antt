@@ -2,8 +2,8 @@
 use Rattle.std.proofs.Common.{◌≡◌, ℕ, List, [], ◌∷◌, Option, Some, None, sym, ap, ◌∙◌}
 use Rattle.std.specs.Prelude.{option_map}
 use Rattle.posting_rules.specs.declared.counter.BranchLine.{BranchLine}
-use Rattle.posting_rules.specs.{Branches.IsNextBranch, believed.Changes.tables_past, Changes.tables_with_branch}
-use Rattle.posting_rules.specs.Changes.{tables_closed}
+use Rattle.posting_rules.specs.{Branches.IsNextBranch, believed.Changes.tables_past, believed.Changes.tables_with_branch}
+use Rattle.posting_rules.specs.believed.Changes.{tables_closed}
 use Rattle.posting_rules.proofs.ClosedTables.{closing_shown}
 use Rattle.posting_rules.specs.{believed.LookUps.balance_of_branch, believed.Runs.followed_by, Alike.AreAlike}
 use Rattle.posting_rules.specs.believed.Commands.{Command, Open, Post, Close, AreCommands, opened, Terms, opened_with}

@@ -35,7 +35,7 @@ still_unreferenced ordinal (Some text) rows k lt none =
     still_none reference_key (reference_row_of ordinal text) rows k lt none
 
 -- and so does a row that is changed
-still_unchanged : {R : Type 0} (key : R → ℕ) (k : ℕ) (change : R → R) → ((r : R) → key (change r) ≡ key r)
+pub still_unchanged : {R : Type 0} (key : R → ℕ) (k : ℕ) (change : R → R) → ((r : R) → key (change r) ≡ key r)
     → (rows : List R) (n : ℕ) → row_at key rows n ≡ None → row_at key (row_changed key change k rows) n ≡ None
 still_unchanged key k change same rows n none =
     row_at-changed key k change same rows n

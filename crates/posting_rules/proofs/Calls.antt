@@ -12,7 +12,7 @@ use Rattle.posting_rules.proofs.{Looked.terms_shown, Ready.ready_shown, ChangesB
 use Rattle.posting_rules.proofs.TablesWithBranch.{opening_shown, already_open_shown}
 use Rattle.posting_rules.proofs.TablesWithRecord.{post_shown, reply_shown}
 use Rattle.posting_rules.specs.believed.Changes.{tables_with, reply_bytes}
-use Rattle.posting_rules.specs.Changes.{opened_where, tables_with_branch}
+use Rattle.posting_rules.specs.believed.Changes.{opened_where, tables_with_branch}
 
 -- the change is that of the commands
 abbrev pub IsChange : (Tables → Tables) → List Command → Type 0

@@ -5,7 +5,7 @@ use Rattle.posting_rules.specs.believed.Closings.{are_free, run_of, closings}
 use Rattle.posting_rules.specs.believed.Commands.{Command, Close, opened}
 use Rattle.posting_rules.specs.believed.Entries.{decided}
 use Rattle.posting_rules.specs.believed.Tables.{Tables, HasRows, AreTablesOf, closing_key}
-use Rattle.posting_rules.specs.{Changes.tables_closed, ChangesByKey.GainsRow}
+use Rattle.posting_rules.specs.{believed.Changes.tables_closed, ChangesByKey.GainsRow}
 use Rattle.posting_rules.proofs.{Keyed.by_test, RowChanges.row_adds}
 use Rattle.posting_rules.proofs.Closings.{closing_keys, free_shown, last_free}
 

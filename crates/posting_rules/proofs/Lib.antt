@@ -39,3 +39,5 @@ pub mod Calls
 pub mod CounterCalls
 pub mod Records
 pub mod AnyTables
+pub mod SameRows
+pub mod ByCommands

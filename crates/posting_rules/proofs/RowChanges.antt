@@ -135,7 +135,7 @@ row_adds key rows x keys none = record { rows = row_at-put key x rows; keys = ke
 
 -- ---- rows under numbers in a row are put in, one by one
 
-from_none : (first n : ℕ) → is_from first 0 n ≡ false
+pub from_none : (first n : ℕ) → is_from first 0 n ≡ false
 from_none first n = grind (arith, nat_tests)
 
 from_more : (first count n : ℕ) → is_from first count n ≡ true → is_from first (suc count) n ≡ true
@@ -148,7 +148,7 @@ from_other : (first count n : ℕ) → is_from first count n ≡ false → eqb (
     → is_from first (suc count) n ≡ false
 from_other first count n h e = grind (arith, nat_tests)
 
-one_row_more : {R : Type 0} (row : ℕ → R) (first count n : ℕ) (rest : Option R)
+pub one_row_more : {R : Type 0} (row : ℕ → R) (first count n : ℕ) (rest : Option R)
     → cond (eqb (first + count) n) (Some (row (first + count)))
     (cond (is_from first count n) (Some (row n)) rest)
     ≡ cond (is_from first (suc count) n) (Some (row n)) rest
@@ -169,7 +169,7 @@ rows_none key row first rows keys = record {
   keys = keys;
 }
 
-not_yet : (first count : ℕ) → is_from first count (first + count) ≡ false
+pub not_yet : (first count : ℕ) → is_from first count (first + count) ≡ false
 not_yet first count = grind (arith, nat_tests)
 
 -- the number after them is as free as before
@@ -197,6 +197,19 @@ rows_more key row first count old mid new own before none adds =
           ∙ one_row_more row first count n (row_at key old n);
       keys = last.keys;
     }
+
+-- rows under numbers in a row stand before those that had their keys
+pub row_at-rows_put : {R : Type 0} (key : R → ℕ) (row : ℕ → R) (first count : ℕ) (rows : List R)
+    → ((n : ℕ) → key (row n) ≡ n) → (n : ℕ)
+    → row_at key (rows_put key row first count rows) n ≡ cond (is_from first count n) (Some (row n)) (row_at key rows n)
+row_at-rows_put key row first zero rows own n =
+    ap (λ (b : Bool). cond b (Some (row n)) (row_at key rows n)) (sym (from_none first n))
+row_at-rows_put key row first (suc count) rows own n =
+    let before = rows_put key row first count rows in
+    row_at-put key (row (first + count)) before n
+    ∙ ap (λ (k : ℕ). cond (eqb k n) (Some (row (first + count))) (row_at key before n)) (own (first + count))
+    ∙ ap (cond (eqb (first + count) n) (Some (row (first + count)))) (row_at-rows_put key row first count rows own n)
+    ∙ one_row_more row first count n (row_at key rows n)
 
 -- rows with these numbers for their keys, of which none had a row, are added
 pub rows_add : {R : Type 0} (key : R → ℕ) (row : ℕ → R) (first count : ℕ) (rows : List R)

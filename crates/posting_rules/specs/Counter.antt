@@ -1,9 +1,10 @@
--- What a failed call leaves.
+-- What a failed call leaves, and what a read does.
 use Rattle.std.specs.Prelude.{◌≡◌, List}
 use Rattle.posting_rules.specs.declared.fault.Fault.{Fault}
 use Rattle.posting_rules.specs.declared.fault.Fault.TheVariants.{Down}
 use Rattle.posting_rules.specs.believed.Commands.{Command}
-use Rattle.posting_rules.specs.believed.Counter.{Seen, Takes}
+use Rattle.posting_rules.specs.believed.Counter.{LeavesOnly, Seen, Takes}
+use Rattle.posting_rules.specs.believed.Tables.{Tables}
 
 -- where it is honest, a crash leaves something
 abbrev pub LeavesSomething : Seen → Type 0
@@ -23,3 +24,9 @@ pub record HasRefused {C : Type 0} (seen : C → Seen) (reason : Fault → C →
   pub untried : fault ≡ Down → new ≡ stood
   -- one that was down from the start stood as it was: it took nothing
   pub idle : (seen old).is_down → stood ≡ old
+
+-- It was read: it shows whatever tables it showed, and where a crash could leave those alone, it leaves those alone.
+pub record StaysByTables (old new : Seen) : Type 0 where
+  pub shows : new.honest → (t : Tables) → old.tables t → new.tables t
+  pub survives : new.honest → (t : Tables) → old.tables t → LeavesOnly old (λ left. left ≡ t)
+      → LeavesOnly new (λ left. left ≡ t)

@@ -13,4 +13,5 @@ pub mod Resends
 pub mod Changes
 pub mod Sound
 pub mod Branches
+pub mod ByCommands
 pub mod Alike

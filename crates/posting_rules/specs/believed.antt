@@ -13,3 +13,4 @@ pub mod ClosedBooks
 pub mod Counter
 pub mod AnyTables
 pub mod Changes
+pub mod ByCommands

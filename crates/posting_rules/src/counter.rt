@@ -4,10 +4,9 @@ ghost use Rattle.message_records.specs.believed.Spelling.{reply_spelling};
 ghost use Rattle.posting_rules.specs.Branches.{IsNextBranch, IsLineAbove};
 ghost use Rattle.posting_rules.specs.believed.Commands.{Open, Post, opened_with};
 ghost use Rattle.posting_rules.specs.believed.Entries.{reply, balance_after};
-ghost use Rattle.posting_rules.specs.believed.Tables.{Tables};
-ghost use Rattle.posting_rules.specs.believed.AnyTables.{AnswersByTables};
+ghost use Rattle.posting_rules.specs.believed.AnyTables.{AnswersByTables, OpensByTables};
 ghost use Rattle.posting_rules.specs.believed.Counter.{Seen, Answers, IsCounterCall, opening_after};
-ghost use Rattle.posting_rules.specs.Counter.{LeavesSomething};
+ghost use Rattle.posting_rules.specs.Counter.{LeavesSomething, StaysByTables};
 ghost use Rattle.posting_rules.specs.believed.Runs.{posts, replies_to};
 ghost use Rattle.posting_rules.specs.declared.fault.Fault.{Fault as Cause};
 
@@ -114,6 +113,8 @@ pub trait Counter {
             (λ log opening. opening ≡ opening_after log branch (opened_with count floor)) }
         ensures call { IsCounterCall seen contents reason self.old self.new
             (Open branch (opened_with count floor) ∷ []) result }
+        ensures by_tables { IfOk result (OpensByTables (seen self.old) (seen self.new) branch
+            (opened_with count floor)) }
         ensures spares { spares self.old self.new };
 
     /// The balance of an account in cents; none where it isn't open. It changes nothing.
@@ -121,8 +122,7 @@ pub trait Counter {
         ensures answer { Answers (seen self.old) (seen self.new) result
             (λ log balance. balance ≡ balance_after log account) }
         ensures call { IsCounterCall seen contents reason self.old self.new [] result }
-        ensures tables { OnOk result ((seen self.new).honest → (t : Tables) → (seen self.old).tables t
-            → (seen self.new).tables t) }
+        ensures by_tables { OnOk result (StaysByTables (seen self.old) (seen self.new)) }
         ensures spares { spares self.old self.new };
 
     /// The open branch with the least number above this one; none where no such branch is open. It changes
@@ -133,8 +133,7 @@ pub trait Counter {
             (λ log line. IsNextBranch log after line) }
         ensures within { IfOk result (λ line. IfSome line (IsLineAbove after)) }
         ensures call { IsCounterCall seen contents reason self.old self.new [] result }
-        ensures tables { OnOk result ((seen self.new).honest → (t : Tables) → (seen self.old).tables t
-            → (seen self.new).tables t) }
+        ensures by_tables { OnOk result (StaysByTables (seen self.old) (seen self.new)) }
         ensures spares { spares self.old self.new };
 
     // What is said of everything that a crash may leave is said of something.

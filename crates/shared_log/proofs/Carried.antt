@@ -49,7 +49,7 @@ still_held None log log' held same = tt
 still_held (Some entries) log log' held same = same ∙ held
 
 -- tables of another log with the same entries
-held_still : (k : Known) (t t' : Tables) (log log' : List Command) → AreHeld k t → AreCommands log → AreTablesOf t log
+pub held_still : (k : Known) (t t' : Tables) (log log' : List Command) → AreHeld k t → AreCommands log → AreTablesOf t log
     → AreCommands log' → AreTablesOf t' log' → log_entries log' ≡ log_entries log → AreHeld k t'
 held_still k t t' log log' held are shows are' shows' same = record {
   log = log';

@@ -1,5 +1,6 @@
 pub mod Entries
 pub mod Carried
+pub mod ByTables
 pub mod Appends
 pub mod Along
 pub mod Same

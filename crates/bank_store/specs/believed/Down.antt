@@ -14,7 +14,7 @@ use Rattle.store_rows.specs.believed.Failures.{Additions}
 use Rattle.bank_transactions.specs.believed.Stray.{IsDamage}
 use Rattle.bank_transactions.specs.believed.Additions.{AddsBranch, AddsForRecords, AnyRow}
 use Rattle.bank_transactions.specs.believed.Batches.{HasRoomFor}
-use Rattle.bank_transactions.specs.believed.Openings.{IsReadyToOpen}
+use Rattle.posting_rules.specs.believed.AnyTables.{IsReadyToOpen}
 use Rattle.bank_transactions.specs.believed.Causes.{HasFailedBetween, IsBrokenOrMet}
 use Rattle.bank_store.specs.believed.Seen.{bank_seen, cause_of, connection_of, database_of, file_of}
 use Rattle.bank_store.specs.declared.bank.Bank.{Bank}

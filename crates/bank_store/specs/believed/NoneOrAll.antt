@@ -3,7 +3,7 @@ use Rattle.std.specs.Prelude.{◌≡◌, ◌⊎◌, ℕ, List, [], ◌∷◌, If
 use Rattle.sqlite.specs.State.{Survives}
 use Rattle.sqlite.specs.Tree.{Trees}
 use Rattle.message_records.specs.believed.{Reading.request_of, Records.RequestFields}
-use Rattle.posting_rules.specs.believed.AnyTables.{AnswersByTables}
+use Rattle.posting_rules.specs.believed.AnyTables.{AnswersByTables, IsReadyToOpen}
 use Rattle.posting_rules.specs.believed.Changes.{replies_past_all, tables_opened, tables_past_all}
 use Rattle.posting_rules.specs.believed.Commands.{Command, Terms}
 use Rattle.posting_rules.specs.believed.Counter.{Seen, LeavesOnly, StandsAt}
@@ -11,7 +11,6 @@ use Rattle.posting_rules.specs.believed.Runs.{followed_by}
 use Rattle.posting_rules.specs.believed.Tables.{Tables, AreTablesOf}
 use Rattle.posting_rules.specs.declared.fault.Fault.{Fault}
 use Rattle.bank_transactions.specs.believed.Batches.{DecidesNone, HasRoomFor}
-use Rattle.bank_transactions.specs.believed.Openings.{IsReadyToOpen}
 use Rattle.sqlite_trees.specs.declared.store.Store.{Ghosts}
 use Rattle.bank_store.specs.believed.Down.{BreaksOpening, BreaksRule, OfDamage}
 use Rattle.bank_store.specs.believed.Seen.{bank_seen, database_of, file_of}

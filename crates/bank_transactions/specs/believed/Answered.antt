@@ -10,7 +10,7 @@ use Rattle.posting_rules.specs.declared.counter.Opening.{Opening}
 use Rattle.posting_rules.specs.declared.counter.Opening.TheVariants.{Opened}
 use Rattle.bank_transactions.specs.believed.Additions.{AddsBranch, AddsForRecords}
 use Rattle.bank_transactions.specs.believed.Doing.{LeavesSo}
-use Rattle.bank_transactions.specs.believed.Openings.{HasRoomToOpen}
+use Rattle.posting_rules.specs.believed.AnyTables.{HasRoomToOpen}
 use Rattle.bank_transactions.specs.believed.Ran.{LeadTo, Runs}
 use Rattle.bank_transactions.specs.believed.Stored.{OpensByStored, RepliesToAllStored, RepliesToStored}
 

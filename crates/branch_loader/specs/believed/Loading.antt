@@ -1,5 +1,6 @@
 -- What loading a plan into a counter does.
 use Rattle.std.specs.Prelude.{◌≡◌, ℕ, ◌<◌, List, length, take, drop}
+use Rattle.posting_rules.specs.believed.ByCommands.{TakesByTables}
 use Rattle.posting_rules.specs.believed.Commands.{Command}
 use Rattle.posting_rules.specs.believed.Counter.{Seen, StandsAt, LeavesOnly, ShowsPrefix, Takes, Refuses}
 use Rattle.posting_rules.specs.declared.fault.Fault.{Fault}
@@ -21,6 +22,7 @@ pub record IsRefusedAfter {C : Type 0} (seen : C → Seen) (old new : C) (comman
   pub stood : C
   pub first : answered ≡ 0 → stood ≡ old
   pub taken : Takes (seen old) (seen stood) (take answered commands)
+  pub by_tables : TakesByTables (seen old) (seen stood) (take answered commands)
   pub refused : Refuses fault (seen stood) (seen new) (take 1 (drop answered commands))
   pub honest : (seen new).honest → (seen stood).honest
   pub up : (seen stood).is_down → (seen old).is_down × (answered ≡ 0)

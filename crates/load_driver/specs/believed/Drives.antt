@@ -1,17 +1,18 @@
 -- What a drive does to a counter, and what a crash may leave of it.
 -- The clock's known readings before and after are k and k', and seen gives what is seen of a counter.
-use Rattle.std.specs.Prelude.{◌≡◌, ◌≤◌, ◌+◌, ⊤, ℕ, List, [], ◌++◌, length, Option, Result, Ok, Err}
+use Rattle.std.specs.Prelude.{◌≡◌, ◌≤◌, ◌+◌, ⊤, ℕ, List, [], ◌++◌, length, Option, Result, Ok, Err, IfOk, count_by}
 use Rattle.posting_rules.specs.declared.fault.Fault.{Fault}
 use Rattle.posting_rules.specs.believed.Commands.{Command}
 use Rattle.posting_rules.specs.believed.Counter.{Seen, ShowsLog, StandsAt, LeavesOnly, ShowsPrefix, Takes, Refuses}
 use Rattle.posting_core.specs.believed.Batches.{Batch, moments_of, posts_of, records_of}
+use Rattle.posting_core.specs.believed.ByTables.{BatchesByTables}
 use Rattle.posting_core.specs.believed.Clock.{AreReadings}
 use Rattle.branch_loader.specs.believed.Plans.{Rows}
 use Rattle.load_driver.specs.believed.Requests.{IsAscending}
 use Rattle.load_driver.specs.declared.drive.Driven.{Driven}
 use Rattle.load_driver.specs.declared.drive_fault.DriveFault.{DriveFault}
 use Rattle.load_driver.specs.declared.drive_fault.DriveFault.TheVariants.{NoBranches, Bank}
-use Rattle.load_driver.specs.believed.Records.{AreFull, first_drawn, open_branches, posted_among}
+use Rattle.load_driver.specs.believed.Records.{AreFull, first_drawn, is_posted, open_branches, posted_among}
 
 -- ---- how it ends: some batches were taken, the counter stood there, and a batch was refused then or none
 
@@ -68,6 +69,10 @@ pub record Submits {C : Type 0} (seen : C
   pub honest_first : (seen stood).honest → (seen old).honest
   pub honest : (seen new).honest → (seen stood).honest
   pub takes : Takes (seen old) (seen stood) (posts_of taken)
+  -- so it is on whatever tables with room it showed, with these replies, of which the postings are counted
+  pub replies : List (List ℕ)
+  pub by_tables : BatchesByTables (seen old) (seen stood) taken replies
+  pub counted : IfOk result (λ driven. driven.posted ≡ count_by is_posted replies)
   pub ends : EndsDrive seen old stood new rows count taken refused result
   -- a crash leaves all that it took
   pub survives : (seen new).honest → (log : List Command) → StandsAt (seen old) log

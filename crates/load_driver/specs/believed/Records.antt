@@ -1,6 +1,6 @@
 -- Which records a drive submits, and how many of them are posted.
 use Rattle.std.specs.Prelude.{◌≡◌, ◌≤◌, ◌+◌, ℕ, zero, suc, List, [], ◌∷◌, ◌++◌, length, Option, Some, None}
-use Rattle.std.specs.Prelude.{if◌then◌else◌}
+use Rattle.std.specs.Prelude.{Bool, bytes_eq, codes, if◌then◌else◌, slice_range}
 use Rattle.message_records.specs.believed.Outcomes.{has_balance}
 use Rattle.message_records.specs.believed.Spelling.{request_spelling}
 use Rattle.posting_rules.specs.believed.Commands.{Command, Open, Post, Close, opened, Terms}
@@ -55,3 +55,7 @@ posted_among log (Open branch count ∷ commands) = posted_among (Open branch co
 posted_among log (Close first last ∷ commands) = posted_among (Close first last ∷ log) commands
 posted_among log (Post moment bytes ∷ commands) =
     (if has_balance (reply log bytes).outcome then 1 else 0) + posted_among (Post moment bytes ∷ log) commands
+
+-- the outcome after the tag of a reply is that of a posting
+abbrev pub is_posted : List ℕ → Bool
+is_posted reply = bytes_eq (slice_range reply 4 6) (codes "00")

@@ -4,7 +4,8 @@ use Rattle.std.specs.Prelude.{Option, Some, None, Result, Ok, Err}
 use Rattle.posting_rules.specs.declared.limits.TheConstants.{TELLERS_PER_BRANCH}
 use Rattle.posting_rules.specs.believed.Tables.{Tables, branch_key, teller_key, account_key, history_key, request_key}
 use Rattle.posting_rules.specs.believed.Tables.{branch_row_of, teller_row_of, account_row_of, request_row_of}
-use Rattle.posting_rules.specs.believed.Tables.{history_row_of, floor_key, floor_row_of, reference_key}
+use Rattle.posting_rules.specs.believed.Closings.{are_free, run_of}
+use Rattle.posting_rules.specs.believed.Tables.{closing_key, history_row_of, floor_key, floor_row_of, reference_key, row_at}
 use Rattle.posting_rules.specs.believed.Tables.{reference_row_of}
 use Rattle.posting_rules.specs.declared.rows.BranchRow.{BranchRow}
 use Rattle.posting_rules.specs.declared.rows.TellerRow.{TellerRow}
@@ -179,3 +180,17 @@ tables_opened t b terms = with_floor b terms.floor
     (with_accounts (first_account b) terms.accounts
     (with_tellers (first_teller b) TELLERS_PER_BRANCH
     (with_branch (branch_row_of b (pos 0) terms) t)))
+
+-- what an opening leaves, by the row that is there
+abbrev pub opened_where : Option BranchRow → Tables → ℕ → Terms → Tables
+opened_where None t b terms = tables_opened t b terms
+opened_where (Some row) t b terms = t
+
+abbrev pub tables_with_branch : Tables → ℕ → Terms → Tables
+tables_with_branch t b terms = opened_where (row_at branch_key t.branches b) t b terms
+
+-- what a closing leaves
+abbrev pub tables_closed : Tables → ℕ → ℕ → Tables
+tables_closed t first last =
+    if are_free t.closings first last
+    then record t { closings = row_put closing_key (run_of first last) t.closings } else t

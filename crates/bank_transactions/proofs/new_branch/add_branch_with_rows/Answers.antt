@@ -6,7 +6,7 @@ use Rattle.sqlite.specs.declared.transaction.Transaction.{Transaction}
 use Rattle.sqlite_trees.specs.declared.store.Store.{Ghosts}
 use Rattle.posting_rules.specs.declared.rows.BranchRow.{BranchRow}
 use Rattle.posting_rules.specs.{believed.Changes.with_branch, believed.Commands.opened_with}
-use Rattle.bank_transactions.specs.believed.Openings.{HasRoomToOpen}
+use Rattle.posting_rules.specs.believed.AnyTables.{HasRoomToOpen}
 use Rattle.posting_rules.specs.believed.Numbering.{first_teller, first_account}
 use Rattle.posting_rules.specs.believed.Tables.{Tables, row_at, branch_key, branch_row_of}
 use Rattle.store_rows.specs.{Calls.AddsRow, believed.Inserts.branch_insert, declared.fault.TableFault.TableFault}

@@ -3,7 +3,7 @@ use Rattle.std.proofs.Common.{ℕ, ℤ, List, Option, None, refl, inl, inr}
 use Rattle.sqlite.specs.Order.{Row}
 use Rattle.bank_transactions.specs.believed.Additions.{AddsBranch}
 use Rattle.posting_rules.specs.believed.{Commands.opened_with, Tables.Tables}
-use Rattle.bank_transactions.specs.believed.Openings.{HasRoomToOpen}
+use Rattle.posting_rules.specs.believed.AnyTables.{HasRoomToOpen}
 use Rattle.bank_transactions.proofs.OpeningRows.{floor_apart}
 use Rattle.bank_transactions.proofs.Running.{writes_adds, writes_err, writes_for, writes_then}
 use Rattle.bank_transactions.proofs.Left.{leaves_err, leaves_then}

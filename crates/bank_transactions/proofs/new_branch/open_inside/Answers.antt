@@ -1,6 +1,6 @@
 -- What is answered where a branch is open, and what is added where it isn't.
 use Rattle.std.proofs.Common.{◌≡◌, ◌≤◌, ℕ, Option, None, Some, Ok, Err, rules, refl, sym, ◌∙◌, ap, arith, subst}
-use Rattle.posting_rules.specs.{believed.Changes.tables_opened, Changes.opened_where, Changes.tables_with_branch}
+use Rattle.posting_rules.specs.believed.Changes.{opened_where, tables_opened, tables_with_branch}
 use Rattle.posting_rules.specs.{believed.Commands.Terms, believed.Commands.opened_with, believed.Counter.opening_for}
 use Rattle.posting_rules.specs.{believed.LookUps.floor_in, believed.LookUps.terms_of_branch}
 use Rattle.posting_rules.specs.{declared.counter.Opening.TheVariants.Opened, declared.rows.BranchRow.BranchRow}
@@ -9,7 +9,8 @@ use Rattle.std.specs.Option.{option_map}
 use Rattle.bank_transactions.proofs.Chained.{acts_read, acts_wrote, does_both, does_but, does_tell, still_in}
 use Rattle.bank_transactions.proofs.{LookUps.acts_stray, LookUps.does_look, LookUps.finds_so, LookUps.reads_ok}
 use Rattle.bank_transactions.proofs.ShownSlots.{shown_terms}
-use Rattle.bank_transactions.specs.believed.{Openings.IsReadyToOpen, Stored.AnswersStored}
+use Rattle.bank_transactions.specs.believed.{Stored.AnswersStored}
+use Rattle.posting_rules.specs.believed.AnyTables.{IsReadyToOpen}
 use Rattle.bank_transactions.specs.Doing.{ReadsWhere}
 use Rattle.message_records.specs.declared.limits.TheConstants.{MAX_BRANCH}
 use Rattle.posting_rules.specs.believed.LookUps.{terms_in}

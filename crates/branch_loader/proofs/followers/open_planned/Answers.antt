@@ -5,6 +5,7 @@ use Rattle.std.specs.{List.slice_get, Prelude.Contains, Prelude.option_map}
 use Rattle.posting_core.specs.believed.LogEntries.{AnsweredRequest}
 use Rattle.posting_rules.specs.believed.Commands.{Open, Terms}
 use Rattle.posting_rules.specs.declared.limits.TheConstants.{LAST_BRANCH}
+use Rattle.posting_rules.proofs.ByCommands.{opening_taken}
 use Rattle.branch_loader.specs.Following.{LooksAt, OpensFirst, needed_by, opened_by, planned, row_of}
 use Rattle.branch_loader.specs.Plans.{IsRow, terms_of}
 use Rattle.branch_loader.specs.believed.Plans.{Row, Rows}
@@ -60,13 +61,15 @@ returns-clause-opens g c first rows looked done a is needs new it looked' at mar
     ) (opens_next rows (opened_by it.followed.commands) a c.args.branch c.in-Some.row.0
     (terms_of c.in-Some.row) c.in-Some.ensures.named needs
     (λ has. new (it.looks.noted c.args.branch has)))
-    g.C.Counter.contents g.C.Counter.reason _ c.in_ok-open_branch.ensures.call c.in_ok-open_branch.ensures.spares looked'
+    g.C.Counter.contents g.C.Counter.reason _ c.in_ok-open_branch.ensures.call c.in_ok-open_branch.ensures.spares
+    (opening_taken _ _ c.in-Some.row.0 (terms_of c.in-Some.row) _ c.in-Some.ensures.within.0 c.in-Some.ensures.within.1
+    c.in-Some.ensures.within.3 c.in_ok-open_branch.ensures.by_tables) looked'
     (looks_at rows looked looked' c.in-Some.row.0 (opened_by it.followed.commands)
     (subst (LooksAt looked looked') (sym c.in-Some.ensures.named) at)
     (subst (λ (n : ℕ). slice_get looked' n ≡ Some true) (sym c.in-Some.ensures.named)
     (marked (within_so c.args.plan.now c.args.branch c.in-Some.row c.in-Some.ensures.named c.in-Some.ensures.within)))
     it.looks)
-    (λ h log shows. refl))
+    (λ h log shows. refl) (λ h t room there. refl))
 
 -- the plan hasn't it
 pub returns-in_default-clause-opens : goal.returns-in_default-clause-opens

@@ -2,6 +2,7 @@
 use Rattle.std.proofs.Common.{rules, ◌≡◌, ◌+◌, ◌++◌, ◌∷◌, [], ℕ, List, Err, length, map, refl, sym, ap, subst, ◌∙◌}
 use Rattle.std.proofs.Common.{append-nil, arith}
 use Rattle.std.proofs.lemmas.List.{length-append, length-map}
+use Rattle.posting_rules.proofs.ByCommands.{posts_replied, posts_taken}
 use Rattle.posting_core.specs.Entries.{record_text, reply_text}
 use Rattle.posting_core.specs.believed.LogEntries.{AnsweredRequest}
 use Rattle.branch_loader.specs.Following.{HasOpened, IsFirstOther, opened_by, planned}
@@ -61,15 +62,19 @@ as_many entries records replies due ours theirs same =
 pub returns-in-None : goal.returns-in-None
 returns-in-None g c first rows looked done entries next it counted texts ready =
     let given = c.in_ok-replies.ensures in
+    let same : c.in_ok-replies.replies.items ≡ map reply_text entries =
+    sym c.as_slice.ensures.value
+    ∙ c.in-None.ensures.none (rw c.as_slice.ensures.value (as_many entries _ _ _ texts.records_are texts.replies_are given.count))
+    ∙ texts.replies_are in
     followed_more g.C.Counter.seen g.C.Counter.spares rows first c.args.counter.now c.submit_all.new.self
     (g.met.C.Counter.spares_then first c.args.counter.now c.submit_all.new.self) done entries next it.followed _
     (texts_are_posts (planned rows) c.args.moment c.args.records.now _ entries texts)
     (texts_open_first rows (opened_by it.followed.commands) c.args.moment c.args.records.now _ entries next texts ready)
-    g.C.Counter.contents g.C.Counter.reason _ given.call given.spares looked
+    g.C.Counter.contents g.C.Counter.reason _ given.call given.spares
+    (posts_taken _ _ c.args.moment c.args.records.now _ given.by_tables) looked
     (looks_still rows looked (opened_by it.followed.commands) _ (posts_open_none c.args.moment c.args.records.now) it.looks)
-    (λ h log shows. sym (given.answer h log shows) ∙ sym c.as_slice.ensures.value
-    ∙ c.in-None.ensures.none (rw c.as_slice.ensures.value (as_many entries _ _ _ texts.records_are texts.replies_are given.count))
-    ∙ texts.replies_are)
+    (λ h log shows. sym (given.answer h log shows) ∙ same)
+    (λ h t room there. posts_replied _ _ c.args.moment c.args.records.now _ given.by_tables h t room there ∙ same)
 
 pub returns : goal.returns
 returns g c first rows looked done entries next it counted texts ready few =
@@ -93,7 +98,11 @@ returns g c first rows looked done entries next it counted texts ready few =
     (g.met.C.Counter.spares_then first c.args.counter.now c.submit_all.new.self) done entries [] alone _
     (texts_are_posts (planned rows) c.args.moment c.args.records.now _ entries texts)
     (texts_open_first rows (opened_by it.followed.commands) c.args.moment c.args.records.now _ entries [] texts ready)
-    g.C.Counter.contents g.C.Counter.reason _ given.call given.spares refl c.in-Some.other
+    g.C.Counter.contents g.C.Counter.reason _ given.call given.spares
+    (posts_taken _ _ c.args.moment c.args.records.now _ given.by_tables) refl c.in-Some.other
     (omega (arith, all, ours, other.entry, before, c.requires))
     (λ h log shows. same_other _ _ _ _ _ _ c.in-Some.other other before
     (c.as_slice.ensures.value ∙ given.answer h log shows) texts.replies_are)
+    (λ h t room there. same_other _ _ _ _ _ _ c.in-Some.other other before
+    (c.as_slice.ensures.value
+    ∙ sym (posts_replied _ _ c.args.moment c.args.records.now _ given.by_tables h t room there)) texts.replies_are)

@@ -1,9 +1,13 @@
-use Rattle.std.proofs.Common.{◌≡◌, ◌+◌, ◌∷◌, ◌++◌, ◌∙◌, [], take, arith, refl}
+use Rattle.std.proofs.Common.{◌≡◌, ◌<◌, ◌+◌, ◌∷◌, ◌++◌, ◌∙◌, ℕ, [], length, get_or, take, arith, refl, subst, sym}
 use Rattle.std.proofs.{lemmas.List.length-take-le, lemmas.List.take_more, lemmas.Result.err_from_is_err_and}
 use Rattle.posting_rules.proofs.CounterCalls.{call_idle_after, call_refused_after}
-use Rattle.branch_loader.proofs.Openings.{after-idle, after-more, after-none, after-refused, loaded_all}
+use Rattle.branch_loader.proofs.Openings.{after-idle, after-more, after-none, after-refused, loaded_all, loaded_counts}
 use Rattle.branch_loader.proofs.Rows.{plan-short}
+use Rattle.branch_loader.specs.{Plans.IsPlan, Plans.IsRow, believed.Plans.Row, believed.Plans.Rows}
 use Rattle.branch_loader.proofs.loader.load.Goals as goal
+
+row_in_range : (rows : Rows) (i : ℕ) (p : Row) → IsPlan rows → i < length rows → p ≡ get_or rows i p → IsRow p
+row_in_range rows i p plan low is = subst IsRow (sym is) (plan.in_range i p low)
 
 pub loop-row-init : goal.loop-row-init
 loop-row-init g c = record {
@@ -32,7 +36,8 @@ loop-row-preserved g c =
           (take i rows) p c.loop-row.loaded c.in_ok-opening.opening c.loop-row.invariant.after
           c.in_ok-opening.ensures.call.done c.in_ok-opening.ensures.answer
           (λ down. cc (c.in_ok-opening.ensures.call.down down)) c.in_ok-opening.ensures.call.up
-          c.in_ok-opening.ensures.call.honest);
+          c.in_ok-opening.ensures.call.honest c.in_ok-opening.ensures.by_tables
+          (row_in_range rows i p c.rows-row-items.ensures.plan (omega arith) c.row-item.is));
       spares = g.met.C.Counter.spares_then c.args.counter.now c.loop-row.counter c.open_branch.new.self
           c.loop-row.invariant.spares c.in_ok-opening.ensures.spares;
     }
@@ -69,6 +74,12 @@ returns-in_err-opening-clause-idle g c =
 pub returns-clause-idle : goal.returns-clause-idle
 returns-clause-idle g c =
     after-idle g.C.Counter.seen c.args.counter.now c.loop-row.counter _ _ c.loop-row.invariant.after
+
+pub returns-clause-counts : goal.returns-clause-counts
+returns-clause-counts g c =
+    loaded_counts g.C.Counter.seen c.args.counter.now c.loop-row.counter c.rows-row-items.result.now
+    c.args.plan.now c.loop-row.row-index c.loop-row.loaded
+    c.loop-row.invariant.after c.loop-row-test.false c.rows-row-items.ensures.rows
 
 pub returns-clause-done : goal.returns-clause-done
 returns-clause-done g c =

@@ -23,6 +23,7 @@ returns-in_err-driver-clause-drives g c =
     (ended_empty g.C.Counter.seen c.args.counter.now c.list_branches.new.counter
     (g.K.Clock.readings c.args.clock.now) c.args.seed c.args.count
     c.in_ok-plan.plan c.in_err-driver.field-0.0 c.in_err-driver.ensures.fault c.in_ok-plan.ensures.done.takes
+    c.in_ok-plan.ensures.done.by_tables
     c.in_ok-plan.ensures.done.honest c.in_ok-plan.ensures.listed
     (λ down. absurd (let e = c.in_ok-plan.ensures.down.1 down in cc e)))
 
@@ -40,6 +41,7 @@ returns-clause-drives g c =
     drives g.C.Counter.seen c.args.counter.now c.list_branches.new.counter c.drive.new.counter
     (g.K.Clock.readings c.args.clock.now)
     (g.K.Clock.readings c.drive.new.clock) d.rows c.args.seed c.args.count c.in_ok-plan.ensures.done.takes
+    c.in_ok-plan.ensures.done.by_tables
     c.in_ok-plan.ensures.done.honest
     c.drive.ensures.honest c.in_ok-plan.plan c.drive.result
     (rw (← c.in_ok-driver.ensures.seed) c.drive.ensures.submits)

@@ -3,7 +3,7 @@ use Rattle.std.specs.Prelude.{count_by}
 use Rattle.std.proofs.{lemmas.List.length-map, lemmas.List.Sums.count_by-le-length, lemmas.Result.err_from_is_err_and}
 use Rattle.posting_rules.specs.believed.Runs.{posts}
 use Rattle.posting_rules.proofs.CounterCalls.{call_refused_after, takes_none}
-use Rattle.load_driver.specs.Counted.{is_posted}
+use Rattle.load_driver.specs.believed.Records.{is_posted}
 use Rattle.load_driver.proofs.Counted.{counted}
 use Rattle.load_driver.proofs.drive_batches.submit_batch.Goals as goal
 
@@ -23,6 +23,9 @@ returns-clause-answers g c =
         few = omega (arith, number, few, long, c.in_ok-replies.ensures.count);
         posted_is = λ h log s. number ∙ ap (count_by is_posted) (c.in_ok-replies.ensures.answer h log s)
             ∙ counted log (posts moment records);
+        replies = replies;
+        by_tables = c.in_ok-replies.ensures.by_tables;
+        counted = number;
       },
     )
 

@@ -4,6 +4,7 @@ use Rattle.posting_rules.specs.{Branches.IsLineAbove, Branches.IsNextBranch, bel
 use Rattle.branch_loader.specs.believed.Plans.{Rows}
 use Rattle.posting_rules.specs.declared.fault.Fault.{Fault, TheVariants.Memory}
 use Rattle.posting_rules.proofs.CounterCalls.{Takes-append, call_idle_after, call_refused_after}
+use Rattle.posting_core.proofs.ByTables.{stays_then}
 use Rattle.load_driver.proofs.Listed.{Listing, listing_first, listing_more, listing_all}
 use Rattle.load_driver.proofs.open_branches.list_branches.Goals as goal
 
@@ -25,7 +26,7 @@ loop-rows-preserved g c =
           c.in_ok-line.ensures.call.done
           (λ h log s. rw c.in-Some.is at (c.in_ok-line.ensures.answer h log s))
           (λ down. cc (c.in_ok-line.ensures.call.down down)) c.in_ok-line.ensures.call.up
-          c.in_ok-line.ensures.call.honest);
+          c.in_ok-line.ensures.call.honest c.in_ok-line.ensures.by_tables);
       spares = g.met.C.Counter.spares_then c.args.counter.now c.loop-rows.counter c.next_branch.new.self
           c.loop-rows.invariant.spares c.in_ok-line.ensures.spares;
     }
@@ -43,6 +44,8 @@ returns-in_err-push-clause-fault g c =
       honest_first = λ h. c.loop-rows.invariant.listing.honest (c.in_ok-line.ensures.call.honest h);
       honest = λ h. h;
       takes = takes;
+      by_tables = stays_then (seen c.args.counter.now) (seen c.loop-rows.counter) (seen c.next_branch.new.self)
+          c.in_ok-line.ensures.call.honest c.loop-rows.invariant.listing.by_tables c.in_ok-line.ensures.by_tables;
       refuses = record { tables = λ t h. h; down = λ d. d; left = λ remains left. (remains, left, λ t h. h) };
       idle = call_idle_after seen c.args.counter.now c.loop-rows.counter c.loop-rows.invariant.listing.idle
           g.C.Counter.contents g.C.Counter.reason c.next_branch.new.self _ _ c.next_branch.ensures.call;
@@ -56,6 +59,7 @@ returns-in_err-line-clause-fault g c =
       honest_first = c.loop-rows.invariant.listing.honest;
       honest = c.in_err-line.ensures.call.honest;
       takes = c.loop-rows.invariant.listing.takes;
+      by_tables = c.loop-rows.invariant.listing.by_tables;
       refuses = c.in_err-line.ensures.call.fault;
       idle = call_idle_after g.C.Counter.seen c.args.counter.now c.loop-rows.counter
           c.loop-rows.invariant.listing.idle g.C.Counter.contents g.C.Counter.reason c.next_branch.new.self _ _
@@ -82,6 +86,8 @@ returns-clause-done g c =
     record {
       takes = Takes-append (seen c.args.counter.now) (seen c.loop-rows.counter) (seen c.next_branch.new.self) [] []
           c.loop-rows.invariant.listing.takes call.done call.honest;
+      by_tables = stays_then (seen c.args.counter.now) (seen c.loop-rows.counter) (seen c.next_branch.new.self)
+          call.honest c.loop-rows.invariant.listing.by_tables c.in_ok-line.ensures.by_tables;
       up = call.up;
       honest = λ h. c.loop-rows.invariant.listing.honest (call.honest h);
     }

@@ -49,7 +49,7 @@ returns g c =
     is_published g.C.Counter.seen g.C.Counter.contents g.C.Counter.reason g.C.Counter.spares c.args.counter.now
     c.entries_after.new.self old (g.L.SharedLog.known c.if-not-is_empty.log) c.in_ok-bytes.field-0
     c.in_ok-bytes.ensures.call c.in_ok-bytes.ensures.spares (holds_more old (g.L.SharedLog.known c.if-not-is_empty.log) chunks now)
-    (length chunks) c.in_ok-bytes.ensures.tables
+    (length chunks) c.in_ok-bytes.ensures.by_tables.shows
     (all_known (g.C.Counter.seen c.args.counter.now) (g.C.Counter.seen c.entries_after.new.self) old
     (g.L.SharedLog.known c.if-not-is_empty.log) c.as_slice.result.now chunks c.count.result (length chunks) c.count.ensures
     (λ h log s.

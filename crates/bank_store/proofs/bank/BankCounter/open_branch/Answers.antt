@@ -2,7 +2,8 @@
 use Rattle.std.proofs.Common.{◌≤◌, [], ◌∷◌, ◌∙◌, refl, sym}
 use Rattle.posting_rules.specs.declared.fault.Fault.TheVariants.{Down}
 use Rattle.posting_rules.specs.believed.Commands.{Open, AreCommands, opened_with}
-use Rattle.posting_rules.proofs.{Calls.opens, Calls.answers}
+use Rattle.posting_rules.specs.believed.Changes.{tables_with_branch}
+use Rattle.posting_rules.proofs.{Calls.opens, Calls.answers, SameRows.keys_with_branch, SameRows.same_itself}
 use Rattle.bank_store.proofs.{AsFound.down_keeps, AsFound.idle_keeps, Broke.breaks_shown, Countered.ready_to_open}
 use Rattle.bank_store.proofs.bank.BankCounter.open_branch.Given.{Over}
 use Rattle.bank_store.specs.Seen.{fault_of}
@@ -64,6 +65,18 @@ returns-in-Ok g c =
       call =
           committed_call g.S.Store c.args.self.now _ (ready_to_open b terms above c.requires.few) (Open b terms ∷ []) (opens b terms above c.requires.few) are _ (is_up c.args.self.now.fault c.is_down.ensures c.if-is_down.false) (is_up c.args.self.now.fault c.is_down.ensures c.if-is_down.false)
           says;
+      by_tables = λ clean t ready shown.
+          let it = says.answers clean t shown ready in
+          record {
+            answer = it.0;
+            leads = record {
+              tables = tables_with_branch t b terms;
+              same = same_itself (tables_with_branch t b terms);
+              are = it.1;
+              survives = λ only trees may. (tables_with_branch t b terms, it.2 trees may, refl);
+            };
+            keys = keys_with_branch t b terms ready;
+          };
       frugal = λ same. (let it = same in cc);
       stored = record { answers = c.in-Ok.ensures.stored; whole = c.in-Ok.ensures.whole };
       own = tt;
@@ -79,6 +92,7 @@ returns-in-Err g c =
       answer = tt;
       call = refused_call g.S.Store c.args.self.now c.go_down.new.self _ c.go_down.result no
           (is_up c.args.self.now.fault c.is_down.ensures c.if-is_down.false);
+      by_tables = tt;
       frugal = λ same. no.frugal (let it = same in cc);
       stored = record {
         answers = tt;
@@ -106,6 +120,7 @@ returns-then-is_down g c =
     record {
       answer = tt;
       call = untried_call g.S.Store c.args.self.now _ down;
+      by_tables = tt;
       frugal = λ same. (let it = same in cc);
       stored = record { answers = tt; whole = idle_keeps g.S.Store c.args.self.now _ };
       own = untried_opening g.S.Store c.args.self.now c.args.branch (opened_with c.args.count c.args.floor) Down refl;

@@ -43,7 +43,6 @@ returns-then-is_down g c =
     record {
       answer = tt;
       call = untried_call g.S.Store c.args.self.now [] down;
-      tables = tt;
       spares = spares_untouched g.S.Store c.args.self.now;
       stored = tt;
       reads = idle_reads g.S.Store c.args.self.now (Err Down);
@@ -56,7 +55,6 @@ returns-in_err-entries g c =
     rw p.1 (record {
       answer = tt;
       call = spared_call g.S.Store c.args.self.now [] (Err p.0) p.0 refl p.2 (is_up c.args.self.now.fault c.is_down.ensures c.if-is_down.false);
-      tables = tt;
       spares = spares_untouched g.S.Store c.args.self.now;
       stored = tt;
       reads = idle_reads g.S.Store c.args.self.now (Err p.0);
@@ -69,7 +67,6 @@ returns-then-after-gt-MAX_DECIDED g c = record {
   answer = λ clean log s. beyond_given s.tables log s.commands s.shows c.args.after c.if-after-gt-MAX_DECIDED.true;
   call = answered_call g.S.Store c.args.self.now c.args.self.now [] None (is_up c.args.self.now.fault c.is_down.ensures c.if-is_down.false) (is_up c.args.self.now.fault c.is_down.ensures c.if-is_down.false)
       (record { shows = λ clean log s. s; stands = λ clean log at. at }) (λ clean. clean);
-  tables = λ clean t shown. shown;
   spares = spares_untouched g.S.Store c.args.self.now;
   stored = λ clean low. absurd (omega (arith, low, c.if-after-gt-MAX_DECIDED.true));
   reads = idle_reads g.S.Store c.args.self.now _;
@@ -85,7 +82,6 @@ returns g c =
     record {
       answer = tt;
       call = refused_call g.S.Store c.args.self.now c.go_down.new.self [] c.go_down.result no (is_up c.args.self.now.fault c.is_down.ensures c.if-is_down.false);
-      tables = tt;
       spares = spares_down g.S.Store c.args.self.now c.go_down.new.self c.read_log.new.conn c.in-Err.fault
           c.go_down.result (is_up c.args.self.now.fault c.is_down.ensures c.if-is_down.false) c.in-Err.ensures.says.spares c.in-Err.ensures.undone
           c.go_down.ensures.down c.go_down.ensures.undone c.go_down.ensures.survives;
@@ -113,7 +109,6 @@ returns-then-enough g c =
       call =
           committed_call g.S.Store c.args.self.now _ sound_tables [] stays tt _ up up
           it.says;
-      tables = λ clean t shown. subst (λ (db : Database). Shows db t) (sym (it.still clean)) shown;
       spares = spares_done g.S.Store c.args.self.now _ _ up it.says.spares;
       stored = λ clean all has. rw c.in_ok-entries.ensures.items at (it.answers clean all has);
       reads = reads_done g.S.Store c.args.self.now _ _ it.still it.left;
@@ -131,7 +126,6 @@ returns-in-Ok g c =
       call =
           committed_call g.S.Store c.args.self.now _ sound_tables [] stays tt _ up up
           it.says;
-      tables = λ clean t shown. subst (λ (db : Database). Shows db t) (sym (it.still clean)) shown;
       spares = spares_done g.S.Store c.args.self.now _ _ up it.says.spares;
       stored = λ clean low rows has decided holds.
           fewer c.args.after decided (sym (it.stored clean rows has decided holds) ∙ c.if-enough.false);

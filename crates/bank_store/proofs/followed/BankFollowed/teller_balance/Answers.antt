@@ -36,7 +36,6 @@ returns-in-Ok g c =
       call =
           committed_call g.S.Store c.args.self.now _ sound_tables [] stays tt _ (is_up c.args.self.now.fault c.is_down.ensures c.if-is_down.false) (is_up c.args.self.now.fault c.is_down.ensures c.if-is_down.false)
           it.says;
-      tables = λ clean t shown. subst (λ (db : Database). Shows db t) (sym (it.still clean)) shown;
       frugal = λ same. (let it = same in cc);
       spares = spares_done g.S.Store c.args.self.now _ _ (is_up c.args.self.now.fault c.is_down.ensures c.if-is_down.false) it.says.spares;
       stored = λ clean.
@@ -54,7 +53,6 @@ returns-in-Err g c =
     record {
       answer = tt;
       call = refused_call g.S.Store c.args.self.now c.go_down.new.self [] c.go_down.result no (is_up c.args.self.now.fault c.is_down.ensures c.if-is_down.false);
-      tables = tt;
       frugal = λ same. no.frugal (let it = same in cc);
       spares = spares_down g.S.Store c.args.self.now c.go_down.new.self c.read_teller.new.conn c.in-Err.fault
           c.go_down.result (is_up c.args.self.now.fault c.is_down.ensures c.if-is_down.false) it.says.spares it.undone down.down down.undone down.survives;
@@ -70,7 +68,6 @@ returns-then-is_down g c =
     record {
       answer = tt;
       call = untried_call g.S.Store c.args.self.now [] down;
-      tables = tt;
       frugal = λ same. (let it = same in cc);
       spares = spares_untouched g.S.Store c.args.self.now;
       stored = tt;

@@ -5,7 +5,7 @@ use Rattle.posting_rules.specs.believed.LookUps.{account_balance_in, balance_of_
 use Rattle.posting_rules.specs.believed.Tables.{account_key, row_at}
 use Rattle.posting_rules.proofs.Looked.{balance_shown}
 use Rattle.posting_core.specs.Plain.{plain_tables}
-use Rattle.posting_core.proofs.InMemory.{plain_shows, read_plain, row_told}
+use Rattle.posting_core.proofs.InMemory.{plain_shows, read_plain, row_told, stays_by_plain}
 use Rattle.posting_core.proofs.plain_bank.PlainBankCounter.balance.Goals as goal
 
 pub returns-clause-answer : goal.returns-clause-answer
@@ -19,3 +19,6 @@ returns-clause-answer c h log s =
 
 pub returns-clause-call : goal.returns-clause-call
 returns-clause-call c = read_plain c.args.self.now c.args.self.now c.balance_at.result refl
+
+pub returns-clause-by_tables : goal.returns-clause-by_tables
+returns-clause-by_tables c = stays_by_plain c.args.self.now c.args.self.now refl

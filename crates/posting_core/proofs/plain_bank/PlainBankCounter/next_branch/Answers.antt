@@ -1,7 +1,7 @@
 use Rattle.std.proofs.Common.{Some, None, refl}
 use Rattle.posting_rules.proofs.NextBranch.{next_shown}
 use Rattle.posting_core.specs.Plain.{plain_tables}
-use Rattle.posting_core.proofs.InMemory.{plain_shows, read_plain}
+use Rattle.posting_core.proofs.InMemory.{plain_shows, read_plain, stays_by_plain}
 use Rattle.posting_core.proofs.plain_bank.PlainBankCounter.next_branch.Goals as goal
 
 pub returns-in_default-clause-answer : goal.returns-in_default-clause-answer
@@ -17,3 +17,9 @@ returns-clause-answer c h log s =
 
 pub returns-clause-call : goal.returns-clause-call
 returns-clause-call c = read_plain c.args.self.now c.args.self.now _ refl
+
+pub returns-in_default-clause-by_tables : goal.returns-in_default-clause-by_tables
+returns-in_default-clause-by_tables c = stays_by_plain c.args.self.now c.args.self.now refl
+
+pub returns-clause-by_tables : goal.returns-clause-by_tables
+returns-clause-by_tables c = stays_by_plain c.args.self.now c.args.self.now refl

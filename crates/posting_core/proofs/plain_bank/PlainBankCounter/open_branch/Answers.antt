@@ -3,13 +3,13 @@ use Rattle.std.proofs.Common.{◌≡◌, ◌∙◌, [], ◌∷◌, All, None, Op
 use Rattle.std.specs.Option.{option_map}
 use Rattle.posting_rules.specs.{declared.rows.BranchRow.BranchRow, declared.counter.Opening.TheVariants.Opened}
 use Rattle.posting_rules.specs.Branches.{IsAtMostZero, IsInRange}
-use Rattle.posting_rules.specs.{Changes.opened_where, believed.Counter.opening_for, believed.LookUps.floor_in}
+use Rattle.posting_rules.specs.{believed.Changes.opened_where, believed.Counter.opening_for, believed.LookUps.floor_in}
 use Rattle.posting_rules.specs.believed.{Commands.Open, Commands.Terms, Commands.opened_with}
 use Rattle.posting_rules.specs.believed.LookUps.{terms_of_branch}
 use Rattle.posting_rules.specs.believed.Tables.{AreTablesOf, Tables, branch_key, row_at}
 use Rattle.posting_rules.proofs.Calls.{answers, opens}
 use Rattle.posting_core.specs.{Appended.appended_opened, Plain.plain_tables}
-use Rattle.posting_core.proofs.Appending.{opened_shown}
+use Rattle.posting_core.proofs.{Appending.opened_shown, Opened.opens_on, Opened.stays_on}
 use Rattle.posting_core.proofs.InMemory.{after_plain, answered_plain, branches_as_before, memory_refused, no_answer}
 use Rattle.posting_core.proofs.InMemory.{plain_shows, room_for_one, spared_plain}
 use Rattle.posting_core.proofs.plain_bank.PlainBankCounter.open_branch.Goals as goal
@@ -43,6 +43,7 @@ returns-in_default c =
           refl
           (λ log s. subst (λ (u : Tables). AreTablesOf u (Open b terms ∷ log)) (sym same)
           (opens b terms c.opening_of-opening.ensures.above c.requires.few t log s)));
+      by_tables = stays_on bank bank b terms c.opening_of-opening.result is refl same;
       spares = tt;
     }
 
@@ -54,6 +55,7 @@ returns c =
     let terms = opened_with c.args.count c.args.floor in
     let is = sym c.in-Opened.is ∙ c.opening_of-opening.ensures.value in
     let above = c.opening_of-opening.ensures.above in
+    let none = not_there t b terms (row_at branch_key t.branches b) (sym is) in
     let same = branches_as_before t _ _ _ _ c.reserve.ensures.items c.reserve-2.ensures.items
     c.reserve-3.ensures.items c.reserve-4.ensures.items in
     record {
@@ -62,8 +64,9 @@ returns c =
           (after_plain bank c.add_branch.new.self (Open b terms ∷ []) (λ u. appended_opened u b terms)
           ((above, c.requires.branch, c.requires.some, c.requires.few, c.read_floor.ensures), tt)
           (c.add_branch.ensures.tables ∙ ap (λ (u : Tables). appended_opened u b terms) same)
-          (λ log s. opened_shown t log b terms (not_there t b terms (row_at branch_key t.branches b) (sym is)) above
-          c.requires.few s));
+          (λ log s. opened_shown t log b terms none above c.requires.few s));
+      by_tables = opens_on bank c.add_branch.new.self b terms Opened is none
+          (c.add_branch.ensures.tables ∙ ap (λ (u : Tables). appended_opened u b terms) same);
       spares = tt;
     }
 
@@ -72,6 +75,7 @@ returns-in_err-reserve c =
     let refused = c.from_residual.ensures.1 in
     record {
       answer = no_answer _ _ refused;
+      by_tables = no_answer _ _ refused;
       call = spared_plain _ _ _ _ (memory_refused _ refused) (rw (c.reserve.ensures.items) refl);
       spares = tt;
     }
@@ -81,6 +85,7 @@ returns-in_err-reserve-2 c =
     let refused = c.from_residual-in_err-reserve-2.ensures.1 in
     record {
       answer = no_answer _ _ refused;
+      by_tables = no_answer _ _ refused;
       call = spared_plain _ _ _ _ (memory_refused _ refused) (rw (c.reserve.ensures.items, c.reserve-2.ensures.items) refl);
       spares = tt;
     }
@@ -90,6 +95,7 @@ returns-in_err-reserve-3 c =
     let refused = c.from_residual-in_err-reserve-3.ensures.1 in
     record {
       answer = no_answer _ _ refused;
+      by_tables = no_answer _ _ refused;
       call = spared_plain _ _ _ _ (memory_refused _ refused) (rw (c.reserve.ensures.items, c.reserve-2.ensures.items, c.reserve-3.ensures.items) refl);
       spares = tt;
     }
@@ -99,6 +105,7 @@ returns-in_err-reserve-4 c =
     let refused = c.from_residual-in_err-reserve-4.ensures.1 in
     record {
       answer = no_answer _ _ refused;
+      by_tables = no_answer _ _ refused;
       call = spared_plain _ _ _ _ (memory_refused _ refused) (branches_as_before (plain_tables c.args.self.now) _ _ _ _
           c.reserve.ensures.items c.reserve-2.ensures.items c.reserve-3.ensures.items c.reserve-4.ensures.items);
       spares = tt;

@@ -1,5 +1,5 @@
-use Rattle.std.proofs.Common.{rules, ◌≡◌, length, ◌∙◌}
-use Rattle.posting_core.proofs.InMemory.{plain_shows}
+use Rattle.std.proofs.Common.{rules, ◌≡◌, length, refl, ◌∙◌}
+use Rattle.posting_core.proofs.InMemory.{plain_shows, stays_by_plain}
 use Rattle.posting_core.proofs.LogPlaces.{given_none, given_some}
 use Rattle.posting_core.proofs.plain_bank.followed.PlainBankFollowed.entries_after.Goals as goal
 
@@ -22,3 +22,9 @@ returns-then-after-kept-clause-spares c = tt
 
 pub returns-clause-spares : goal.returns-clause-spares
 returns-clause-spares c = tt
+
+pub returns-then-after-kept-clause-by_tables : goal.returns-then-after-kept-clause-by_tables
+returns-then-after-kept-clause-by_tables c = stays_by_plain c.args.self.now c.args.self.now refl
+
+pub returns-clause-by_tables : goal.returns-clause-by_tables
+returns-clause-by_tables c = stays_by_plain c.args.self.now c.args.self.now refl
