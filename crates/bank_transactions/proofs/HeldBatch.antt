@@ -33,13 +33,11 @@ use Rattle.sqlite_trees.proofs.ListLemmas.{all_weaker, map-map}
 use Rattle.store_rows.specs.believed.Rules.{OfRows, StoredRows}
 use Rattle.store_rows.specs.declared.fault.TableFault.{TableFault}
 use Rattle.bank_transactions.specs.{Doing.Ends, Stored.HoldsTellerRow}
-use Rattle.bank_transactions.specs.Filling.{AreHeld, AreShown, HasOwnRow, HoldsBranch, IsRowOf, RequestShown}
+use Rattle.bank_transactions.specs.Filling.{AreHeld, HasOwnRow, HoldsBranch, IsRowOf}
 use Rattle.bank_transactions.specs.Filling.{emptied, emptied_account, emptied_branch, emptied_floor, emptied_request}
 use Rattle.bank_transactions.specs.Filling.{emptied_teller}
 use Rattle.bank_transactions.specs.believed.Stored.{HasRead, HasStored, HoldsAccount, HoldsFloor}
 use Rattle.bank_transactions.specs.believed.Stored.{HoldsKept, RepliesToAllStored}
-use Rattle.bank_transactions.specs.believed.Stored.{ShowsKept}
-use Rattle.bank_transactions.specs.Batches.{HasShown, RepliesLookedUp}
 use Rattle.bank_transactions.specs.{Running.Leads, Writing.AreBranchNumbers, Writing.MayWrite}
 use Rattle.bank_transactions.specs.believed.{Additions.AddsForRecords, Answered.AnswersAll, Ran.LeadTo, Ran.Runs}
 use Rattle.bank_transactions.proofs.{HeldRows.both_held, HeldSlots.at_key}
@@ -177,20 +175,6 @@ module _ (rows : StoredRows) where
     has_records (bytes ∷ records) covers =
         (has_read (request_of bytes) covers.0, has_records records covers.1)
 
--- ---- whatever tables a file has
-
-module _ (db : Database) (o : Overlay) (t : Tables) (reads : List (Result RequestFields Bad))
-    (stand : Stands o t reads) (shown : AllByRecursion (RequestShown db) o.kept) where
-  shown_read : (read : Result RequestFields Bad) → CoversRead o read → HasShown db t read
-  shown_read (Err fault) covers = tt
-  shown_read (Ok r) covers = told_kept (ShowsKept db) o t reads stand shown r covers
-
-  shown_records : (records : List (List ℕ)) → CoversAll o (map request_of records)
-      → AllByRecursion (λ bytes. HasShown db t (request_of bytes)) records
-  shown_records [] covers = tt
-  shown_records (bytes ∷ records) covers =
-      (shown_read (request_of bytes) covers.0, shown_records records covers.1)
-
 -- ---- slots that are made for records, and filled
 
 is_own : (n : ℕ) (o : Option BranchRow) → IfSome o (IsRowOf n) → IfSome o (λ b. b.branch ≡ n)
@@ -318,25 +302,6 @@ answers_all old new b b' records m o items made reads same own held judged idle 
             runs_for (λ text values adds. adds)
             (λ statements lead. subst (λ (u : Tables). LeadTo t u statements) is.tables (lead t may)) ran
       ];
-    }
-
--- so does one whose requests are all looked up, whatever tables the file has
-pub in_turn_looked_up : (old new : Database) (b b' : Batch) (records : List (List ℕ)) (m : ℕ) (o : Overlay)
-    (items : List (List ℕ)) → IsMadeOf b records → reads_of b' ≡ reads_of b
-    → emptied (view b'.overlay) ≡ emptied (view b.overlay) → AreShown old (view b'.overlay)
-    → OfRows (λ rows. AreHeld rows (view b'.overlay)) old
-    → ((t : Tables) (rs : List (List ℕ)) → IsFilledFrom b' t rs → HasFreeOrdinals t (length rs)
-    → IsJudged o items t m rs)
-    → (o.decided ≡ (view b'.overlay).decided → new ≡ old)
-    → RepliesLookedUp old new m records items
-unfolding in_turn
-in_turn_looked_up old new b b' records m o items made reads same shown held judged idle =
-    let its : List (Result RequestFields Bad) = map request_of records in
-    let slots = view b'.overlay in
-    let stand = they_stand (length records) its slots (same ∙ ap emptied made.overlay) shown.branches in
-    record {
-      answers = in_turn old new b b' records m o items made reads same shown.branches held judged idle;
-      shown = shown_records old slots _ its stand shown.kept records stand.covers;
     }
 
 -- every branch that a batch asks for has its slot

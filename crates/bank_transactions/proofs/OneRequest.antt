@@ -11,8 +11,7 @@ use Rattle.posting_rules.specs.believed.Kept.{KeptFields}
 use Rattle.posting_rules.specs.believed.{LookUps.found_in, Tables.Tables}
 use Rattle.posting_rules.specs.declared.judgments.{Found.Found, Verdict.TheVariants.Again, Verdict.TheVariants.Unkept}
 use Rattle.store_rows.specs.believed.Rules.{HoldsBank, StoredRows}
-use Rattle.bank_transactions.specs.Batches.{HasShown, RepliesLookedUp}
-use Rattle.bank_transactions.specs.believed.Stored.{HasRead, HasStored, IsStoredFound, RepliesToStored}
+use Rattle.bank_transactions.specs.believed.Stored.{HasRead, HasStored, IsStoredFound, RepliesToAllStored, RepliesToStored}
 use Rattle.posting_rules.specs.declared.rows.ClosingRow.{ClosingRow}
 use Rattle.posting_rules.specs.believed.Closings.{books_of}
 
@@ -38,12 +37,12 @@ module _ (t : Tables) (m : ℕ) (r : RequestFields) where
   case_same f there = teller_same f.teller f there
 
 module _ {old new : Database} {m : ℕ} {bytes reply : List ℕ} {r : RequestFields} (read : request_of bytes ≡ Ok r)
-    (it : RepliesLookedUp old new m (bytes ∷ []) (reply ∷ [])) where
+    (it : RepliesToAllStored old new m (bytes ∷ []) (reply ∷ [])) where
   abbrev its : Tables
-  its = it.answers.tables
+  its = it.tables
 
   has : (rows : StoredRows) → HoldsBank old rows → HasStored rows its r
-  has rows holds = subst (HasRead rows its) read (it.answers.stored rows holds).0.0
+  has rows holds = subst (HasRead rows its) read (it.stored rows holds).0.0
 
   found_stored : IsStoredFound old r (found_in its r)
   found_stored = record {
@@ -55,13 +54,12 @@ module _ {old new : Database} {m : ℕ} {bytes reply : List ℕ} {r : RequestFie
     above = λ rows holds. (has rows holds).account.above;
     floor = λ rows holds. (has rows holds).floor;
     kept = λ rows holds. (has rows holds).kept;
-    decided = λ rows holds. (it.answers.stored rows holds).1;
-    shown = subst (HasShown old its) read it.shown.0;
-    current = ap (λ (runs : List ClosingRow). books_of runs r.teller r.number) it.answers.current;
+    decided = λ rows holds. (it.stored rows holds).1;
+    current = ap (λ (runs : List ClosingRow). books_of runs r.teller r.number) it.current;
   }
 
   replied : reply ≡ reply_bytes its r
-  replied = let first : reply ≡ reply_read its (request_of bytes) = (let are = it.answers.are in cc) in
+  replied = let first : reply ≡ reply_read its (request_of bytes) = (let are = it.are in cc) in
       first ∙ ap (reply_read its) read
 
   pub one_stored : RepliesToStored old new r reply
@@ -69,6 +67,6 @@ module _ {old new : Database} {m : ℕ} {bytes reply : List ℕ} {r : RequestFie
     found = found_in its r;
     stored = found_stored;
     is = replied;
-    stays = λ there. it.answers.stays (ap (λ (u : Tables). u.decided)
+    stays = λ there. it.stays (ap (λ (u : Tables). u.decided)
         (ap (tables_read its m) read ∙ case_same its m r (found_in its r) there));
   }

@@ -1,19 +1,12 @@
 -- What a batch leaves in which nothing is decided.
-use Rattle.std.specs.Prelude.{◌≡◌, ℕ, List, Result, Ok, Err, ⊤}
-use Rattle.std.specs.List.{AllByRecursion}
+use Rattle.std.specs.Prelude.{◌≡◌, ℕ, List, Result, Ok, Err}
 use Rattle.smallvec.specs.SmallVec.{SmallVec}
-use Rattle.message_records.specs.believed.Reading.{request_of}
-use Rattle.message_records.specs.believed.Records.{RequestFields}
-use Rattle.message_records.specs.declared.fault.Bad.{Bad}
-use Rattle.sqlite.specs.Effect.{Database}
 use Rattle.sqlite.specs.Tree.{Trees}
 use Rattle.sqlite.specs.State.{State}
 use Rattle.posting_rules.specs.believed.Changes.{tables_past_all}
-use Rattle.posting_rules.specs.believed.LookUps.{kept_in}
 use Rattle.posting_rules.specs.believed.Tables.{Tables}
 use Rattle.store_rows.specs.believed.View.{Shows, ShowsTrees}
 use Rattle.store_rows.specs.declared.fault.TableFault.{TableFault}
-use Rattle.bank_transactions.specs.believed.Stored.{RepliesToAllStored, ShowsKept}
 use Rattle.bank_transactions.specs.Doing.{Stays}
 
 -- the replies, without where they lie in memory
@@ -32,14 +25,3 @@ pub record KeepsOnly (old new : State) (t : Tables) (moment : ℕ) (records : Li
   pub same : new.now ≡ old.now
   pub shows : Shows new.now t
   pub survives : (left : Trees) → new.may_leave left → ShowsTrees left t
-
--- what was read is no request, or the tables have what is shown to be kept of it
-abbrev pub HasShown : Database → Tables → Result RequestFields Bad → Type 0
-HasShown db t (Err fault) = ⊤
-HasShown db t (Ok r) = ShowsKept db r.teller r.number (kept_in t.requests t.references r.teller r.number)
-
--- The replies are those that `RepliesToAllStored` says, in tables that had what is shown to be kept of each request,
--- whatever tables the database has.
-pub record RepliesLookedUp (old new : Database) (moment : ℕ) (records replies : List (List ℕ)) : Type 0 where
-  pub answers : RepliesToAllStored old new moment records replies
-  pub shown : AllByRecursion (λ bytes. HasShown old answers.tables (request_of bytes)) records

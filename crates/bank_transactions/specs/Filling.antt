@@ -1,7 +1,6 @@
 -- What the parts of filling a batch say.
 use Rattle.std.specs.Prelude.{◌≡◌, ℕ, List, [], map, Option, Some, None, IfSome, Result, Ok, Err}
 use Rattle.std.specs.List.{AllByRecursion}
-use Rattle.sqlite.specs.Effect.{Database}
 use Rattle.message_records.specs.believed.Ranges.{whole_within}
 use Rattle.message_records.specs.declared.limits.TheConstants.{MAX_BRANCH}
 use Rattle.posting_rules.specs.believed.Damage.{IsUndamaged}
@@ -19,7 +18,7 @@ use Rattle.store_rows.specs.believed.Readings.{read_branch}
 use Rattle.store_rows.specs.believed.Rules.{StoredRows, branch_under}
 use Rattle.store_rows.specs.believed.Stored.{FindsStored}
 use Rattle.store_rows.specs.declared.fault.TableFault.{TableFault}
-use Rattle.bank_transactions.specs.believed.Stored.{HoldsAccount, HoldsDecided, HoldsFloor, HoldsKept, ShowsKept}
+use Rattle.bank_transactions.specs.believed.Stored.{HoldsAccount, HoldsDecided, HoldsFloor, HoldsKept}
 use Rattle.bank_transactions.specs.Stored.{HoldsTellerRow}
 
 -- this is the answer, where the call was answered
@@ -116,15 +115,6 @@ IsRowOf n row = (row.branch ≡ n) × (whole_within 1 MAX_BRANCH n ≡ Some n)
 -- the row that the slot has is that of its branch
 abbrev pub HasOwnRow : BranchSlot → Type 0
 HasOwnRow s = IfSome s.stored (IsRowOf s.branch)
-
--- the slot has what is shown to be kept of its request
-abbrev pub RequestShown : Database → RequestSlot → Type 0
-RequestShown db s = ShowsKept db s.teller s.number s.kept
-
--- each slot has
-pub record AreShown (db : Database) (o : Overlay) : Type 0 where
-  pub branches : AllByRecursion HasOwnRow o.branches
-  pub kept : AllByRecursion (RequestShown db) o.kept
 
 -- the slot under a number tells the row of that branch as it is stored
 abbrev pub TellsStored : List BranchSlot → StoredRows → ℕ → Type 0

@@ -43,7 +43,8 @@ ghost use Rattle.store_rows.specs.believed.View.{Shows};
 ghost use Rattle.bank_transactions.specs.believed.Additions.{AddsForRecords};
 ghost use Rattle.bank_transactions.specs.Doing.{Acts, Transacts};
 ghost use Rattle.bank_transactions.specs.believed.Batches.{DecidesNone, HasRoomFor};
-ghost use Rattle.bank_transactions.specs.Batches.{items_of, WritesNothing, KeepsOnly, RepliesLookedUp};
+ghost use Rattle.bank_transactions.specs.Batches.{items_of, WritesNothing, KeepsOnly};
+ghost use Rattle.bank_transactions.specs.believed.Stored.{RepliesToAllStored};
 ghost use Rattle.bank_transactions.specs.Memory.{Keeps, Remembers};
 ghost use Rattle.bank_transactions.specs.believed.Answered.{AnswersAll, KeepsWhole};
 ghost use Rattle.bank_transactions.specs.Undone.{UndoesFaults};
@@ -79,7 +80,7 @@ pub fn answer_batch<S: Alter>(
         (state S.Store tx.new.conn.now) tables moment records) }
     ensures stored { IfOk result (λ replies. HasCleanDisk (state S.Store tx.new.conn.now)
         → (records : List (List ℕ)) → IsMadeOf batch records
-        → RepliesLookedUp (state S.Store tx.old.conn.now).now (state S.Store tx.new.conn.now).now moment records
+        → RepliesToAllStored (state S.Store tx.old.conn.now).now (state S.Store tx.new.conn.now).now moment records
         replies.items) }
     ensures wrote { IfOk result (λ replies. HasCleanDisk (state S.Store tx.new.conn.now)
         → IsTrue (state S.Store tx.old.conn.now).in_transaction
@@ -124,7 +125,7 @@ pub fn post_looked_up<S: Alter>(
     // Whatever rows the file holds.
     ensures stored { IfOk result (λ replies. HasCleanDisk (state S.Store conn.new)
         → (records : List (List ℕ)) → IsMadeOf batch records
-        → RepliesLookedUp (state S.Store conn.old).now (state S.Store conn.new).now moment records
+        → RepliesToAllStored (state S.Store conn.old).now (state S.Store conn.new).now moment records
         replies.items) }
     ensures wrote { IfOk result (λ replies. HasCleanDisk (state S.Store conn.new)
         → (records : List (List ℕ)) → IsMadeOf batch records

@@ -15,7 +15,7 @@ ghost use Rattle.bank_transactions.specs.Doing.{Reads};
 ghost use Rattle.bank_transactions.specs.Filling.{IsRowOf};
 ghost use Rattle.bank_transactions.specs.Memory.{Remembers};
 ghost use Rattle.bank_transactions.specs.believed.Stored.{HoldsDecided, HoldsKept, HoldsReference, IsStoredBalance};
-ghost use Rattle.bank_transactions.specs.believed.Stored.{IsStoredTeller, ShowsKept, ShowsText};
+ghost use Rattle.bank_transactions.specs.believed.Stored.{IsStoredTeller};
 
 use crate::Memory;
 use crate::known::known_branch_row;
@@ -139,8 +139,6 @@ fn reference_at<S: Alter>(
     ensures says { Reads S.Store tx.old tx.new (λ tables. reference_in tables.references ordinal) result }
     ensures stored { IfOk result (λ reference. HasCleanDisk (state S.Store tx.new.conn.now)
         → OfRows (λ rows. HoldsReference rows ordinal reference) (state S.Store tx.old.conn.now).now) }
-    ensures shown { IfOk result (λ reference. HasCleanDisk (state S.Store tx.new.conn.now)
-        → ShowsText (state S.Store tx.old.conn.now).now ordinal reference) }
 {
     let Some(row) = find_reference(tx, ordinal)? else {
         return Ok(None);
@@ -158,9 +156,6 @@ pub fn kept_request<S: Alter>(
         (λ tables. kept_in tables.requests tables.references teller number) result }
     ensures stored { IfOk result (λ kept. HasCleanDisk (state S.Store tx.new.conn.now)
         → OfRows (λ rows. HoldsKept rows teller number kept) (state S.Store tx.old.conn.now).now) }
-    // Be the tables a bank's or not.
-    ensures shown { IfOk result (λ kept. HasCleanDisk (state S.Store tx.new.conn.now)
-        → ShowsKept (state S.Store tx.old.conn.now).now teller number kept) }
 {
     let Some(row) = find_request(tx, teller, number)? else {
         return Ok(None);

@@ -2,7 +2,6 @@
 ghost use Rattle.std.specs.Prelude.{◌≡◌, ⊤, IfOk, List, OnOk, map};
 ghost use Rattle.std.specs.List.{AllByRecursion};
 ghost use Rattle.std.specs.Option.{option_map};
-ghost use Rattle.sqlite.specs.Effect.{Database};
 ghost use Rattle.sqlite.specs.Held.{state};
 ghost use Rattle.sqlite.specs.State.{HasCleanDisk};
 ghost use Rattle.posting_rules.specs.believed.Numbering.{branch_of_teller, branch_of_account};
@@ -18,7 +17,7 @@ ghost use Rattle.bank_transactions.specs.Causes.{IsFirstDamaged};
 ghost use Rattle.bank_transactions.specs.Doing.{Reads, ReadsBy, ReadsWhere};
 ghost use Rattle.store_rows.specs.believed.Rules.{OfRows, StoredRows};
 ghost use Rattle.bank_transactions.specs.Filling.{handing, HasBranch, HoldsBranch, TellsBranch};
-ghost use Rattle.bank_transactions.specs.Filling.{AreHeld, AreKnown, AreShown, HasOwnRow, TellsFloor, TellsStored};
+ghost use Rattle.bank_transactions.specs.Filling.{AreHeld, AreKnown, HasOwnRow, TellsFloor, TellsStored};
 ghost use Rattle.bank_transactions.specs.Filling.{emptied};
 ghost use Rattle.bank_transactions.specs.believed.Stored.{HoldsAccount, HoldsFloor};
 ghost use Rattle.bank_transactions.specs.Memory.{Remembers};
@@ -57,8 +56,8 @@ trait Slot: Copy {
     /// The slot has what the rows hold under its key.
     ghost Held: { StoredRows → Self → Type 0 };
 
-    /// The slot has what the look-ups show, be the tables a bank's or not.
-    ghost Shown: { Database → Self → Type 0 };
+    /// What it is filled with is its own, whatever the rows hold.
+    ghost Own: { Self → Type 0 };
 
     /// Fills it, by the slots of branches and of floors. The tables are asked where a row isn't remembered.
     fn fill<S: Alter>(
@@ -76,8 +75,7 @@ trait Slot: Copy {
         ensures stored { IfOk result (λ slot. HasCleanDisk (state S.Store tx.new.conn.now)
             → OfRows (λ rows. KnowsRow branches.now floors.now rows self → Held rows slot)
             (state S.Store tx.old.conn.now).now) }
-        ensures shown { IfOk result (λ slot. HasCleanDisk (state S.Store tx.new.conn.now)
-            → Shown (state S.Store tx.old.conn.now).now slot) }
+        ensures own { IfOk result (λ slot. HasCleanDisk (state S.Store tx.new.conn.now) → Own slot) }
         ensures remembers { OnOk result (∥ Remembers S.Store tx.new.conn.now memory.new ∥₁) };
 }
 
@@ -95,7 +93,7 @@ impl Slot for BranchSlot {
 
     ghost Held = { BranchHeld };
 
-    ghost Shown = { λ _. HasOwnRow };
+    ghost Own = { HasOwnRow };
 
     fn fill<S: Alter>(
         self,
@@ -123,7 +121,7 @@ impl Slot for FloorSlot {
 
     ghost Held = { FloorHeld };
 
-    ghost Shown = { λ _ _. ⊤ };
+    ghost Own = { λ _. ⊤ };
 
     fn fill<S: Alter>(
         self,
@@ -226,7 +224,7 @@ impl Slot for TellerSlot {
 
     ghost Held = { TellerHeld };
 
-    ghost Shown = { λ _ _. ⊤ };
+    ghost Own = { λ _. ⊤ };
 
     fn fill<S: Alter>(
         self,
@@ -256,7 +254,7 @@ impl Slot for AccountSlot {
 
     ghost Held = { AccountHeld };
 
-    ghost Shown = { λ _ _. ⊤ };
+    ghost Own = { λ _. ⊤ };
 
     fn fill<S: Alter>(
         self,
@@ -275,7 +273,7 @@ impl Slot for AccountSlot {
 
 impl Slot for RequestSlot {
     ghost use Rattle.posting_batch.specs.Batch.{request_filled};
-    ghost use Rattle.bank_transactions.specs.Filling.{RequestHeld, RequestShown, emptied_request};
+    ghost use Rattle.bank_transactions.specs.Filling.{RequestHeld, emptied_request};
 
     ghost filled_from = { request_filled };
 
@@ -287,7 +285,7 @@ impl Slot for RequestSlot {
 
     ghost Held = { RequestHeld };
 
-    ghost Shown = { RequestShown };
+    ghost Own = { λ _. ⊤ };
 
     fn fill<S: Alter>(
         self,
@@ -317,8 +315,7 @@ fn fill_all<S: Alter, T: Slot>(
     ensures stored { OnOk result (HasCleanDisk (state S.Store tx.new.conn.now)
         → OfRows (λ rows. AllByRecursion (T.KnowsRow branches.now floors.now rows) slots.old
         → AllByRecursion (T.Held rows) slots.new) (state S.Store tx.old.conn.now).now) }
-    ensures shown { OnOk result (HasCleanDisk (state S.Store tx.new.conn.now)
-        → AllByRecursion (T.Shown (state S.Store tx.old.conn.now).now) slots.new) }
+    ensures own { OnOk result (HasCleanDisk (state S.Store tx.new.conn.now) → AllByRecursion T.Own slots.new) }
     ensures remembers { OnOk result (∥ Remembers S.Store tx.new.conn.now memory.new ∥₁) }
 {
     for slot in slots.iter_mut() {
@@ -381,9 +378,8 @@ pub fn fill<S: Alter>(
     ensures stored { OnOk result (HasCleanDisk (state S.Store tx.new.conn.now)
         → HasHomes (view overlay.old)
         → OfRows (λ rows. AreHeld rows (view overlay.new)) (state S.Store tx.old.conn.now).now) }
-    // Whatever tables it has.
-    ensures shown { OnOk result (HasCleanDisk (state S.Store tx.new.conn.now)
-        → AreShown (state S.Store tx.old.conn.now).now (view overlay.new)) }
+    ensures own { OnOk result (HasCleanDisk (state S.Store tx.new.conn.now)
+        → AllByRecursion HasOwnRow (view overlay.new).branches) }
     ensures remembers { OnOk result (∥ Remembers S.Store tx.new.conn.now memory.new ∥₁) }
 {
     fill_known(tx, memory, overlay)?;

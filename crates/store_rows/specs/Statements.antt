@@ -12,7 +12,7 @@ use Rattle.sqlite_rules.specs.Lists.{Has}
 use Rattle.sql_meanings.specs.Calls.{Inside, Says}
 use Rattle.store_rows.specs.Columns.{meta_shown}
 use Rattle.store_rows.specs.believed.Failures.{inserts}
-use Rattle.store_rows.specs.believed.Shown.{ShowsFirst}
+use Rattle.store_rows.specs.Shown.{ShowsFirst}
 use Rattle.store_rows.specs.believed.SeveralRows.{under}
 use Rattle.store_rows.specs.Failures.{Changes, Puts}
 use Rattle.store_rows.specs.Faults.{added}
@@ -52,7 +52,7 @@ PutsRow g old new text values result =
 
 -- the row of the bank has a value that is no whole number, whatever table `meta` is
 abbrev pub HasOtherValue : Database → Type 0
-HasOtherValue db = (row : Row) × ShowsFirst GET_META.now (Int (pos META_ID) ∷ []) db (Some row)
+HasOtherValue db = (row : Row) × ShowsFirst GET_META.now (Int (pos META_ID) ∷ []) db row
     × ((m : StoredMeta) → row ≡ meta_shown m → ⊥)
 
 -- what damage at the row of the bank says

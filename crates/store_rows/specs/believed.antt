@@ -6,7 +6,6 @@ pub mod Made
 pub mod Readings
 pub mod Rules
 pub mod SeveralRows
-pub mod Shown
 pub mod Sparing
 pub mod Stored
 pub mod View

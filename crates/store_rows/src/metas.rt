@@ -1,5 +1,5 @@
 //! The table of the bank as a whole: one row.
-ghost use Rattle.std.specs.Prelude.{◌≡◌, ◌≤◌, ◌∷◌, [], pos, true, option_map, IfOk, IfErr, OnOk, Some};
+ghost use Rattle.std.specs.Prelude.{◌≡◌, ◌≤◌, ◌∷◌, [], pos, true, option_map, IfOk, IfErr, OnOk};
 ghost use Rattle.posting_rules.specs.believed.Changes.{with_decided};
 ghost use Rattle.sql_meanings.specs.Calls.{Inside, Says};
 ghost use Rattle.sql_meanings.specs.believed.Sparing.{SparesAllBut};
@@ -18,7 +18,7 @@ ghost use Rattle.store_rows.specs.TableAnswers.{FindsMeta};
 ghost use Rattle.store_rows.specs.declared.texts.TheConstants.{SET_META, SET_VERSION};
 ghost use Rattle.store_rows.specs.believed.BankTables.{meta as table};
 ghost use Rattle.store_rows.specs.Statements.{TellsOther};
-ghost use Rattle.store_rows.specs.believed.Shown.{ShowsFirst};
+ghost use Rattle.store_rows.specs.Shown.{ShowsFirst};
 ghost use Rattle.store_rows.specs.believed.SeveralRows.{under};
 ghost use Rattle.store_rows.specs.declared.metas.TheConstants.{META_ID as id};
 ghost use Rattle.store_rows.specs.declared.texts.TheConstants.{GET_META as text};
@@ -64,7 +64,7 @@ fn meta_row<S: Alter>(tx: &mut Transaction<'_, S>) -> Result<Row, Error>
     ensures says { Says S.Store tx.old tx.new
         (OfMeta (λ old new rows. TellsRow old new (option_map meta_shown (meta_in rows)) result))
         (λ old new. Asks old new result
-        × IfOk result (λ row. ShowsFirst text.now (Int (pos id) ∷ []) old.now (Some row))) }
+        × IfOk result (ShowsFirst text.now (Int (pos id) ∷ []) old.now)) }
     ensures asks { HasCleanDisk (state S.Store tx.new.conn.now) → QueriesRowInside text.now (Int (pos id) ∷ [])
         (state S.Store tx.old.conn.now) (state S.Store tx.new.conn.now) result }
 {

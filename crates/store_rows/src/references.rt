@@ -10,7 +10,6 @@ ghost use Rattle.store_rows.specs.believed.Readings.{read_reference};
 ghost use Rattle.store_rows.specs.believed.Rules.{row_under};
 ghost use Rattle.store_rows.specs.believed.BankTables.{reference as table};
 ghost use Rattle.store_rows.specs.believed.SeveralRows.{given};
-ghost use Rattle.store_rows.specs.believed.Shown.{ShowsReference};
 ghost use Rattle.store_rows.specs.believed.View.{reference_entry};
 ghost use Rattle.store_rows.specs.declared.texts.TheConstants.{ADD_REFERENCE as statement};
 
@@ -42,9 +41,6 @@ pub fn find_reference<S: Alter>(
     ordinal: Ordinal,
 ) -> Result<Option<ReferenceRow>, TableFault>
     ensures says { LooksUp S.Store tx.old tx.new (λ rows. row_under rows.references ordinal) read_reference result }
-    // Be the table a bank's or not.
-    ensures shown { IfOk result (λ found. HasCleanDisk (state S.Store tx.new.conn.now)
-        → ShowsReference (state S.Store tx.old.conn.now).now ordinal found) }
 {
     found(row_under(tx, GET_REFERENCE, ordinal.get()))
 }

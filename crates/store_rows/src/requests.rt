@@ -12,7 +12,6 @@ ghost use Rattle.store_rows.specs.TableAnswers.{Gives};
 ghost use Rattle.store_rows.specs.believed.BankTables.{request as table};
 ghost use Rattle.store_rows.specs.believed.SeveralRows.{given};
 ghost use Rattle.store_rows.specs.SeveralRows.{AddsRows, PutsNew};
-ghost use Rattle.store_rows.specs.believed.Shown.{ShowsRequest};
 ghost use Rattle.store_rows.specs.believed.View.{request_entry};
 ghost use Rattle.store_rows.specs.declared.statements.TheConstants.{MAX_KEY};
 ghost use Rattle.store_rows.specs.declared.texts.TheConstants.{ADD_EIGHT_REQUESTS as eight};
@@ -68,9 +67,6 @@ pub fn find_request<S: Alter>(
 ) -> Result<Option<RequestRow>, TableFault>
     ensures says { LooksUp S.Store tx.old tx.new (λ rows. find (has_two (pos teller) (pos number)) rows.requests)
         read_request result }
-    // Be the table a bank's or not.
-    ensures shown { IfOk result (λ found. HasCleanDisk (state S.Store tx.new.conn.now)
-        → ShowsRequest (state S.Store tx.old.conn.now).now teller number found) }
 {
     found(row_under_two(tx, GET_REQUEST, teller.get(), number.get()))
 }

@@ -21,13 +21,11 @@ use Rattle.posting_rules.specs.declared.judgments.Found.{Found}
 use Rattle.posting_rules.specs.declared.counter.Opening.{Opening}
 use Rattle.posting_rules.specs.declared.counter.Opening.TheVariants.{Opened}
 use Rattle.posting_rules.specs.declared.rows.RequestRow.{RequestRow}
-use Rattle.posting_rules.specs.declared.rows.ReferenceRow.{ReferenceRow}
 use Rattle.sql_meanings.specs.believed.Entries.{Entry, has_two}
 use Rattle.store_rows.specs.believed.Columns.{meta_in}
 use Rattle.store_rows.specs.believed.Readings.{read_balance, read_branch, read_floor, read_reference, read_request}
 use Rattle.store_rows.specs.believed.Rules.{AccountFits, IsAbove, OfRows, StoredRows, TellerFits, branch_under}
 use Rattle.store_rows.specs.believed.Rules.{floor_under, row_under}
-use Rattle.store_rows.specs.believed.Shown.{ShowsReference, ShowsRequest}
 use Rattle.store_rows.specs.believed.Stored.{FindsStored}
 use Rattle.store_rows.specs.believed.View.{Shows}
 use Rattle.posting_batch.specs.believed.Batch.{HasFreeOrdinals}
@@ -80,26 +78,13 @@ HoldsKept rows teller number (Some kept) =
     (r : Entry) × (row : RequestRow) × (find (has_two (pos teller) (pos number)) rows.requests ≡ Some r)
     × (read_request r ≡ Ok row) × (kept.decision ≡ row.decision) × HoldsReference rows row.ordinal kept.reference
 
--- the reference that is shown under an ordinal, be its table a bank's or not
-abbrev pub ShowsText : Database → ℕ → Option (List ℕ) → Type 0
-ShowsText db ordinal None = ShowsReference db ordinal None
-ShowsText db ordinal (Some text) =
-    (row : ReferenceRow) × ShowsReference db ordinal (Some row) × (text ≡ row.reference)
-
--- what is kept of a request by the rows that its look-ups show, be their tables a bank's or not
-abbrev pub ShowsKept : Database → ℕ → ℕ → Option KeptFields → Type 0
-ShowsKept db teller number None = ShowsRequest db teller number None
-ShowsKept db teller number (Some kept) = (row : RequestRow) × ShowsRequest db teller number (Some row)
-    × (kept.decision ≡ row.decision) × ShowsText db row.ordinal kept.reference
-
 -- the bank's row of `meta` counts so many decided requests
 abbrev pub HoldsDecided : StoredRows → ℕ → Type 0
 HoldsDecided rows decided =
     (version : ℤ) × (meta_in rows.meta ≡ Some (record { version = version; decided = pos decided }))
 
 -- what is found for a request is what the rows of its teller, its account, the account's branch, its teller
--- and number with the ordinal there, and the bank hold; and its account isn't below the floor there. What is
--- found to be kept is what is shown, whatever tables the database has.
+-- and number with the ordinal there, and the bank hold; and its account isn't below the floor there
 pub record IsStoredFound (db : Database) (r : RequestFields) (found : Found) : Type 0 where
   pub teller : IsStoredTeller db r.teller found.teller
   pub account : IsStoredBalance db r.account found.account
@@ -107,7 +92,6 @@ pub record IsStoredFound (db : Database) (r : RequestFields) (found : Found) : T
   pub floor : IsStoredFloor db (branch_of_account r.account) found.floor
   pub kept : OfRows (λ rows. HoldsKept rows r.teller r.number found.kept) db
   pub decided : OfRows (λ rows. HoldsDecided rows found.decided) db
-  pub shown : ShowsKept db r.teller r.number found.kept
   -- so far a file knows of no closed books
   pub current : found.books ≡ Current
 

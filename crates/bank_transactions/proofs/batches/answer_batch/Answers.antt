@@ -4,7 +4,7 @@ use Rattle.std.proofs.Math.Logic.{∥∥₁_map}
 use Rattle.sqlite.specs.{State.HasCleanDisk, Held.state}
 use Rattle.posting_batch.specs.View.{view}
 use Rattle.bank_transactions.proofs.Chained.{does_adds, still_in}
-use Rattle.bank_transactions.proofs.{Added.adds_records, HeldBatch.homes_made, HeldBatch.in_turn_looked_up}
+use Rattle.bank_transactions.proofs.{Added.adds_records, HeldBatch.homes_made, HeldBatch.in_turn}
 use Rattle.bank_transactions.proofs.{HeldBatch.answers_all, Running.ran_since}
 use Rattle.bank_transactions.proofs.{LookUps.acts_stray, LookUps.does_look, LookUps.reads_ok, Remembered.keeps_followed}
 use Rattle.bank_transactions.proofs.JudgedSlots.{answered_idle, answered_not, answered_written, counts_none}
@@ -68,7 +68,7 @@ returns-clause-wrote g c clean live records made =
     let stays = (fill.says.says.leaves before).0 in
     let held = fill.stored before (homes_made c.args.batch records made) in
     rw c.into_replies.ensures (answers_all _ _ c.args.batch _ records c.args.moment o c.judge-judged.result.replies.items
-    made refl fill.same (fill.shown before).branches held j.judged
+    made refl fill.same (fill.own before) held j.judged
     (λ none. elim c.if-judged-before.branch [
       | then-judged-before+in_ok-write w ↦ absurd (w.if-judged-before.true none)
       | else-judged-before w ↦ rw w.tx-is stays.now
@@ -135,9 +135,9 @@ returns-clause-stored g c clean records made =
           clean_at w.in_ok-write.ensures.does.says.survives (rw w.tx-is at clean)
       | else-judged-before w ↦ rw w.tx-is at clean
     ] in
-    rw c.into_replies.ensures (in_turn_looked_up _ _ c.args.batch _ records c.args.moment
+    rw c.into_replies.ensures (in_turn _ _ c.args.batch _ records c.args.moment
     (view c.judge-judged.result.overlay) c.judge-judged.result.replies.items made refl fill.same
-    (fill.shown before) (fill.stored before (homes_made c.args.batch records made)) c.judge-judged.ensures.judged
+    (fill.own before) (fill.stored before (homes_made c.args.batch records made)) c.judge-judged.ensures.judged
     (λ none. elim c.if-judged-before.branch [
       | then-judged-before+in_ok-write w ↦ absurd (w.if-judged-before.true none)
       | else-judged-before w ↦ rw w.tx-is ((fill.says.says.leaves before).0.now)

@@ -4,7 +4,7 @@ use Rattle.std.proofs.lemmas.Result.{IfOk-weaker}
 use Rattle.posting_batch.specs.View.{IsMadeOf}
 use Rattle.sqlite.specs.Effect.{Database}
 use Rattle.bank_transactions.specs.believed.Additions.{AddsForRecords}
-use Rattle.bank_transactions.specs.{Batches.RepliesLookedUp, believed.Answered.AnswersAll}
+use Rattle.bank_transactions.specs.believed.{Answered.AnswersAll, Stored.RepliesToAllStored}
 use Rattle.bank_transactions.proofs.{HeldBatch.answered_after, HeldBatch.stored_after, Transacted.undoes, Idle.ends_items, Idle.idle_after}
 use Rattle.bank_transactions.proofs.{Remembered.begins, Remembered.ends_live, Transacted.of_given, Transacted.transacts_records}
 use Rattle.bank_transactions.proofs.Transacted.{whole_after}
@@ -34,7 +34,7 @@ returns-clause-idle g c =
 pub returns-clause-stored : goal.returns-clause-stored
 returns-clause-stored g c =
     stored_after g.S.Store (IsMadeOf c.args.batch)
-    (λ old new records replies. RepliesLookedUp old new c.args.moment records replies.items) c.args.conn.now
+    (λ old new records replies. RepliesToAllStored old new c.args.moment records replies.items) c.args.conn.now
     c.begin-tx.result.conn.now c.answer_batch-replies.new.tx.conn.now c.finish.new.tx.0 c.conn-1.given.0
     c.answer_batch-replies.result c.finish.result c.begin-tx.ensures.begun c.finish.ensures
     (λ records made. let does = c.answer_batch-replies.ensures.says records made in search rules)

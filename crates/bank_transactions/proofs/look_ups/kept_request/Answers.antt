@@ -1,14 +1,13 @@
 -- What the row of a kept request tells, and the row of its reference.
 use Rattle.std.proofs.Common.{◌≡◌, ℕ, pos, find, List, Option, Ok, Some, refl, sym, ap, subst, ◌∙◌}
 use Rattle.std.specs.Prelude.{option_map}
-use Rattle.sqlite.specs.{Effect.Database, Held.state}
+use Rattle.sqlite.specs.Effect.{Database}
 use Rattle.posting_rules.specs.believed.{Kept.KeptFields, Kept.kept_with, LookUps.kept_of_row}
 use Rattle.posting_rules.specs.declared.rows.RequestRow.{RequestRow}
 use Rattle.sql_meanings.specs.believed.Entries.{has_two}
 use Rattle.store_rows.specs.{Columns.request_in, believed.Readings.read_request, believed.Rules.HoldsBank}
 use Rattle.store_rows.specs.believed.{Rules.StoredRows, Stored.FindsStored}
-use Rattle.store_rows.specs.believed.Shown.{ShowsRequest}
-use Rattle.bank_transactions.specs.believed.Stored.{HoldsKept, HoldsReference, ShowsKept, ShowsText}
+use Rattle.bank_transactions.specs.believed.Stored.{HoldsKept, HoldsReference}
 use Rattle.bank_transactions.proofs.{Broken.request_broken, SoundRows.request_found}
 use Rattle.bank_transactions.proofs.LookUps.{looked_at, reads_both, reads_but}
 use Rattle.bank_transactions.proofs.ReadsInTurn.{find_failed, find_tells}
@@ -22,7 +21,6 @@ returns-in_err-row g c =
       says = find_failed (λ rows. find (has_two (pos c.args.teller) (pos c.args.number)) rows.requests) read_request
           (request_broken _ c.args.teller c.args.number _) c.in_err-row.ensures.says;
       stored = tt;
-      shown = tt;
     })
 
 pub returns-in_default-clause-says : goal.returns-in_default-clause-says
@@ -38,7 +36,6 @@ returns-in_err-reference g c =
     rw same (record {
       says = reads_but (looked_at c.in_ok-row.ensures.says) c.in_err-reference.ensures.says;
       stored = tt;
-      shown = tt;
     })
 
 pub returns-clause-says : goal.returns-clause-says
@@ -67,25 +64,3 @@ returns-clause-stored g c clean rows has =
     (sym c.kept_with.ensures)
     (kept_held rows c.args.teller c.args.number c.in-Some.row c.in_ok-reference.reference found
     (c.in_ok-reference.ensures.stored clean rows there))
-
--- ---- whatever tables there are
-
-pub returns-in_default-clause-shown : goal.returns-in_default-clause-shown
-returns-in_default-clause-shown g c clean = rw c.in_default.is at (c.in_ok-row.ensures.shown clean)
-
--- a row that was shown, and then the reference under its ordinal
-kept_shown : (old mid : Database) (teller number : ℕ) (row : RequestRow) (reference : Option (List ℕ)) → mid ≡ old
-    → ShowsRequest old teller number (Some row) → ShowsText mid row.ordinal reference
-    → ShowsKept old teller number (Some (kept_with reference row.decision))
-kept_shown old mid teller number row reference same first second =
-    (row, first, refl, subst (λ (db : Database). ShowsText db row.ordinal reference) same second)
-
-pub returns-clause-shown : goal.returns-clause-shown
-returns-clause-shown g c clean =
-    let mid = clean_at c.in_ok-reference.ensures.says.says.survives clean in
-    let old = (state g.S.Store c.args.tx.now.conn.now).now in
-    subst (λ (kept : KeptFields). ShowsKept old c.args.teller c.args.number (Some kept))
-    (sym c.kept_with.ensures)
-    (kept_shown old (state g.S.Store c.find_request.new.tx.conn.now).now c.args.teller c.args.number c.in-Some.row
-    c.in_ok-reference.reference (c.in_ok-row.ensures.says.leaves mid).0.now_is
-    (rw c.in-Some.is at (c.in_ok-row.ensures.shown mid)) (c.in_ok-reference.ensures.shown clean))

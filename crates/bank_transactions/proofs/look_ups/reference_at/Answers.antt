@@ -1,5 +1,5 @@
 -- What the row of a reference tells.
-use Rattle.std.proofs.Common.{refl, sym, ap, ◌∙◌}
+use Rattle.std.proofs.Common.{sym, ap, ◌∙◌}
 use Rattle.std.specs.Prelude.{option_map}
 use Rattle.posting_rules.specs.believed.LookUps.{text_of_reference}
 use Rattle.store_rows.specs.believed.{Readings.read_reference, Rules.row_under}
@@ -15,7 +15,6 @@ returns-in_err-row g c =
       says = find_failed (λ rows. row_under rows.references c.args.ordinal) read_reference
           (reference_broken _ c.args.ordinal _) c.in_err-row.ensures.says;
       stored = tt;
-      shown = tt;
     })
 
 pub returns-in_default-clause-says : goal.returns-in_default-clause-says
@@ -29,9 +28,3 @@ returns-clause-says g c =
     find_tells (λ rows. row_under rows.references c.args.ordinal) read_reference _ c.in_ok-row.ensures.says
     (λ t sound finds. ap (option_map text_of_reference)
     (sym c.in-Some.is ∙ reference_found t c.args.ordinal sound _ finds))
-
-pub returns-in_default-clause-shown : goal.returns-in_default-clause-shown
-returns-in_default-clause-shown g c clean = rw c.in_default.is at (c.in_ok-row.ensures.shown clean)
-
-pub returns-clause-shown : goal.returns-clause-shown
-returns-clause-shown g c clean = (c.in-Some.row, rw c.in-Some.is at (c.in_ok-row.ensures.shown clean), refl)

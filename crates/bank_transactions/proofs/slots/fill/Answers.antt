@@ -2,11 +2,11 @@
 use Rattle.std.proofs.Common.{List, map, refl, sym, ap, subst, ◌∙◌}
 use Rattle.std.specs.List.{AllByRecursion}
 use Rattle.std.proofs.lemmas.Result.{on_ok_weaker}
-use Rattle.sqlite.specs.{Effect.Database, Held.state}
+use Rattle.sqlite.specs.Effect.{Database}
 use Rattle.smallvec.specs.SmallVec.{SmallVec, with_items}
 use Rattle.posting_batch.specs.{declared.slots.RequestSlot.RequestSlot, View.view}
 use Rattle.store_rows.specs.believed.Rules.{HoldsBank}
-use Rattle.bank_transactions.specs.Filling.{RequestHeld, RequestShown, emptied_request}
+use Rattle.bank_transactions.specs.Filling.{RequestHeld, emptied_request}
 use Rattle.bank_transactions.proofs.HeldSlots.{put_back}
 use Rattle.bank_transactions.proofs.LookUps.{reads_ok, reads_so, reads_wider}
 use Rattle.bank_transactions.proofs.FilledBatch.{emptied_kept, handed_last, kept_after, nothing_asked, with_kept}
@@ -22,7 +22,7 @@ returns-in_err-fill_known g c =
       says = record { says = c.in_err-fill_known.ensures.says.says };
       same = tt;
       stored = tt;
-      shown = tt;
+      own = tt;
       remembers = tt;
     })
 
@@ -72,19 +72,9 @@ returns-clause-stored g c = on_ok_weaker c.fill_all.result (λ stored clean home
       runs = refl;
     }) c.fill_all.ensures.stored
 
-pub returns-clause-shown : goal.returns-clause-shown
-returns-clause-shown g c = on_ok_weaker c.fill_all.result (λ shown clean.
-    let kv = c.fill_known.new.overlay.kept in
-    let one = c.in_ok-fill_known.ensures in
-    let before = clean_at c.fill_all.ensures.says.says.survives clean in
-    let kept = subst (λ (db : Database). AllByRecursion (RequestShown db) c.fill_all.new.slots)
-    (one.says.says.leaves before).0.now (shown clean) in
-    record {
-      branches = one.own before;
-      kept = subst (λ (slots : List RequestSlot). AllByRecursion
-          (RequestShown (state g.S.Store c.args.tx.now.conn.now).now) slots)
-          (sym (put_back kv _ c.fill_all.new.slots c.deref_mut.ensures.value c.fill_all.auto.slots)) kept;
-    }) c.fill_all.ensures.shown
+pub returns-clause-own : goal.returns-clause-own
+returns-clause-own g c = on_ok_weaker c.fill_all.result (λ done clean.
+    c.in_ok-fill_known.ensures.own (clean_at c.fill_all.ensures.says.says.survives clean)) c.fill_all.ensures.own
 
 -- ---- what is remembered
 

@@ -1,6 +1,6 @@
 -- One slot more is filled.
 use Rattle.std.proofs.Common.{◌<◌, ◌≡◌, ◌+◌, add-one, length, arith, refl, sym, subst, ◌∙◌}
-use Rattle.sqlite.specs.{Effect.Database, Held.state}
+use Rattle.sqlite.specs.Effect.{Database}
 use Rattle.std.specs.Prelude.{⊤}
 use Rattle.store_rows.specs.believed.Rules.{HoldsBank}
 use Rattle.bank_transactions.proofs.FilledBatch.{nothing_asked}
@@ -15,7 +15,7 @@ loop-slot-init g c = record {
   says = reads_none (survives_itself _) (λ t so. refl);
   same = partly_none _ c.args.slots.now;
   stored = λ clean rows has. partly_none _ c.args.slots.now;
-  shown = λ clean. partly_none _ c.args.slots.now;
+  own = λ clean. partly_none _ c.args.slots.now;
   remembers = c.requires;
 }
 
@@ -40,12 +40,8 @@ loop-slot-preserved g c =
           let there = subst (λ (db : Database). HoldsBank db rows) (sym (so_far.says.says.leaves mid).0.now) has in
           partly_next _ xs ys i (i + 1) x y (add-one i) lt (one.stored clean rows there)
           (so_far.stored mid rows has);
-      shown =
-          λ clean.
-          let mid = clean_at one.says.says.survives clean in
-          let here : g.T.Slot.Shown (state g.S.Store c.args.tx.now.conn.now).now y =
-          subst (λ (db : Database). g.T.Slot.Shown db y) (so_far.says.says.leaves mid).0.now (one.shown clean) in
-          partly_next _ xs ys i (i + 1) x y (add-one i) lt (λ _. here) (so_far.shown mid);
+      own = λ clean. partly_next _ xs ys i (i + 1) x y (add-one i) lt (λ _. one.own clean)
+          (so_far.own (clean_at one.says.says.survives clean));
       remembers = one.remembers;
     }
 
@@ -56,7 +52,7 @@ returns-in_err-slot g c =
       says = reads_but c.loop-slot.invariant.says c.in_err-slot.ensures.says;
       same = tt;
       stored = tt;
-      shown = tt;
+      own = tt;
       remembers = tt;
     })
 
@@ -79,11 +75,11 @@ returns-clause-stored g c clean rows has =
     all_held (g.T.Slot.KnowsRow c.args.branches.now c.args.floors.now rows) (g.T.Slot.Held rows) c.args.slots.now
     c.loop-slot.slots c.loop-slot.slot-index at_end (c.loop-slot.invariant.stored clean rows has)
 
-pub returns-clause-shown : goal.returns-clause-shown
-returns-clause-shown g c clean =
+pub returns-clause-own : goal.returns-clause-own
+returns-clause-own g c clean =
     let at_end : c.loop-slot.slot-index ≡ length c.args.slots.now = omega arith in
-    all_held (λ _. ⊤) (g.T.Slot.Shown (state g.S.Store c.args.tx.now.conn.now).now) c.args.slots.now
-    c.loop-slot.slots c.loop-slot.slot-index at_end (c.loop-slot.invariant.shown clean) (nothing_asked c.args.slots.now)
+    all_held (λ _. ⊤) g.T.Slot.Own c.args.slots.now
+    c.loop-slot.slots c.loop-slot.slot-index at_end (c.loop-slot.invariant.own clean) (nothing_asked c.args.slots.now)
 
 -- ---- what is remembered
 

@@ -17,7 +17,7 @@ invariant-loop-slot g l = record {
   stored : HasCleanDisk (state g.S.Store l.tx.conn.now)
       → OfRows (λ rows. Partly (λ x y. g.T.Slot.KnowsRow l.branches l.floors rows x → g.T.Slot.Held rows y) l.fn.slots
       l.slots l.slot-index) (state g.S.Store l.fn.tx.conn.now).now;
-  shown : HasCleanDisk (state g.S.Store l.tx.conn.now)
-      → Partly (λ x y. ⊤ → g.T.Slot.Shown (state g.S.Store l.fn.tx.conn.now).now y) l.fn.slots l.slots l.slot-index;
+  own : HasCleanDisk (state g.S.Store l.tx.conn.now)
+      → Partly (λ x y. ⊤ → g.T.Slot.Own y) l.fn.slots l.slots l.slot-index;
   remembers : ∥ Remembers g.S.Store l.tx.conn.now l.memory ∥₁;
 }

@@ -2,7 +2,7 @@
 use Rattle.std.proofs.Common.{◌≡◌, ℕ, List, [], ◌∷◌, Ok, Err, Result, length, refl, sym, ap, subst, ◌∙◌, inl}
 use Rattle.message_records.specs.believed.Spelling.{reply_spelling}
 use Rattle.message_records.specs.{believed.Reading.request_of, believed.Records.RequestFields, declared.fault.Bad.Bad}
-use Rattle.bank_transactions.specs.{Batches.RepliesLookedUp, believed.Additions.AddsForRecords}
+use Rattle.bank_transactions.specs.believed.{Additions.AddsForRecords, Stored.RepliesToAllStored}
 use Rattle.bank_transactions.specs.believed.Answered.{AnswersAll}
 use Rattle.bank_transactions.specs.believed.Causes.{IsBrokenOrMet}
 use Rattle.bank_transactions.proofs.{OneRequest.one_stored, Remembered.blank}
@@ -121,7 +121,7 @@ returns-in-Ok-post_looked_up g c =
       frugal = λ same. (let it = same in cc);
       stored = record {
         answers = λ clean r is. record {
-          answers = one_stored is (subst (RepliesLookedUp _ _ m rs) c.only_reply.ensures (it.stored clean rs made));
+          answers = one_stored is (subst (RepliesToAllStored _ _ m rs) c.only_reply.ensures (it.stored clean rs made));
           alone = subst (AnswersAll _ _ m rs) c.only_reply.ensures (it.wrote clean rs made);
         };
         whole = it.whole rs made;

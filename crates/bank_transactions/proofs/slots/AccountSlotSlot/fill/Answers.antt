@@ -15,7 +15,7 @@ returns-in_err-stored g c = rw (handed_on c.from_residual.result c.from_residual
   says = reads_fail c.in_err-stored.ensures.says;
   same = tt;
   stored = tt;
-  shown = tt;
+  own = tt;
   remembers = tt;
 })
 
@@ -36,6 +36,6 @@ returns g c =
         subst (λ (branch : Option BranchRow). HoldsBranch rows n branch) (sym row) held.0,
         subst (λ (lowest : Option ℤ). HoldsFloor rows n lowest) (sym floor) held.1,
       );
-      shown = λ clean. tt;
+      own = λ clean. tt;
       remembers = found.remembers;
     }

@@ -13,7 +13,7 @@ returns-in_err-stored g c = rw (handed_on c.from_residual.result c.from_residual
   says = reads_fail c.in_err-stored.ensures.says;
   same = tt;
   stored = tt;
-  shown = tt;
+  own = tt;
   remembers = tt;
 })
 
@@ -24,6 +24,6 @@ returns g c =
           (λ t so. (so.0, λ e. ap (λ (row : Option BranchRow). record c.args.self { stored = row }) e));
       same = refl;
       stored = λ clean rows has asked. found.stored clean rows has;
-      shown = λ clean. found.own;
+      own = λ clean. found.own;
       remembers = found.remembers;
     }

@@ -12,7 +12,7 @@ returns-in_err-floor g c = rw (handed_on c.from_residual.result c.from_residual.
   says = reads_fail c.in_err-floor.ensures.says;
   same = tt;
   stored = tt;
-  shown = tt;
+  own = tt;
   remembers = tt;
 })
 
@@ -23,6 +23,6 @@ returns g c =
           (λ t so. (so.0, λ e. ap (λ (floor : Option ℤ). record c.args.self { floor = floor }) e));
       same = refl;
       stored = λ clean rows has asked. found.stored clean rows has;
-      shown = λ clean. tt;
+      own = λ clean. tt;
       remembers = found.remembers;
     }

@@ -10,7 +10,7 @@ returns-in_err-kept g c = rw (handed_on c.from_residual.result c.from_residual.e
   says = reads_fail c.in_err-kept.ensures.says;
   same = tt;
   stored = tt;
-  shown = tt;
+  own = tt;
   remembers = tt;
 })
 
@@ -21,6 +21,6 @@ returns g c =
           (λ t so. (so.0, λ e. ap (λ (kept : Option KeptFields). record c.args.self { kept = kept }) e));
       same = refl;
       stored = λ clean rows has asked. found.stored clean rows has;
-      shown = λ clean. found.shown clean;
+      own = λ clean. tt;
       remembers = keeps_read c.args._memory.now found.says c.requires;
     }

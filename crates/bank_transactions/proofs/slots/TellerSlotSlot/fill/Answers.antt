@@ -16,7 +16,7 @@ returns-in_err-stored g c = rw (handed_on c.from_residual.result c.from_residual
   says = reads_fail c.in_err-stored.ensures.says;
   same = tt;
   stored = tt;
-  shown = tt;
+  own = tt;
   remembers = tt;
 })
 
@@ -34,6 +34,6 @@ returns g c =
       same = refl;
       stored = λ clean rows has held. found.stored clean rows has
           (subst (λ (branch : Option BranchRow). HoldsBranch rows n branch) (sym row) held);
-      shown = λ clean. tt;
+      own = λ clean. tt;
       remembers = found.remembers;
     }
