@@ -3,11 +3,11 @@ use Rattle.std.specs.Prelude.{◌≡◌, ◌⊎◌, ◌+◌, ℕ, List, Option, 
 use Rattle.std.specs.Io.KnownBytes.{Appends, Keeps}
 use Rattle.std.specs.declared.net.socket_addr.SocketAddr.{SocketAddr}
 use Rattle.posting_rules.specs.declared.fault.Fault.{Fault}
-use Rattle.posting_rules.specs.believed.Commands.{Command}
-use Rattle.posting_rules.specs.believed.Counter.{Seen, ShowsLog, Takes}
+use Rattle.posting_rules.specs.believed.Counter.{Seen, Takes}
 use Rattle.posting_rules.specs.Counter.{HasRefused}
+use Rattle.posting_rules.specs.believed.ByCommands.{TakesByTables}
 use Rattle.branch_loader.specs.believed.Loading.{IsRefusedAfter}
-use Rattle.branch_loader.specs.Loading.{answers, counted, total}
+use Rattle.branch_loader.specs.Loading.{CountsAnswers, total}
 use Rattle.branch_loader.specs.believed.Plans.{Rows}
 use Rattle.branch_loader.specs.Plans.{ReadsPlan, openings}
 use Rattle.branch_loader.specs.declared.fault.PlanFault.{PlanFault}
@@ -35,8 +35,9 @@ use Rattle.command_line.specs.declared.status.Status.TheVariants.{Done}
 -- the bank took the openings of a plan's rows, and they were answered so many times in each way
 pub record Loads (rows : Rows) (old new : Seen) (loaded : Loaded) : Type 0 where
   pub takes : Takes old new (openings rows)
+  pub by_tables : TakesByTables old new (openings rows)
   pub all : total loaded ≡ length rows
-  pub counts : new.honest → (log : List Command) → ShowsLog old log → loaded ≡ counted (answers log rows)
+  pub counts : CountsAnswers old new rows loaded
 
 -- the bank answered some openings and refused the next one, for the reason that its fault gives
 pub record IsRefusedLoad {C : Type 0} (seen : C → Seen) (reason : Fault → C → C → Type 0) (rows : Rows)

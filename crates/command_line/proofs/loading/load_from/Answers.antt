@@ -46,7 +46,7 @@ returns-in_err-print_loaded g c =
     let same : c.from_residual-in_err-print_loaded.result ≡ Err Write = search rules in
     let did : Loads c.in_ok-plan.plan (g.C.Counter.seen c.args.bank.now)
     (g.C.Counter.seen c.load.new.counter) c.in_ok-loaded.loaded =
-    record { takes = says.done.takes; all = says.all; counts = says.counts } in
+    record { takes = says.done.takes; by_tables = says.done.by_tables; all = says.all; counts = says.counts } in
     let it = unprinted g.C.Counter.seen g.C.Counter.reason (g.W.Sink.contents c.args.output.now)
     (g.W.Sink.calls c.args.output.now) c.args.bank.now
     (g.W.Sink.contents c.print_loaded.new.output) (g.W.Sink.calls c.print_loaded.new.output) c.load.new.counter
@@ -66,7 +66,7 @@ returns g c =
     let says = c.in_ok-loaded.ensures in
     let did : Loads c.in_ok-plan.plan (g.C.Counter.seen c.args.bank.now)
     (g.C.Counter.seen c.load.new.counter) c.in_ok-loaded.loaded =
-    record { takes = says.done.takes; all = says.all; counts = says.counts } in
+    record { takes = says.done.takes; by_tables = says.done.by_tables; all = says.all; counts = says.counts } in
     let it = printed g.C.Counter.seen g.C.Counter.reason (g.W.Sink.contents c.args.output.now)
     (g.W.Sink.calls c.args.output.now) c.args.bank.now
     (g.W.Sink.contents c.print_loaded.new.output) (g.W.Sink.calls c.print_loaded.new.output) c.load.new.counter
