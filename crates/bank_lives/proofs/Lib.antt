@@ -10,3 +10,4 @@ pub mod Sent
 pub mod Streamed
 pub mod KeepsRules
 pub mod Follower
+mod Begun

@@ -15,7 +15,7 @@ use Rattle.posting_rules.specs.declared.limits.TheConstants.{MAX_DECIDED}
 use Rattle.posting_core.specs.Entries.{record_text, reply_text}
 use Rattle.posting_core.specs.believed.LogEntries.{AnsweredRequest, answered_after, log_entries}
 use Rattle.posting_core.specs.believed.Stream.{posted_records}
-use Rattle.posting_rules.specs.believed.Closings.{books_of, closings}
+use Rattle.posting_rules.specs.believed.Closings.{books_of, closings, is_closed_in}
 use Rattle.posting_rules.specs.declared.judgments.Books.TheVariants.{Current}
 
 -- the entries of the follower are the first so many of the leader
@@ -71,3 +71,20 @@ pub record HasAll (leader log : List Command) : Type 0 where
 abbrev pub LaterAreKept : Type 0
 LaterAreKept = (leader follower : List Command) (n : ℕ) (sent : List Command) → Follows leader follower n
     → AreSentOn leader follower n sent → HasAll leader (followed_by follower sent)
+
+-- ---- whose closed books are the leader's
+
+-- The follower closed only what the leader had closed when it had decided no more than its first so many: so it is of a copy
+-- of the leader's file, to which nothing but the leader's entries came, and of a bank that closed nothing.
+pub record BeganAs (leader follower : List Command) (n : ℕ) : Type 0 where
+  pub start : List Command
+  pub later : List Command
+  pub is : leader ≡ followed_by start later
+  pub few : length (decided start) ≤ n
+  pub closed : (x : ℕ) → is_closed_in (closings follower) x ≡ true → is_closed_in (closings start) x ≡ true
+
+-- then it closed no number of the later requests, and isn't sealed where there is one
+abbrev pub LaterAreCurrent : Type 0
+LaterAreCurrent = (leader follower : List Command) (n : ℕ) → BeganAs leader follower n
+    → AllByRecursion (λ a. books_of (closings follower) a.request.teller a.request.number ≡ Current)
+    (drop n (answered_after leader))
