@@ -14,14 +14,15 @@ use Rattle.posting_rules.specs.believed.Entries.{DecidedRequest, decided, facts,
 use Rattle.posting_rules.specs.believed.Entries.{posted_sum, refused_entry, with_record, with_verdict}
 use Rattle.posting_rules.specs.believed.Numbering.{branch_of_account, branch_of_teller}
 use Rattle.posting_rules.specs.believed.Runs.{ArePosts, followed_by}
-use Rattle.posting_rules.specs.declared.judgments.{Found.Found, Verdict.Verdict}
+use Rattle.posting_rules.specs.declared.judgments.{Books.Books, Found.Found, Verdict.Verdict}
+use Rattle.posting_rules.specs.declared.judgments.Books.TheVariants.{Current}
 use Rattle.posting_rules.specs.declared.judgments.Verdict.TheVariants.{Again, Posted, Refused, Unkept}
 use Rattle.posting_core.specs.believed.LogEntries.{answered_of, each_answered}
-use Rattle.bank_replays.specs.GivenBack.{GivesBack, record_of, records_since, unmoved}
+use Rattle.bank_replays.specs.GivenBack.{ClosesNoMore, GivesBack, record_of, records_since, unmoved}
 use Rattle.posting_core.specs.believed.LogEntries.{AnsweredRequest}
 use Rattle.posting_rules.specs.declared.rows.ClosingRow.{ClosingRow}
-use Rattle.posting_rules.specs.believed.Closings.{closings}
-use Rattle.posting_rules.proofs.Resends.{closings_after}
+use Rattle.posting_rules.specs.believed.Closings.{books_of, closings}
+use Rattle.posting_rules.proofs.Verdicts.{IsOfBooks, of_books}
 
 -- ---- what is known of a request doesn't depend on moments
 
@@ -54,12 +55,17 @@ facts_opened : (o o' : ℕ → Option Terms) (runs : List ClosingRow) → ((b : 
     → facts o runs es r ≡ facts o' runs es r
 facts_opened o o' runs same es r = rw (same (branch_of_teller r.teller), same (branch_of_account r.account)) refl
 
-pub facts_alike : (o o' : ℕ → Option Terms) (runs runs' : List ClosingRow) (es es' : List DecidedRequest)
-    → ((b : ℕ) → o b ≡ o' b) → runs ≡ runs'
-    → map unmoved es ≡ map unmoved es' → (r : RequestFields) → facts o runs es r ≡ facts o' runs' es' r
-facts_alike o o' runs runs' es es' opens closes same r =
+facts_closed : (o : ℕ → Option Terms) (runs runs' : List ClosingRow) (es : List DecidedRequest) (r : RequestFields)
+    → books_of runs r.teller r.number ≡ books_of runs' r.teller r.number → facts o runs es r ≡ facts o runs' es r
+facts_closed o runs runs' es r same =
+    ap (λ (c : Books). let f : Found = record (facts o runs es r) { books = c } in f) same
+
+facts_alike : (o o' : ℕ → Option Terms) (runs runs' : List ClosingRow) (es es' : List DecidedRequest) (r : RequestFields)
+    → ((b : ℕ) → o b ≡ o' b) → books_of runs r.teller r.number ≡ books_of runs' r.teller r.number
+    → map unmoved es ≡ map unmoved es' → facts o runs es r ≡ facts o' runs' es' r
+facts_alike o o' runs runs' es es' r opens closes same =
     sym (facts_unmoved o runs es r) ∙ ap (λ l. facts o runs l r) same ∙ facts_unmoved o runs es' r
-    ∙ facts_opened o o' runs opens es' r ∙ ap (λ (x : List ClosingRow). facts o' x es' r) closes
+    ∙ facts_opened o o' runs opens es' r ∙ facts_closed o' runs runs' es' r closes
 
 -- ---- what one record adds
 
@@ -146,7 +152,7 @@ tail_of (x ∷ xs) = xs
 record Goes (log other : List Command) (cs ds : List Command) : Type 0 where
   same : map unmoved (decided log) ≡ map unmoved (decided other)
   opens : (b : ℕ) → opened log b ≡ opened other b
-  closes : closings log ≡ closings other
+  closes : ClosesNoMore log other
   are : AreCommands cs
   posts : ArePosts cs
   again : ArePosts ds
@@ -170,7 +176,7 @@ module _ (m : ℕ) (bytes : List ℕ) (log other cs ds : List Command) (goes : G
   none_more none records = rest other ds (record {
     same = ap (map unmoved) none ∙ goes.same;
     opens = goes.opens;
-          closes = goes.closes;
+    closes = goes.closes;
     are = goes.are.1;
     posts = goes.posts;
     again = goes.again;
@@ -178,22 +184,23 @@ module _ (m : ℕ) (bytes : List ℕ) (log other cs ds : List Command) (goes : G
 
   module _ (r : RequestFields) (v : Verdict) (read : request_of bytes ≡ Ok r)
       (is : case_of (facts (λ b. opened log b) (closings log) (decided log) r) r ≡ v) where
-    -- the request was
-    one_more : (x : AnsweredRequest) → record_of x ≡ request_spelling r → (ds' : List Command) → ds ≡ ds'
+    -- the request was, so that the first hadn't closed its number
+    one_more : (x : AnsweredRequest) → record_of x ≡ request_spelling r
+        → books_of (closings log) r.teller r.number ≡ Current → (ds' : List Command) → ds ≡ ds'
         → posted_records ds' ≡ record_of x ∷ map record_of (added (Post m bytes ∷ log) cs)
         → map unmoved (decided (followed_by (Post m bytes ∷ log) cs)) ≡ map unmoved (decided (followed_by other ds'))
-    one_more x own [] same records = absurd cc
-    one_more x own (Open b terms ∷ more) same records = absurd (subst ArePosts same goes.again)
-    one_more x own (Close first last ∷ more) same records = absurd (subst ArePosts same goes.again)
-    one_more x own (Post m' bytes' ∷ more) same records =
+    one_more x own current [] same records = absurd cc
+    one_more x own current (Open b terms ∷ more) same records = absurd (subst ArePosts same goes.again)
+    one_more x own current (Close first last ∷ more) same records = absurd (subst ArePosts same goes.again)
+    one_more x own current (Post m' bytes' ∷ more) same records =
         let first : bytes' ≡ record_of x = ap (head_of bytes') records in
         let taken = request_takes r bytes goes.are.0.1 read in
         let equal : bytes' ≡ bytes = first ∙ own ∙ sym taken.0 in
         let reads : request_of bytes' ≡ Ok r = ap request_of equal ∙ read in
         let judged : case_of (facts (λ b. opened other b) (closings other) (decided other) r) r ≡ v =
         sym (ap (λ (f : Found). case_of f r)
-        (facts_alike (λ b. opened log b) (λ b. opened other b) (closings log) (closings other) (decided log) (decided other)
-        goes.opens goes.closes goes.same r)) ∙ is in
+        (facts_alike (λ b. opened log b) (λ b. opened other b) (closings log) (closings other) (decided log) (decided other) r
+        goes.opens (current ∙ sym (goes.closes r.teller r.number current)) goes.same)) ∙ is in
         rest (Post m' bytes' ∷ other) more (record {
           same = ap (map unmoved) (record_is m bytes log r v read is)
               ∙ verdict_alike m m' r v (decided log) (decided other) goes.same
@@ -205,6 +212,12 @@ module _ (m : ℕ) (bytes : List ℕ) (log other cs ds : List Command) (goes : G
           again = subst ArePosts same goes.again;
         }) (ap tail_of records)
 
+  is_of_books : (r : RequestFields) (v : Verdict) → case_of (facts (λ b. opened log b) (closings log) (decided log) r) r ≡ v
+      → IsOfBooks (books_of (closings log) r.teller r.number) v
+  is_of_books r v is =
+      subst (IsOfBooks (books_of (closings log) r.teller r.number)) is
+      (of_books (facts (λ b. opened log b) (closings log) (decided log) r) r)
+
   posted_more : (r : RequestFields) (v : Verdict) → request_of bytes ≡ Ok r
       → case_of (facts (λ b. opened log b) (closings log) (decided log) r) r ≡ v
       → posted_records ds ≡ map record_of (map answered_of (added_by m r v) ++ added (Post m bytes ∷ log) cs)
@@ -213,9 +226,11 @@ module _ (m : ℕ) (bytes : List ℕ) (log other cs ds : List Command) (goes : G
   posted_more r (Unkept outcome) read is records = none_more (record_is m bytes log r (Unkept outcome) read is) records
   posted_more r (Again first) read is records = none_more (record_is m bytes log r (Again first) read is) records
   posted_more r (Refused outcome) read is records =
-      one_more r (Refused outcome) read is (answered_of (refused_entry m r outcome)) refl ds refl records
+      one_more r (Refused outcome) read is (answered_of (refused_entry m r outcome)) refl
+      (is_of_books r (Refused outcome) is) ds refl records
   posted_more r (Posted account teller branch) read is records =
-      one_more r (Posted account teller branch) read is (answered_of (posted_entry m r account)) refl ds refl records
+      one_more r (Posted account teller branch) read is (answered_of (posted_entry m r account)) refl
+      (is_of_books r (Posted account teller branch) is) ds refl records
 
   read_more : (read : Result RequestFields Bad) → request_of bytes ≡ read
       → posted_records ds ≡ map record_of (map answered_of (read_adds m read (λ b. opened log b) (closings log) (decided log))
@@ -249,10 +264,9 @@ opened_same (Close first last ∷ cs) log posts b = absurd posts
 opened_same (Post m bytes ∷ cs) log posts b = opened_same cs (Post m bytes ∷ log) posts b
 
 pub gives_back : GivesBack
-gives_back first second posted again alike are posts others records = record {
+gives_back first second posted again alike closes are posts others records = record {
   requests = again_alike posted first second again
-      (record { same = alike.requests; opens = alike.branches; closes = alike.numbers; are = are; posts = posts; again = others })
+      (record { same = alike.requests; opens = alike.branches; closes = closes; are = are; posts = posts; again = others })
       (records ∙ since_is first posted);
   branches = λ b. opened_same posted first posts b ∙ alike.branches b ∙ sym (opened_same again second others b);
-  numbers = closings_after first posted posts ∙ alike.numbers ∙ sym (closings_after second again others);
 }
