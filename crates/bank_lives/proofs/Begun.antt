@@ -1,6 +1,6 @@
 -- What a bank decided after some commands has numbers that weren't closed by then.
 use Rattle.std.proofs.Common.{◌≡◌, ◌≤◌, ◌++◌, ◌∙◌, ℕ, zero, suc, true, false, List, [], ◌∷◌, length, drop, Result, Ok, Err}
-use Rattle.std.proofs.Common.{Option, refl, sym, ap, subst, append-nil, inl, inr, arith}
+use Rattle.std.proofs.Common.{refl, sym, ap, subst, append-nil, inl, inr, arith}
 use Rattle.std.specs.{List.AllByRecursion}
 use Rattle.std.proofs.lemmas.List.{append_assoc}
 use Rattle.message_records.specs.declared.{fault.Bad.Bad}
@@ -18,7 +18,7 @@ use Rattle.posting_rules.proofs.{Closings.current_parts, Keyed.by_test, SealedBo
 use Rattle.posting_rules.proofs.Verdicts.{IsOfBooks, of_books}
 use Rattle.posting_core.specs.believed.LogEntries.{AnsweredRequest, answered_after, answered_of, each_answered}
 use Rattle.posting_core.proofs.LogPlaces.{length-answered}
-use Rattle.bank_lives.specs.Machines.{BeganAs, LaterAreCurrent}
+use Rattle.bank_lives.specs.Machines.{LaterAreCurrent}
 
 -- ---- fewer closed numbers
 

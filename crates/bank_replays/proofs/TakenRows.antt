@@ -10,11 +10,11 @@ use Rattle.posting_rules.specs.believed.Commands.{Command, Post, Terms}
 use Rattle.posting_rules.specs.believed.Entries.{DecidedRequest}
 use Rattle.sql_meanings.specs.believed.Entries.{Entry}
 use Rattle.store_rows.specs.believed.Columns.{number_at}
-use Rattle.walked_rows.specs.Requests.{IsRequestRow, request_in}
+use Rattle.walked_rows.specs.Requests.{IsRequestRow}
 use Rattle.walked_rows.specs.{Came.CameAs, KeptRows.KeptItem, KeptRows.kept_item, Stored.posting_entry}
 use Rattle.walked_rows.specs.declared.{kept.KeptRequest.KeptRequest, postings.StoredPosting.StoredPosting}
 use Rattle.walked_rows.proofs.Came.{request_is}
-use Rattle.bank_replays.specs.FollowedRows.{AreRowsOf, IsRowOf}
+use Rattle.bank_replays.specs.FollowedRows.{AreRowsOf}
 use Rattle.bank_replays.specs.Following.{AreDecided, Follows, had_account, prepared}
 use Rattle.bank_replays.specs.Leading.{Leads, PostsRow}
 use Rattle.bank_replays.specs.Refilling.{FollowsRows, Holds, HoldsMore, IsMomentOf, IsNeverInDoubt, IsPlan}
