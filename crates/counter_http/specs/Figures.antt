@@ -102,6 +102,8 @@ refusals_text t =
     ++ sample (codes "bank_refusals_total{outcome=\"15\"}") t.reused_number
     ++ sample (codes "bank_refusals_total{outcome=\"16\"}") t.full
     ++ sample (codes "bank_refusals_total{outcome=\"17\"}") t.below_floor
+    ++ sample (codes "bank_refusals_total{outcome=\"18\"}") t.closed
+    ++ sample (codes "bank_refusals_total{outcome=\"19\"}") t.sealed
     ++ sample (codes "bank_refusals_total{outcome=\"90\"}") t.malformed
 
 abbrev pub counter : (name help : List ℕ) → ℕ → List ℕ

@@ -60,8 +60,10 @@ impl fmt::Display for Refusals {
         let e = Sample("bank_refusals_total{outcome=\"15\"}", tally.reused_number);
         let g = Sample("bank_refusals_total{outcome=\"16\"}", tally.full);
         let h = Sample("bank_refusals_total{outcome=\"17\"}", tally.below_floor);
-        let i = Sample("bank_refusals_total{outcome=\"90\"}", tally.malformed);
-        write!(f, "{REFUSALS}{a}{b}{c}{d}{e}{g}{h}{i}")
+        let i = Sample("bank_refusals_total{outcome=\"18\"}", tally.closed);
+        let j = Sample("bank_refusals_total{outcome=\"19\"}", tally.sealed);
+        let k = Sample("bank_refusals_total{outcome=\"90\"}", tally.malformed);
+        write!(f, "{REFUSALS}{a}{b}{c}{d}{e}{g}{h}{i}{j}{k}")
     }
 }
 

@@ -121,6 +121,8 @@ pub const FIGURES_ANSWER: &[u8] =
     bank_refusals_total{outcome=\"15\"} 0\n\
     bank_refusals_total{outcome=\"16\"} 0\n\
     bank_refusals_total{outcome=\"17\"} 0\n\
+    bank_refusals_total{outcome=\"18\"} 0\n\
+    bank_refusals_total{outcome=\"19\"} 0\n\
     bank_refusals_total{outcome=\"90\"} 0\n\
     # HELP bank_records_total Records replied to.\n\
     # TYPE bank_records_total counter\n\
