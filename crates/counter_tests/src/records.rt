@@ -7,7 +7,7 @@ use std::process::Abort;
 
 const DEPOSIT: &[u8] = b"DC01000000000001000000010000010000000001+0000000500";
 
-const RENT: &[u8] = b"DC02000000000001000000010000010000000001+0000000500RENT MAY            ";
+const RENT: &[u8] = b"DC02000000000001000000010000010000000001+0000000500RENT MAY 2026 FLAT 7";
 
 const POSTED: &[u8] = b"DR0100000000000001000000010000010000000001+0000000500+000000000500POSTED";
 
@@ -101,7 +101,7 @@ fn is_deposit(rt: &impl Abort, front: &[u8], reference: Option<Reference>) {
 fn requests_and_replies(rt: HostRuntime) {
     one_spelling();
     is_deposit(&rt, DEPOSIT, None);
-    is_deposit(&rt, RENT, Reference::new(b"RENT MAY            "));
+    is_deposit(&rt, RENT, Reference::new(b"RENT MAY 2026 FLAT 7"));
     is_reply(&rt, MALFORMED, Reply::new(Outcome::Malformed, None, None));
 }
 
