@@ -6,6 +6,7 @@ mod drives;
 mod plans;
 mod records;
 mod requests;
+mod runs;
 mod sheets;
 mod streams;
 mod verdicts;
@@ -18,6 +19,7 @@ use message_records::{Account, Cents, Outcome};
 use posting_core::{Counter, PlainBank, StoredClock};
 use posting_rules::Verdict;
 pub use requests::first_requests;
+use runs::first_runs;
 use std::alloc::{Alloc, Global};
 use std::process::Abort;
 use streams::first_stream;
@@ -63,4 +65,9 @@ fn an_open_account_and_none(rt: HostRuntime) {
     assert!(rt; first_verdict(Some(zero)) == (posted, Some(delta)));
     let refused = Verdict::Refused(Outcome::NoAccount);
     assert!(rt; first_verdict(None) == (refused, None));
+}
+
+#[test]
+fn numbers_that_differ(rt: HostRuntime) {
+    assert!(rt; first_runs(rt.alloc()) == Ok(Some(3)));
 }

@@ -1,0 +1,4 @@
+pub mod Runs
+pub mod Joined
+pub mod FirstApart
+pub mod Shown
