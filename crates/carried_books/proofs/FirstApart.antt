@@ -1,14 +1,14 @@
 -- The first number that one of two lists of runs has and the other hasn't.
-use Rattle.std.proofs.Common.{◌≡◌, ◌≢◌, ◌≤◌, ◌<◌, ◌+◌, ◌∙◌, ℕ, zero, suc, Bool, true, false, cond, eqb, leb, min, add-one, List, [], ◌∷◌, length, drop}
+use Rattle.std.proofs.Common.{◌≡◌, ◌≢◌, ◌≤◌, ◌<◌, ◌+◌, ◌∙◌, ℕ, zero, suc, Bool, true, false, eqb, leb, min, add-one, List, [], ◌∷◌, length, drop}
 use Rattle.std.proofs.Common.{Option, Some, None, ◌⊎◌, refl, sym, ap, subst, inl, inr, arith}
 use Rattle.std.specs.Prelude.{◌&&◌, slice_get}
 use Rattle.std.proofs.lemmas.{Bool.eqb-true, List.drop_all}
 use Rattle.std.proofs.lemmas.Bool.Decides.{nat_tests}
 use Rattle.posting_rules.specs.declared.rows.ClosingRow.{ClosingRow}
-use Rattle.posting_rules.specs.believed.Closings.{is_closed_in, meets}
+use Rattle.posting_rules.specs.believed.Closings.{is_closed_in}
 use Rattle.posting_rules.proofs.Keyed.{by_test}
 use Rattle.carried_books.specs.Numbers.{DifferAt, RiseFrom, SameNumbers, apart_at, between}
-use Rattle.carried_books.proofs.Runs.{below_runs, rise_earlier}
+use Rattle.carried_books.proofs.Runs.{below_runs}
 
 abbrev or_else : Option ℕ → Option ℕ → Option ℕ
 or_else None next = next

@@ -1,12 +1,12 @@
 -- A run that is made longer by the next one.
-use Rattle.std.proofs.Common.{◌≡◌, ◌≤◌, ◌<◌, ◌+◌, ◌++◌, ◌∙◌, ℕ, zero, suc, Bool, true, false, leb, max, List, [], ◌∷◌, length, take, get_or, append-nil, Option, Some, None, refl, sym, ap, subst, inl, inr}
+use Rattle.std.proofs.Common.{◌≡◌, ◌≤◌, ◌<◌, ◌+◌, ◌++◌, ◌∙◌, ℕ, Bool, true, false, leb, max, List, [], ◌∷◌, length, take, get_or, append-nil, Option, Some, None, refl, sym, ap, subst}
 use Rattle.std.proofs.Common.{arith}
 use Rattle.std.specs.Prelude.{◌&&◌, ◌||◌, IfOk, Result, Ok, Err}
 use Rattle.std.specs.List.Sorted.{IsNonDecreasingBy}
 use Rattle.std.proofs.lemmas.List.{get_or_default, take_more}
 use Rattle.std.proofs.lemmas.Bool.Decides.{nat_tests}
 use Rattle.posting_rules.specs.declared.rows.ClosingRow.{ClosingRow}
-use Rattle.posting_rules.specs.believed.Closings.{is_closed_in, meets, run_of}
+use Rattle.posting_rules.specs.believed.Closings.{is_closed_in, meets}
 use Rattle.carried_books.proofs.Runs.{any-append}
 use Rattle.carried_books.specs.Numbers.{BeginsBy, ComesAfter, RiseFrom, RiseTo, as_list}
 

@@ -1,13 +1,13 @@
 -- Which numbers runs have.
-use Rattle.std.proofs.Common.{rules, ◌≡◌, ◌≤◌, ◌<◌, ◌+◌, ◌++◌, ◌∙◌, ℕ, Bool, true, false, leb, List, [], ◌∷◌, refl, sym, ap, inl, inr}
+use Rattle.std.proofs.Common.{rules, ◌≡◌, ◌≤◌, ◌<◌, ◌+◌, ◌++◌, ◌∙◌, ℕ, Bool, false, leb, List, [], ◌∷◌, refl, sym, inl, inr}
 use Rattle.std.proofs.Common.{arith}
 use Rattle.std.specs.Prelude.{◌&&◌, ◌||◌, All, IsPermutation}
-use Rattle.std.specs.List.{list_any, AllByRecursion}
+use Rattle.std.specs.List.{list_any}
 use Rattle.std.proofs.lemmas.Bool.Decides.{nat_tests}
 use Rattle.std.proofs.lemmas.List.Elements.{All-head, All-tail, All-cons}
 use Rattle.std.proofs.lemmas.List.Sorted.{All-permutation, IsPermutation-sym}
 use Rattle.posting_rules.specs.declared.rows.ClosingRow.{ClosingRow}
-use Rattle.posting_rules.specs.believed.Closings.{is_closed_in, meets}
+use Rattle.posting_rules.specs.believed.Closings.{is_closed_in}
 use Rattle.posting_rules.proofs.Keyed.{by_test}
 use Rattle.carried_books.specs.Numbers.{RiseFrom}
 

@@ -1,19 +1,17 @@
 -- Tables that carry others on show logs that do.
-use Rattle.std.proofs.Common.{◌≡◌, ◌≤◌, ◌<◌, ◌+◌, ◌*◌, ◌++◌, ◌∙◌, ◌⊎◌, ℕ, Bool, true, false, cond, eqb, leb, List, [], ◌∷◌, map}
-use Rattle.std.proofs.Common.{Option, Some, None, refl, sym, ap, subst, inl, inr, arith}
+use Rattle.std.proofs.Common.{◌≡◌, ◌≤◌, ◌<◌, ◌∙◌, ◌⊎◌, ℕ, Bool, true, false, cond, eqb, leb, List, [], ◌∷◌, map}
+use Rattle.std.proofs.Common.{Option, Some, None, refl, sym, ap, inl, inr, arith}
 use Rattle.std.specs.Prelude.{ℤ, pos, is_some, ◌&&◌, ◌||◌}
 use Rattle.std.specs.Option.{option_map}
 use Rattle.std.specs.List.{AllByRecursion, find, list_any}
 use Rattle.std.proofs.lemmas.{Bool.and_parts, Bool.eq-eqb, Bool.eqb-true, Bool.leb-true}
 use Rattle.std.proofs.lemmas.Bool.Decides.{nat_tests}
 use Rattle.message_records.specs.declared.limits.TheConstants.{MAX_NUMBER}
-use Rattle.posting_rules.specs.declared.limits.TheConstants.{NUMBERS_PER_TELLER}
-use Rattle.posting_rules.specs.declared.rows.{ClosingRow.ClosingRow, RequestRow.RequestRow, ReferenceRow.ReferenceRow}
-use Rattle.posting_rules.specs.believed.ClosedBooks.{Carries, StandAlike, used}
+use Rattle.posting_rules.specs.declared.rows.{RequestRow.RequestRow}
+use Rattle.posting_rules.specs.believed.ClosedBooks.{StandAlike, used}
 use Rattle.posting_rules.specs.believed.Closings.{closed, closings, is_closed_in, meets}
 use Rattle.posting_rules.specs.believed.Commands.{Command, Terms, is_account_open, is_teller_open, number_key, opened}
 use Rattle.posting_rules.specs.believed.Entries.{account_balance, branch_balance, decided, kept, teller_balance}
-use Rattle.posting_rules.specs.believed.Kept.{KeptFields}
 use Rattle.posting_rules.specs.believed.LookUps.{balance_of_account, balance_of_branch, balance_of_teller, floor_in}
 use Rattle.posting_rules.specs.believed.LookUps.{kept_of_row, lowest_of, terms_of_branch}
 use Rattle.posting_rules.specs.believed.Numbering.{branch_of_teller}
@@ -21,10 +19,10 @@ use Rattle.posting_rules.specs.believed.Tables.{AreTablesOf, Tables, branch_key,
 use Rattle.posting_rules.proofs.Closings.{closed_shown, closing_keys}
 use Rattle.posting_rules.proofs.Keyed.{by_test}
 use Rattle.posting_rules.proofs.Looked.{account_balance_shown, terms_shown}
-use Rattle.posting_rules.proofs.NamedOpen.{AllNameOpen, all_name_open}
+use Rattle.posting_rules.proofs.NamedOpen.{all_name_open}
 use Rattle.posting_rules.proofs.NoBalance.{account_none, branch_none, teller_none}
 use Rattle.posting_rules.proofs.Requests.{are_new, kept_shown}
-use Rattle.carried_books.specs.Carrying.{CarriesShown, IsOfDesk, SameStanding, TablesCarry, number_of, used_runs}
+use Rattle.carried_books.specs.Carrying.{CarriesShown, IsOfDesk, SameStanding, number_of, used_runs}
 use Rattle.carried_books.proofs.Runs.{any-append}
 
 -- ---- balances
@@ -174,8 +172,10 @@ or_swap false false = refl
 used_by_rows : (t : Tables) (log : List Command) → AreTablesOf t log → AllByRecursion (λ r. r.number ≤ MAX_NUMBER) t.requests
     → (teller n : ℕ) → n ≤ MAX_NUMBER → used log teller n ≡ is_closed_in (used_runs t) (number_key teller n)
 used_by_rows t log shows in_range teller n high =
-    rw (kept_by_rows t log shows teller n ∙ numbers_are teller n t.requests high in_range,
-    closed_by_rows t log shows (number_key teller n))
+    rw (
+      kept_by_rows t log shows teller n ∙ numbers_are teller n t.requests high in_range,
+      closed_by_rows t log shows (number_key teller n),
+    )
     (or_swap (is_closed_in (map number_of t.requests) (number_key teller n)) (is_closed_in t.closings (number_key teller n))
     ∙ sym (any-append (meets (number_key teller n) (number_key teller n)) t.closings (map number_of t.requests)))
 

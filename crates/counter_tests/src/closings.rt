@@ -1,9 +1,11 @@
-//! Closed books: their numbers are refused, what is kept gets its first reply, and a seal decides nothing more.
+//! Closed books: their numbers are refused, what is kept gets its first reply, and a seal decides nothing more; and new
+//! books that begin with the balances of old ones by postings of a desk.
 use message_records::{
     Account, Branch, Cents, Moment, Number, Outcome, REPLY_BYTES, Request, Teller, decode_reply,
     encode_request,
 };
 use posting_core::{Closing, Counter, PlainBank};
+use std::alloc::Global;
 
 // The outcome of a cent to account 1, by teller 1 of branch 1, under this number.
 fn cent_under<C: Counter>(bank: &mut C, number: u64) -> Option<Outcome> {
@@ -43,5 +45,57 @@ fn closed_books(rt: HostRuntime) {
     ];
     for (number, outcome) in outcomes {
         assert!(rt; cent_under(&mut bank, number) == Some(outcome));
+    }
+}
+
+// Teller, number, account and cents.
+type Cash = (u64, u64, u64, i64);
+
+// The outcome of a posting, and the account's new balance.
+fn told<C: Counter>(bank: &mut C, (teller, number, account, cents): Cash) -> Option<(Outcome, i64)> {
+    let branch = Branch::new((teller - 1) / 10 + 1)?;
+    let (teller, number) = (Teller::new(teller)?, Number::new(number)?);
+    let request = Request::new(Account::new(account)?, teller, branch, number, Cents::new(cents)?, None)?;
+    let reply: [u8; REPLY_BYTES] = bank.submit(Moment::new(7)?, &encode_request(&request)).ok()?;
+    let reply = decode_reply(&reply).ok()?;
+    Some((reply.outcome(), reply.balance().map_or(0, |cents| cents.get())))
+}
+
+// What the first year posts, and what brings its balances forward: the desk posts the account's to it, teller 1 its own
+// to the desk's account, under a number that it used, and the desk what is left there.
+const FIRST_YEAR: [Cash; 2] = [(1, 1, 1, 500), (1, 2, 1, -200)];
+
+const FORWARD: [Cash; 3] = [
+    (99_981, 1, 1, 300),
+    (1, 1, 999_800_001, 300),
+    (99_981, 2, 999_800_001, -300),
+];
+
+// A bank with branch 1 and the desk, after these postings.
+fn bank_after(alloc: Global, postings: &[Cash]) -> Option<PlainBank> {
+    let mut bank = PlainBank::new(alloc);
+    for branch in [1, 9_999] {
+        bank.open_branch(Branch::new(branch)?, 1, None).ok()?;
+    }
+    for posting in postings {
+        let (Outcome::Posted, _) = told(&mut bank, *posting)? else {
+            return None;
+        };
+    }
+    Some(bank)
+}
+
+#[test]
+fn a_second_year(rt: HostRuntime) {
+    let mut one = bank_after(rt.alloc(), &FIRST_YEAR).expect(&rt, "one bank");
+    let mut new = bank_after(rt.alloc(), &FORWARD).expect(&rt, "new books");
+    let (first, last) = (Number::new(1).unwrap(), Number::new(2).unwrap());
+    let closed = new.close_numbers(Teller::new(1).unwrap(), first, last);
+    assert!(rt; closed == Ok(Closing::Closed));
+    // What the first year decided is never decided again, and what comes then is decided as by the one bank.
+    assert!(rt; told(&mut new, FIRST_YEAR[0]) == Some((Outcome::ReusedNumber, 0)));
+    assert!(rt; told(&mut new, FIRST_YEAR[1]) == Some((Outcome::Closed, 0)));
+    for posting in [(1, 3, 1, 1), (2, 1, 1, -400), (1, 3, 1, 1), (1, 4, 2, 1)] {
+        assert!(rt; told(&mut new, posting) == told(&mut one, posting));
     }
 }
