@@ -12,7 +12,9 @@ fn cent_under<C: Counter>(bank: &mut C, number: u64) -> Option<Outcome> {
     let (account, teller) = (Account::new(1)?, Teller::new(1)?);
     let (branch, number) = (Branch::new(1)?, Number::new(number)?);
     let request = Request::new(account, teller, branch, number, Cents::new(1)?, None)?;
-    let reply: [u8; REPLY_BYTES] = bank.submit(Moment::new(7)?, &encode_request(&request)).ok()?;
+    let reply: [u8; REPLY_BYTES] = bank
+        .submit(Moment::new(7)?, &encode_request(&request))
+        .ok()?;
     Some(decode_reply(&reply).ok()?.outcome())
 }
 
@@ -52,13 +54,28 @@ fn closed_books(rt: HostRuntime) {
 type Cash = (u64, u64, u64, i64);
 
 // The outcome of a posting, and the account's new balance.
-fn told<C: Counter>(bank: &mut C, (teller, number, account, cents): Cash) -> Option<(Outcome, i64)> {
+fn told<C: Counter>(
+    bank: &mut C,
+    (teller, number, account, cents): Cash,
+) -> Option<(Outcome, i64)> {
     let branch = Branch::new((teller - 1) / 10 + 1)?;
     let (teller, number) = (Teller::new(teller)?, Number::new(number)?);
-    let request = Request::new(Account::new(account)?, teller, branch, number, Cents::new(cents)?, None)?;
-    let reply: [u8; REPLY_BYTES] = bank.submit(Moment::new(7)?, &encode_request(&request)).ok()?;
+    let request = Request::new(
+        Account::new(account)?,
+        teller,
+        branch,
+        number,
+        Cents::new(cents)?,
+        None,
+    )?;
+    let reply: [u8; REPLY_BYTES] = bank
+        .submit(Moment::new(7)?, &encode_request(&request))
+        .ok()?;
     let reply = decode_reply(&reply).ok()?;
-    Some((reply.outcome(), reply.balance().map_or(0, |cents| cents.get())))
+    Some((
+        reply.outcome(),
+        reply.balance().map_or(0, |cents| cents.get()),
+    ))
 }
 
 // What the first year posts, and what brings its balances forward: the desk posts the account's to it, teller 1 its own
