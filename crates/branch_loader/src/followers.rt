@@ -1,7 +1,7 @@
 //! Entries of a log are posted at their moments, and branches of a plan are opened where the first entry needs them.
 ghost use Rattle.std.specs.Prelude.{◌≡◌, ◌≤◌, ◌<◌, ◌+◌, ◌^◌, ◌++◌, ◌∷◌, [], List, IfNone, IfOk, IfSome};
 ghost use Rattle.std.specs.Prelude.{Bool, Contains, IsSome, MatchResult, OnOk, Some, false, length, true, vec_len};
-ghost use Rattle.std.specs.List.{slice_get};
+ghost use Rattle.std.specs.List.{AllByRecursion, slice_get};
 ghost use Rattle.message_records.specs.believed.Outcomes.{has_balance};
 ghost use Rattle.posting_rules.specs.declared.limits.TheConstants.{LAST_BRANCH};
 ghost use Rattle.posting_core.specs.Entries.{IsMomentOf, answered};
@@ -307,6 +307,27 @@ impl<'p> Follower<'p> {
         }
     }
 
+    // Opens the branches that the next entry needs: its teller's, and its account's where it was judged by that.
+    fn open_needed<C: Counter>(&mut self, entry: &Entry, counter: &mut C) -> Result<(), FollowFault>
+        ensures follows { (first : C) (rows : Rows) (given : List AnsweredRequest)
+            → self.old.plan.now ≡ rows
+            → IsFollowing C.seen C.spares rows first counter.old given (answered entry.now ∷ []) self.old.waiting
+            self.old.looked.items
+            → MatchResult result
+            (λ _. IsFollowing C.seen C.spares rows first counter.new given (answered entry.now ∷ [])
+            self.new.waiting self.new.looked.items)
+            (Stops C.seen C.spares C.reason rows first counter.new given (answered entry.now ∷ [])) }
+        ensures looked { OnOk result (AllByRecursion (IsLooked self.old.plan.now self.new.looked.items)
+            (needed_by (answered entry.now))) }
+        ensures plan { self.new.plan.now ≡ self.old.plan.now }
+    {
+        self.open(branch_of_teller(entry.request.teller()), counter)?;
+        if !had_account(entry.reply.outcome()) {
+            return Ok(());
+        }
+        self.open(branch_of_account(entry.request.account()), counter)
+    }
+
     // Takes an entry, once the branches that it needs are open.
     pub(crate) fn take<C: Counter>(
         &mut self,
@@ -322,10 +343,7 @@ impl<'p> Follower<'p> {
             (Stops C.seen C.spares C.reason rows first counter.new given (answered entry.now ∷ [])) }
         ensures plan { self.new.plan.now ≡ self.old.plan.now }
     {
-        self.open(branch_of_teller(entry.request.teller()), counter)?;
-        if had_account(entry.reply.outcome()) {
-            self.open(branch_of_account(entry.request.account()), counter)?;
-        }
+        self.open_needed(entry, counter)?;
         let moment = self.moment_for(entry);
         self.make_room(moment, counter)?;
         self.waiting.push(entry);
