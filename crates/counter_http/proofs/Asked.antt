@@ -1,8 +1,8 @@
 -- What the bank was asked, one question after another, and a client whose messages were answered so.
-use Rattle.std.proofs.Common.{◌≡◌, ℕ, List, [], ◌∷◌, ◌++◌, Result, Ok, Err, refl, sym, ap, subst, ◌∙◌, append-nil}
+use Rattle.std.proofs.Common.{◌≡◌, ℕ, List, [], ◌∷◌, ◌++◌, None, Option, Some, Result, Ok, Err, refl, sym, ap, subst, ◌∙◌, append-nil}
 use Rattle.std.proofs.Common.{append_assoc, inl, inr}
 use Rattle.std.specs.{List.AllByRecursion}
-use Rattle.std.specs.Prelude.{IfErr}
+use Rattle.std.specs.Prelude.{Contains, IfErr}
 use Rattle.posting_rules.specs.declared.fault.Fault.{Fault}
 use Rattle.posting_rules.specs.declared.fault.Fault.TheVariants as fault
 use Rattle.posting_rules.specs.believed.Commands.{Command}
@@ -13,13 +13,15 @@ use Rattle.posting_rules.proofs.Remaining.{leaves_still}
 use Rattle.posting_core.specs.Stream.{IsOfCall}
 use Rattle.posting_core.proofs.StreamedBatches.{all_more}
 use Rattle.counter_http.specs.Connections.{Known}
+use Rattle.counter_http.specs.together.Faring.{Fares}
 use Rattle.counter_http.specs.together.Standing.{IsAnswered, StandsHere, StandsRefused, TellsRefusal}
 use Rattle.counter_http.specs.Turns.{IsAsked, IsRefusedAt}
 use Rattle.counter_http.specs.believed.Answers.{asked_by}
-use Rattle.counter_http.specs.together.Order.{Step, is_read_under, submitted_by}
+use Rattle.counter_http.specs.together.Order.{Step, clients_of, is_read_under, submitted_by}
 use Rattle.counter_http.specs.declared.figures.Figures.{Figures}
 use Rattle.counter_http.specs.declared.client.Client.{Client}
 use Rattle.counter_http.proofs.AnsweredTurns.{idle_commands, refused_first, why_first}
+use Rattle.counter_http.proofs.Faring.{among_then, fares_then}
 use Rattle.counter_http.proofs.Steps.{submitted-append}
 
 -- ---- the bank
@@ -155,16 +157,19 @@ owned_by m n (s ∷ ss) e all = (all.0 ∙ e, owned_by m n ss e all.1)
 -- nothing was answered
 pub answered_nothing : {C R W X : Type 0} (seen : C → Seen) {reason : Fault → C → C → Type 0} {known : R × W → Known} {figures : Figures}
     (bank new : C) (old after : Client R W) (result : Result X Fault) → IsAsked seen reason bank new result
-    → IfErr result (TellsRefusal seen known bank new old after []) → after.number ≡ old.number
-    → ((k : Known) (c : Seen) (steps : List Step) → StandsHere known k c (seen bank) steps old
+    → IfErr result (TellsRefusal seen known bank new old after [])
+    → ((fault : Option Fault) (refused : List Step)
+    → IfErr result (λ why. (fault ≡ Some why) × Contains (clients_of refused) old.number) → Fares fault refused [] old after)
+    → after.number ≡ old.number → ((k : Known) (c : Seen) (steps : List Step) → StandsHere known k c (seen bank) steps old
     → StandsHere known k c (seen new) steps after)
     → IsAnswered seen reason known figures bank new old after result
-answered_nothing seen {known = known} bank new old after result asked told number stands = record {
+answered_nothing seen {known = known} bank new old after result asked told fares number stands = record {
   more = [];
   reads = tt;
   own = tt;
   asked = asked;
   told = told;
+  fares = fares;
   number = number;
   stands = λ k first steps takes is. subst (λ (ss : List Step). StandsHere known k (seen first) (seen new) ss after)
       (sym (append-nil steps)) (stands k (seen first) steps is);
@@ -199,6 +204,8 @@ answered_then seen {reason} {known} {figures} bank mid new one two three result 
       (owned_by one.number two.number b.more a.number b.own);
   asked = asked_then seen bank mid new result a.asked b.asked;
   told = refused_then seen bank mid new one two three result a b.more b.told;
+  fares = λ fault refused among. fares_then one two three a.more b.more a.number (a.fares None [] tt)
+      (b.fares fault refused (among_then fault refused result one.number two.number (sym a.number) among));
   number = b.number ∙ a.number;
   stands = λ k first steps takes is.
       subst (λ (ss : List Step). StandsHere known k (seen first) (seen new) ss three) (append_assoc steps a.more b.more)
@@ -217,6 +224,7 @@ answered_as y a = record {
   own = a.own;
   asked = asked_as y a.asked;
   told = tt;
+  fares = λ fault refused among. a.fares fault refused tt;
   number = a.number;
   stands = a.stands;
 }
@@ -231,6 +239,7 @@ answered_err a = record {
   own = a.own;
   asked = asked_err a.asked;
   told = a.told;
+  fares = a.fares;
   number = a.number;
   stands = a.stands;
 }

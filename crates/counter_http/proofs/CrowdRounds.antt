@@ -11,16 +11,21 @@ use Rattle.counter_http.specs.Clients.{ClientsCall, Gave}
 use Rattle.counter_http.specs.Connections.{Known}
 use Rattle.counter_http.specs.together.Crowd.{Differ, GoesOn, HasLeft, IsCrowd, IsHere, Scene}
 use Rattle.counter_http.specs.together.Crowd.{WereRefused}
+use Rattle.counter_http.specs.together.Faring.{Fares, IsToldSo}
 use Rattle.counter_http.specs.together.Order.{Step, steps_in}
 use Rattle.counter_http.specs.together.Order.{submitted_by}
+use Rattle.counter_http.specs.together.Reading.{Lost, Reads, Refused, SaysAtEnd, Silent}
 use Rattle.counter_http.specs.together.Rounds.{AnswersRound, IsOfOneOf, fault_in, numbers}
 use Rattle.counter_http.specs.together.Standing.{AreRefused, IsUpToDate, StandsHere, Writes, unread}
-use Rattle.counter_http.specs.together.Serving.{Visit, number_of}
+use Rattle.counter_http.specs.together.Serving.{IsVisitWhy, IsWhyParted, Visit, number_of}
 use Rattle.counter_http.specs.declared.client.Client.{Client}
 use Rattle.counter_http.specs.declared.figures.Tally.{Tally}
+use Rattle.counter_http.specs.declared.parting.Parting.{Parting}
+use Rattle.counter_http.specs.declared.parting.Parting.TheVariants as parting
 use Rattle.counter_http.proofs.Beside.{served_beside}
 use Rattle.counter_http.proofs.Crowds.{all_last, each_weaker, none_given, pairs_differ}
 use Rattle.counter_http.proofs.ConnectionLoop.{unfinished_none}
+use Rattle.counter_http.proofs.Faring.{none_memory, none_served, told_none, why_still}
 use Rattle.counter_http.proofs.Fronts.{going_of}
 use Rattle.counter_http.proofs.Readings.{number_read, read_here}
 use Rattle.counter_http.proofs.Refused.{refused_written}
@@ -34,13 +39,38 @@ here_as : {R W : Type 0} {known : R × W → Known} {c c' c'' : Seen} {steps ste
     → ((k : Known) → StandsHere known k c c' steps old → StandsHere known k c c'' steps' new)
     → ((k : Known) → StandsHere known k c c' steps old → AreRefused known k c c' steps fault refused old
     → AreRefused known k c c'' steps' fault' refused' new)
+    → (IsToldSo fault refused old.number old.parting → IsToldSo fault' refused' old.number new.parting)
     → IsHere known c c' steps fault refused calls old → IsHere known c c'' steps' fault' refused' calls new
-here_as {calls = calls} old new number stands still is = record {
+here_as {fault' = fault'} {refused' = refused'} {calls = calls} old new number stands still told is = record {
   given = is.given;
   came = subst (λ (n : ℕ). Contains calls (Gave n is.given)) (sym number) is.came;
   stands = stands _ is.stands;
   are_refused = still _ is.stands is.are_refused;
+  told = subst (λ (n : ℕ). IsToldSo fault' refused' n new.parting) (sym number) (told is.told);
 }
+
+-- what it is told of a refusal, no write and no read changes
+written_told : {R W : Type 0} {known : R × W → Known} {fault : Option Fault} {refused : List Step} {n : ℕ}
+    (old new : Client R W) → Writes known old new → IsToldSo fault refused n old.parting → IsToldSo fault refused n new.parting
+written_told {fault = fault} {refused} {n} old new (inl same) told =
+    subst (λ (x : Client _ _). IsToldSo fault refused n x.parting) (sym same) told
+written_told {fault = fault} {refused} {n} old new (inr (inl w)) told =
+    subst (λ (p : Option Parting). IsToldSo fault refused n p) (sym w.parting) told
+written_told old new (inr (inr w)) told = told_none new.parting (Some parting.Write) w.parting (λ why e. cc e)
+
+ended_told : {R W : Type 0} {fault : Option Fault} {refused : List Step} {n : ℕ} (old new : Client R W) → SaysAtEnd old new
+    → IsToldSo fault refused n new.parting
+ended_told old new (Silent empty none why) = told_none new.parting (Some parting.Served) why none_served
+ended_told old new (Refused some text why) = told_none new.parting (Some parting.Served) why none_served
+ended_told old new (Lost none why) = told_none new.parting (Some parting.Memory) why none_memory
+
+read_told : {R W : Type 0} {known : R × W → Known} {fault : Option Fault} {refused : List Step} {n : ℕ}
+    (old new : Client R W) → Reads known old new → IsToldSo fault refused n old.parting → IsToldSo fault refused n new.parting
+read_told {fault = fault} {refused} {n} old new (inl same) told =
+    subst (λ (x : Client _ _). IsToldSo fault refused n x.parting) (sym same) told
+read_told old new (inr (inl some)) told = told_none new.parting None some.goes_on (λ why e. cc e)
+read_told old new (inr (inr (inl end))) told = ended_told old new end.says
+read_told old new (inr (inr (inr last))) told = told_none new.parting (Some parting.Read) last.parting (λ why e. cc e)
 
 goes_here : {R W : Type 0} {known : R × W → Known} {c c' : Seen} {steps : List Step} {calls : List (ClientsCall (R × W))}
     (old new : Client R W) → GoesOn known old new → IsHere known c c' steps None [] calls old
@@ -50,7 +80,7 @@ goes_here {known = known} {c} {c'} {steps} {calls} old new (inl same) is =
 goes_here old new (inr served) is =
     here_as old new (number_read served.between new served.reads ∙ number_written old served.between served.writes)
     (λ k stands. read_here served.between new served.reads (written_here old served.between served.writes stands))
-    (λ k stands all. tt) is
+    (λ k stands all. tt) (λ told. read_told served.between new served.reads (written_told old served.between served.writes told)) is
 
 pub goes_number : {R W : Type 0} {known : R × W → Known} (old new : Client R W) → GoesOn known old new
     → new.number ≡ old.number
@@ -73,7 +103,7 @@ writes_here : {R W : Type 0} {known : R × W → Known} {c c' : Seen} {steps : L
     → IsHere known c c' steps fault refused calls old → IsHere known c c' steps fault refused calls new
 writes_here {known = known} {c} {c'} {steps} {fault} {refused} old new w is =
     here_as old new (number_written old new w) (λ k stands. written_here old new w stands)
-    (λ k stands all. told_written known k c c' steps fault refused old new w all) is
+    (λ k stands all. told_written known k c c' steps fault refused old new w all) (written_told old new w) is
 
 pub same_numbers : {R W : Type 0} (M : Client R W → Client R W → Type 0)
     → ((x y : Client R W) → M x y → y.number ≡ x.number) → (xs ys : List (Client R W)) → AllZip M xs ys
@@ -179,6 +209,16 @@ none_refused known c c' steps (Some why) [] v others = tt
 none_refused known c c' steps (Some why) (s ∷ ss) v others =
     ((λ own. absurd (others.0 own)), none_refused known c c' steps (Some why) ss v others.1)
 
+why_further : {E : Type 0} (stops : Type 0) (calls : List (ClientsCall E)) (n : ℕ) (p : Parting) (fault : Option Fault)
+    (refused : List Step) → IsWhyParted stops None [] calls n p → IsWhyParted stops fault refused calls n p
+why_further stops calls n parting.GivenUp fault refused is = is
+why_further stops calls n parting.Stopped fault refused is = is
+why_further stops calls n parting.Served fault refused is = tt
+why_further stops calls n parting.Read fault refused is = tt
+why_further stops calls n parting.Write fault refused is = tt
+why_further stops calls n parting.Memory fault refused is = tt
+why_further stops calls n (parting.Bank why) fault refused is = why_still [] is
+
 visited_further : {R W : Type 0} (stops : Type 0) (known : R × W → Known) (c c' c'' : Seen) (steps : List Step)
     (calls : List (ClientsCall (R × W))) (ns : List ℕ) (more : List Step) (fault : Option Fault) (refused : List Step)
     (visits : List (Visit (R × W))) → (c''.honest → c'.honest) → AllByRecursion (IsOfOneOf ns) more
@@ -191,7 +231,7 @@ visited_further stops known c c' c'' steps calls ns more fault refused (v ∷ vs
       (
         (all.0.0.0, served_beside more (others_of v.number ns more apart whose) honest all.0.0.1),
         none_refused known c c'' (steps ++ more) fault refused v (others_of v.number ns refused apart too),
-        all.0.2,
+        why_further stops calls v.number v.parting fault refused all.0.2,
       ),
       visited_further stops known c c' c'' steps calls ns more fault refused vs honest whose too differ.1 all.1,
     )
@@ -239,11 +279,13 @@ crowd_round {C} {R} {W} seen {known = known} first old new {calls} steps {came =
     let all = ap (λ (ns : List ℕ). map number_of crowd.visits ++ ns) (sym r.same) in
     let vs = map number_of crowd.visits in
     let Moved : Client R W → Client R W → Type 0 =
-    λ x y. (l : Known) → StandsHere known l (seen first) (seen old) steps x
+    λ x y. Fares fault r.refused more x y × ((l : Known) → StandsHere known l (seen first) (seen old) steps x
     → StandsHere known l (seen first) (seen new) (steps ++ more) y
-    × AreRefused known l (seen first) (seen new) (steps ++ more) fault r.refused y in
-    let zip = zip_places Moved here here' r.same (λ p x y is is' l stands.
-    (r.stand p x y is is' l first steps takes stands, r.are_told p x y is is' l first steps takes stands)) in
+    × AreRefused known l (seen first) (seen new) (steps ++ more) fault r.refused y) in
+    let zip = zip_places Moved here here' r.same (λ p x y is is'. (
+      r.fare p x y is is',
+      λ l stands. (r.stand p x y is is' l first steps takes stands, r.are_told p x y is is' l first steps takes stands),
+    )) in
     record {
       made = crowd.made;
       visits = crowd.visits;
@@ -253,8 +295,8 @@ crowd_round {C} {R} {W} seen {known = known} first old new {calls} steps {came =
       are_here = all_by (λ (x y : Client R W). (y.number ≡ x.number) × Moved x y)
           (IsHere known (seen first) (seen old) steps None [] calls)
           (IsHere known (seen first) (seen new) (steps ++ more) fault r.refused calls)
-          (λ x y m is. here_as x y m.0 (λ l stands. (m.1 l stands).0)
-          (λ l stands were. (m.1 l stands).1) is) here here' zip crowd.are_here;
+          (λ x y m is. here_as x y m.0 (λ l stands. (m.1.1 l stands).0)
+          (λ l stands were. (m.1.1 l stands).1) m.1.0.told is) here here' zip crowd.are_here;
       now = r.same ∙ crowd.now;
       differ = subst Differ all crowd.differ;
       below = subst (λ (ns : List ℕ). AllByRecursion (λ (n : ℕ). n < came) ns) all crowd.below;

@@ -20,6 +20,7 @@ use Rattle.counter_http.specs.Clients.{ClientsCall, Closed, Gave, Gave_up, Nobod
 use Rattle.counter_http.specs.Connections.{Known}
 use Rattle.counter_http.specs.together.Crowd.{AreGivenUp, Closes, Comes, Differ, HasLeft, HaveMoved, IsCrowd, IsHere, Leaves}
 use Rattle.counter_http.specs.together.Crowd.{MayPart, Moves, Scene, Stays, WereRefused, all_numbers, calls_by}
+use Rattle.counter_http.specs.together.Faring.{IsToldSo}
 use Rattle.counter_http.specs.together.Order.{Step, of_client}
 use Rattle.counter_http.specs.together.Rounds.{AllDiffer, IsOfOneOf, number_in, numbers}
 use Rattle.counter_http.specs.together.Standing.{AreRefused, IsGoing, IsNew, IsOver, IsParted, IsParting, MayBeLeft, StandsBy, StandsHere, pending, unread}
@@ -30,6 +31,7 @@ use Rattle.counter_http.specs.declared.client.Client.{Client}
 use Rattle.counter_http.specs.declared.parting.Parting.{Parting}
 use Rattle.counter_http.specs.declared.parting.Parting.TheVariants as parting
 use Rattle.counter_http.proofs.Beside.{none_read_yet}
+use Rattle.counter_http.proofs.Faring.{none_memory, told_none}
 use Rattle.counter_http.proofs.Fronts.{ends_by, going_here, parted_here}
 use Rattle.counter_http.proofs.Refused.{IsRefusedCause, refused_parted}
 use Rattle.counter_http.proofs.Steps.{OfOther, no_answers, none_of}
@@ -158,25 +160,26 @@ here_told calls more client is =
       came = Contains-append_left calls more _ is.came;
       stands = is.stands;
       are_refused = is.are_refused;
+      told = is.told;
     }
 
 -- and so was it said why
-why_told : {E : Type 0} (stops : Type 0) (calls more : List (ClientsCall E)) (n : ℕ) (p : Parting)
-    → IsWhyParted stops calls n p → IsWhyParted stops (calls ++ more) n p
-why_told stops calls more n parting.GivenUp is = Contains-append_left calls more (Gave_up n) is
-why_told stops calls more n parting.Stopped is = is
-why_told stops calls more n parting.Served is = tt
-why_told stops calls more n parting.Read is = tt
-why_told stops calls more n parting.Write is = tt
-why_told stops calls more n parting.Memory is = tt
-why_told stops calls more n (parting.Bank fault) is = tt
+why_told : {E : Type 0} (stops : Type 0) (fault : Option Fault) (refused : List Step) (calls more : List (ClientsCall E)) (n : ℕ)
+    (p : Parting) → IsWhyParted stops fault refused calls n p → IsWhyParted stops fault refused (calls ++ more) n p
+why_told stops fault refused calls more n parting.GivenUp is = Contains-append_left calls more (Gave_up n) is
+why_told stops fault refused calls more n parting.Stopped is = is
+why_told stops fault refused calls more n parting.Served is = tt
+why_told stops fault refused calls more n parting.Read is = tt
+why_told stops fault refused calls more n parting.Write is = tt
+why_told stops fault refused calls more n parting.Memory is = tt
+why_told stops fault refused calls more n (parting.Bank why) is = is
 
 visited_told : {E : Type 0} (stops : Type 0) (known : E → Known) (c c' : Seen) (steps : List Step) (fault : Option Fault)
     (refused : List Step) (calls more : List (ClientsCall E))
     (v : Visit E) → HasLeft stops known c c' steps fault refused calls v
     → HasLeft stops known c c' steps fault refused (calls ++ more) v
 visited_told stops known c c' steps fault refused calls more v is =
-    ((Contains-append_left calls more _ is.0.0, is.0.1), is.1, why_told stops calls more v.number v.parting is.2)
+    ((Contains-append_left calls more _ is.0.0, is.0.1), is.1, why_told stops fault refused calls more v.number v.parting is.2)
 
 given_told : {E : Type 0} (calls more : List (ClientsCall E)) (fault : Option Fault) (given : List ℕ)
     → AreGivenUp fault calls given → AreGivenUp fault (calls ++ more) given
@@ -214,6 +217,11 @@ new_here {known = known} {c} {c'} steps number given client is others =
       | inr lost ↦ parted_here client parting.Memory is.number_is lost ends is.pending_none
           (lost_as parting.Memory tt (left_as None (record { is = new_going {c = c} {c' = c'} steps true others })) tt)
     ]
+
+new_told : {fault : Option Fault} {refused : List Step} {n : ℕ} (p : Option Parting) → (p ≡ None) ⊎ (p ≡ Some parting.Memory)
+    → IsToldSo fault refused n p
+new_told p (inl going) = told_none p None going (λ why e. cc e)
+new_told p (inr lost) = told_none p (Some parting.Memory) lost none_memory
 
 -- nothing of it was refused
 none_told : {R W : Type 0} (known : R × W → Known) (k : Known) (c c' : Seen) (steps : List Step) (fault : Option Fault)
@@ -274,6 +282,7 @@ crowd_comes {R} {W} {stops} {given} {known} {g} {made} {c} {c'} {steps} {fault} 
           (subst (λ (n : ℕ). AllByRecursion (OfOther n) refused) (sym m.is.number_is)
           (not_yet (all_numbers crowd.visits a.here) refused a.came crowd.below
           (all_last (IsOfOneOf (all_numbers crowd.visits a.here)) steps refused crowd.whose)));
+      told = new_told m.client.parting m.is.parting;
     } in
     record {
       made = adds-more g a.calls b.calls made (new ∷ []) crowd.made m.made;
@@ -387,45 +396,47 @@ cause_where s calls given n cause (Some why) early none may =
 
 -- a wait said so, or clients are stopped
 may_why : {E : Type 0} (s stops : Type 0) (calls : List (ClientsCall E)) (given : List ℕ) (n : ℕ) (cause : Parting)
-    (fault : Option Fault) → (s → stops) → AreGivenUp fault calls given → MayPart s given n cause
-    → IsWhyParted stops calls n cause
-may_why s stops calls given n parting.Memory fault far to_give_up may = tt
-may_why s stops calls given n parting.GivenUp None far to_give_up may =
+    (fault : Option Fault) (refused : List Step) → (s → stops) → AreGivenUp fault calls given → MayPart s given n cause
+    → IsWhyParted stops fault refused calls n cause
+may_why s stops calls given n parting.Memory fault refused far to_give_up may = tt
+may_why s stops calls given n parting.GivenUp None refused far to_give_up may =
     All-contains (λ (m : ℕ). Contains calls (Gave_up m)) given n
     (All-from_recursion (λ (m : ℕ). Contains calls (Gave_up m)) given to_give_up) may
-may_why s stops calls given n parting.GivenUp (Some why) far none may =
+may_why s stops calls given n parting.GivenUp (Some why) refused far none may =
     absurd (none_contained n (subst (λ (ns : List ℕ). Contains ns n) none may))
-may_why s stops calls given n parting.Stopped fault far to_give_up may = far may
-may_why s stops calls given n parting.Served fault far to_give_up may = absurd may
-may_why s stops calls given n parting.Read fault far to_give_up may = absurd may
-may_why s stops calls given n parting.Write fault far to_give_up may = absurd may
-may_why s stops calls given n (parting.Bank why) fault far to_give_up may = absurd may
+may_why s stops calls given n parting.Stopped fault refused far to_give_up may = far may
+may_why s stops calls given n parting.Served fault refused far to_give_up may = absurd may
+may_why s stops calls given n parting.Read fault refused far to_give_up may = absurd may
+may_why s stops calls given n parting.Write fault refused far to_give_up may = absurd may
+may_why s stops calls given n (parting.Bank why) fault refused far to_give_up may = absurd may
 
 -- nobody who is here was given up or stopped
-own_why : {E : Type 0} (stops : Type 0) (calls : List (ClientsCall E)) (n : ℕ) (p : Parting) (left : List ℕ)
-    → MayBeLeft p left → IsWhyParted stops calls n p
-own_why stops calls n parting.GivenUp left is = absurd is
-own_why stops calls n parting.Stopped left is = absurd is
-own_why stops calls n parting.Served left is = tt
-own_why stops calls n parting.Read left is = tt
-own_why stops calls n parting.Write left is = tt
-own_why stops calls n parting.Memory left is = tt
-own_why stops calls n (parting.Bank fault) left is = tt
+own_why : {E : Type 0} (stops : Type 0) (fault : Option Fault) (refused : List Step) (calls : List (ClientsCall E)) (n : ℕ)
+    (p : Parting) (left : List ℕ) → MayBeLeft p left → IsToldSo fault refused n (Some p)
+    → IsWhyParted stops fault refused calls n p
+own_why stops fault refused calls n parting.GivenUp left is told = absurd is
+own_why stops fault refused calls n parting.Stopped left is told = absurd is
+own_why stops fault refused calls n parting.Served left is told = tt
+own_why stops fault refused calls n parting.Read left is told = tt
+own_why stops fault refused calls n parting.Write left is told = tt
+own_why stops fault refused calls n parting.Memory left is told = tt
+own_why stops fault refused calls n (parting.Bank why) left is told = told.why why refl
 
 left_why : {R W : Type 0} {known : R × W → Known} {k : Known} {c c' : Seen} {steps : List Step} {s stops : Type 0}
-    (calls : List (ClientsCall (R × W))) (given : List ℕ) (fault : Option Fault) (client : Client R W) (cause : Parting)
-    (parts : R × W × Parting) → IsParting client cause parts → (s → stops) → AreGivenUp fault calls given
+    (calls : List (ClientsCall (R × W))) (given : List ℕ) (fault : Option Fault) (refused : List Step) (client : Client R W)
+    (cause : Parting) (parts : R × W × Parting) → IsParting client cause parts → (s → stops) → AreGivenUp fault calls given
     → ((IsOver client → ⊥) → MayPart s given client.number cause) → StandsHere known k c c' steps client
-    → IsWhyParted stops calls client.number parts.2
-left_why {known = known} {k} {c} {c'} {steps} {s} {stops} calls given fault client cause parts is far to_give_up may
-    stands =
+    → IsToldSo fault refused client.number client.parting → IsWhyParted stops fault refused calls client.number parts.2
+left_why {known = known} {k} {c} {c'} {steps} {s} {stops} calls given fault refused client cause parts is far to_give_up may
+    stands told =
     elim is.why [
-      | inl early ↦ subst (λ (q : Parting). IsWhyParted stops calls client.number q) (sym early.0)
-          (may_why s stops calls given client.number cause fault far to_give_up (may early.1))
-      | inr over ↦ own_why stops calls client.number parts.2 (pending client)
+      | inl early ↦ subst (λ (q : Parting). IsWhyParted stops fault refused calls client.number q) (sym early.0)
+          (may_why s stops calls given client.number cause fault refused far to_give_up (may early.1))
+      | inr over ↦ own_why stops fault refused calls client.number parts.2 (pending client)
           (parted_left parts.2 (pending client) (subst (λ (q : Option Parting). StandsBy q client.number k
           (known (client.reader, client.writer)) c c' steps client.has_more client.shows_body (unread client)
           (pending client)) over.0 stands.is.is))
+          (subst (λ (q : Option Parting). IsToldSo fault refused client.number q) over.0 told)
     ]
   where
     parted_left : (p : Parting) (left : List ℕ) → IsParted client.number k (known (client.reader, client.writer)) c c' steps left p
@@ -476,9 +487,9 @@ left_one {R} {W} {stops} {given} {known} {g} {t'} {made} {c} {c'} {steps} {fault
               left_told known c c' steps fault refused client one.given closes.left cause closes.parting closes.is
                   (cause_where s made given client.number cause fault (IsOver client → ⊥) crowd.to_give_up may)
                   one.are_refused,
-              why_told stops made (new ∷ []) client.number closes.parting
-                  (left_why made given fault client cause (closes.left.0, closes.left.1, closes.parting) closes.is far crowd.to_give_up may
-                  one.stands),
+              why_told stops fault refused made (new ∷ []) client.number closes.parting
+                  (left_why made given fault refused client cause (closes.left.0, closes.left.1, closes.parting) closes.is far
+                  crowd.to_give_up may one.stands one.told),
             ),
             tt,
           );
@@ -640,15 +651,15 @@ crowd_on {calls = calls} {fault = fault} crowd = record {
 }
 
 -- clients may be stopped from now on
-why_stopped : {E : Type 0} {s stops : Type 0} (calls : List (ClientsCall E)) (n : ℕ) (p : Parting) → (s → stops)
-    → IsWhyParted s calls n p → IsWhyParted stops calls n p
-why_stopped calls n parting.GivenUp far is = is
-why_stopped calls n parting.Stopped far is = far is
-why_stopped calls n parting.Served far is = tt
-why_stopped calls n parting.Read far is = tt
-why_stopped calls n parting.Write far is = tt
-why_stopped calls n parting.Memory far is = tt
-why_stopped calls n (parting.Bank fault) far is = tt
+why_stopped : {E : Type 0} {s stops : Type 0} (fault : Option Fault) (refused : List Step) (calls : List (ClientsCall E)) (n : ℕ)
+    (p : Parting) → (s → stops) → IsWhyParted s fault refused calls n p → IsWhyParted stops fault refused calls n p
+why_stopped fault refused calls n parting.GivenUp far is = is
+why_stopped fault refused calls n parting.Stopped far is = far is
+why_stopped fault refused calls n parting.Served far is = tt
+why_stopped fault refused calls n parting.Read far is = tt
+why_stopped fault refused calls n parting.Write far is = tt
+why_stopped fault refused calls n parting.Memory far is = tt
+why_stopped fault refused calls n (parting.Bank why) far is = is
 
 pub crowd_stops : {R W : Type 0} {s stops : Type 0} {given : List ℕ} {known : R × W → Known}
     {g : Option (List (ClientsCall (R × W)))} {calls : List (ClientsCall (R × W))} {c c' : Seen} {steps : List Step}
@@ -660,7 +671,7 @@ crowd_stops {s = s} {stops} {known = known} {calls = calls} {c = c} {c'} {steps}
   closed = crowd.closed;
   visited = each_weaker (HasLeft s known c c' steps fault refused calls)
       (HasLeft stops known c c' steps fault refused calls)
-      (λ v is. (is.0, is.1, why_stopped calls v.number v.parting far is.2)) crowd.visits crowd.visited;
+      (λ v is. (is.0, is.1, why_stopped fault refused calls v.number v.parting far is.2)) crowd.visits crowd.visited;
   to_give_up = crowd.to_give_up;
   are_here = crowd.are_here;
   now = crowd.now;

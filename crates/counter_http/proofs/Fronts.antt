@@ -185,7 +185,7 @@ record_text log head is text e =
     (ap octets (e ∙ ap (λ (b : List ℕ). reply_spelling (reply log b)) is.body)
     ∙ sym (posting_answer log (asked_by is.message) is.posting))
 
-too_short : {R W : Type 0} (old : Client R W) (m : Message) (head : Head) → IsHeadOf head (unread old) m
+pub too_short : {R W : Type 0} (old : Client R W) (m : Message) (head : Head) → IsHeadOf head (unread old) m
     → old.filled < head.length → ⊥
 too_short old m head is short =
     let len = ap length is.front in

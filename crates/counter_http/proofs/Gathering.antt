@@ -1,6 +1,6 @@
 -- The records of a batch, and messages that are answered while they are gathered.
 use Rattle.std.proofs.Common.{◌≡◌, ℕ, zero, suc, ◌+◌, ◌<◌, ◌≤◌, List, [], ◌∷◌, ◌++◌, length, drop, get_or, slice_set}
-use Rattle.std.proofs.Common.{Some, Result, Ok, Err, refl, sym, ap, subst, ◌∙◌, append_assoc, arith, inl, inr, add-one}
+use Rattle.std.proofs.Common.{None, Some, Result, Ok, Err, refl, sym, ap, subst, ◌∙◌, append_assoc, arith, inl, inr, add-one}
 use Rattle.std.proofs.{Math.Seq.drop-cons, lemmas.Option.slice_get_within}
 use Rattle.std.specs.{Prelude.◌⊎◌, Prelude.Contains, List.AllByRecursion, List.slice_get}
 use Rattle.posting_rules.specs.declared.fault.Fault.{Fault}
@@ -21,6 +21,7 @@ use Rattle.counter_http.specs.declared.client.Record.{Record}
 use Rattle.counter_http.proofs.AnsweredTurns.{idle_commands}
 use Rattle.counter_http.proofs.Asked.{asked_as, asked_err, asked_none, asked_then, reads_submit_none}
 use Rattle.counter_http.specs.believed.Answers.{asked_by}
+use Rattle.counter_http.proofs.Fared.{all_at, all_same, all_then}
 use Rattle.counter_http.proofs.Placed.{at_other, at_same, beside_none, beside_one, beside_then, found_too, numbers_apart}
 use Rattle.counter_http.proofs.Placed.{one_of_these, same_or_not, some_is, takes_then}
 
@@ -191,6 +192,7 @@ gathers_nothing seen bank here batch gives = record {
   whose_refused = tt;
   none_posted = refl;
   are_told = λ p y y' at at' k first before takes is. tt;
+  fare = all_same here;
   beside = beside_none seen bank bank here (λ h. h);
   gives = gives;
 }
@@ -216,6 +218,7 @@ gathers_then seen {known = known} {figures} old mid new here one two b b' result
       (takes_then seen first old mid before p.reads p.asked.honest takes
       (takes_reads seen figures old mid p.reads p.are_reads p.asked.done))
       (p.beside.stand place y mids.0 at mids.1 k first before takes is));
+  fare = all_then here one two p.reads q.reads p.beside.same p.fare q.fare;
   beside = beside_then seen old mid new here one two p.reads q.reads
       (takes_reads seen figures old mid p.reads p.are_reads p.asked.done) p.asked.honest p.beside q.beside;
   gives = q.gives;
@@ -237,6 +240,7 @@ refused_at seen old new here p client client' batch (Ok x) all at a beside gives
   whose_refused = tt;
   none_posted = refl;
   are_told = λ q y y' at_q at_q' k first before takes is. tt;
+  fare = all_at here p client client' at (a.fares None [] tt);
   beside = beside;
   gives = gives;
 }
@@ -267,6 +271,7 @@ refused_at {R = R} {W} seen {known = known} old new here p client client' batch 
         ]),
         tt,
       );
+      fare = all_at here p client client' at (a.fares (Some f) (s ∷ []) (refl, (0, omega arith, a.told.own)));
       beside = beside;
       gives = gives;
     }
@@ -295,6 +300,7 @@ gathers_as y g = record {
   whose_refused = g.whose_refused;
   none_posted = g.none_posted;
   are_told = λ p y y' at at' k first before takes is. tt;
+  fare = g.fare;
   beside = g.beside;
   gives = g.gives;
 }
@@ -312,6 +318,7 @@ gathers_err g = record {
   whose_refused = g.whose_refused;
   none_posted = g.none_posted;
   are_told = g.are_told;
+  fare = g.fare;
   beside = g.beside;
   gives = g.gives;
 }

@@ -10,6 +10,7 @@ use Rattle.posting_rules.proofs.CounterCalls.{idle_after, Takes-append}
 use Rattle.posting_core.proofs.Stops.{refused_stop, stop_all, stop_part}
 use Rattle.posting_core.proofs.StreamedBatches.{all_more}
 use Rattle.counter_http.specs.Connections.{Known}
+use Rattle.counter_http.specs.together.Faring.{AllFare}
 use Rattle.counter_http.specs.together.Order.{Step, is_read_under, submitted_by}
 use Rattle.counter_http.specs.together.Rounds.{AllMoveOn, AnswersRound, EndsRound, IsOfOneOf, fault_in, numbers}
 use Rattle.counter_http.specs.together.Standing.{AreRefused, StandsHere}
@@ -21,6 +22,7 @@ use Rattle.counter_http.specs.declared.figures.Tally.{Tally}
 use Rattle.counter_http.specs.declared.client.Client.{Client}
 use Rattle.counter_http.proofs.Asked.{reads_submit_none}
 use Rattle.counter_http.proofs.Counted.{counts_none}
+use Rattle.counter_http.proofs.Fared.{all_then}
 use Rattle.counter_http.proofs.Gathering.{takes_reads}
 use Rattle.counter_http.proofs.Placed.{beside_then, found_too, takes_then}
 use Rattle.counter_http.proofs.Steps.{submitted-append}
@@ -111,6 +113,7 @@ round_submitted seen {reason} {known} old mid new here one two {t} {t'} seconds 
           (d.are_told p mids.0 y' mids.1 at' k first (before ++ g.reads)
           (takes_then seen first old mid before g.reads g.asked.honest takes took)
           (g.beside.stand p y mids.0 at mids.1 k first before takes is));
+      fare = all_then here one two g.reads d.posts g.beside.same g.fare d.fare;
       clock = s.clock;
       stood = d.stood;
       honest_first = λ h. g.asked.honest (d.honest_first h);
@@ -158,6 +161,7 @@ round_refused {Y = Y} seen {reason} {known} old new here one t seconds batch why
       are_told = λ p y y' at at' k first before took is.
           subst (λ (ss : List Step). AreRefused known k (seen first) (seen new) (before ++ ss) (Some why) g.refused y')
           (sym (append-nil g.reads)) (g.are_told p y y' at at' k first before took is);
+      fare = subst (λ (ss : List Step). AllFare (Some why) g.refused ss here one) (sym (append-nil g.reads)) g.fare;
       clock = refl;
       stood = f.stood;
       honest_first = f.honest_first;
@@ -190,6 +194,7 @@ round_as y a = record {
   whose = a.whose;
   whose_refused = a.whose_refused;
   are_told = a.are_told;
+  fare = a.fare;
   moves = a.moves;
   clock = a.clock;
   stood = a.stood;
@@ -220,6 +225,7 @@ round_err a = record {
   whose = a.whose;
   whose_refused = a.whose_refused;
   are_told = a.are_told;
+  fare = a.fare;
   moves = tt;
   clock = a.clock;
   stood = a.stood;

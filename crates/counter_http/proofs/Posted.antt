@@ -78,7 +78,7 @@ steps_long moment here [] (r ∷ rs) g = absurd g
 steps_long moment here (s ∷ ss) [] g = absurd g
 steps_long moment here (s ∷ ss) (r ∷ rs) g = ap suc (steps_long moment here ss rs g.1)
 
-steps_kept : {R W : Type 0} (moment : ℕ) (here one : List (Client R W)) (p : ℕ) (client : Client R W)
+pub steps_kept : {R W : Type 0} (moment : ℕ) (here one : List (Client R W)) (p : ℕ) (client : Client R W)
     (ss : List Sender) (rs : List (List ℕ)) (e : one ≡ slice_set here p client) (g : AreGiven here ss rs)
     (all : AllByRecursion (IsElsewhere p) ss)
     → steps_at moment one ss rs (given_still here one p client ss rs e g all) ≡ steps_at moment here ss rs g
@@ -102,7 +102,7 @@ numbers_answered here one s r q g a =
     ap numbers a.is ∙ numbers_at here s.place g.client a.after g.at
     (number_of_record g.client a.after s.head q r g.gives.is (answers_given here one s r q g a))
 
-refuses_given : {R W : Type 0} (here one : List (Client R W)) (s : Sender) (r : List ℕ) (why : Fault)
+pub refuses_given : {R W : Type 0} (here one : List (Client R W)) (s : Sender) (r : List ℕ) (why : Fault)
     (g : GivesAt here s r) (a : RefusesAt here one s why)
     → HasEndedWith g.client a.after (answer_text (bare 503) s.head.shows_body true) (parting.Bank why)
 refuses_given {R} {W} here one s r why g a =
@@ -265,7 +265,7 @@ refused_each {R} {W} {known} {k} {c} {c'} here here' (s ∷ ss) (r ∷ rs) why g
     there.0 x' there.1 at' steps (refused_one here mid s r why g.0 one p x there.0 at there.1 is)
 
 -- what is elsewhere stays
-refused_elsewhere : {R W : Type 0} (here here' : List (Client R W)) (ss : List Sender) (why : Fault) (p : ℕ)
+pub refused_elsewhere : {R W : Type 0} (here here' : List (Client R W)) (ss : List Sender) (why : Fault) (p : ℕ)
     → RefusesEach here here' ss why → AllByRecursion (IsElsewhere p) ss → slice_get here' p ≡ slice_get here p
 refused_elsewhere {R} {W} here here' [] why p a all = ap (λ (cs : List (Client R W)). slice_get cs p) a
 refused_elsewhere {R} {W} here here' (s ∷ ss) why p (mid, one, more) all =

@@ -34,6 +34,7 @@ use Rattle.counter_http.specs.declared.tasks.Task.TheVariants.{Submit}
 use Rattle.counter_http.proofs.Answering.{answered_refusal, step_of, step_told, waits_so}
 use Rattle.counter_http.proofs.AnsweredTurns.{submits_as}
 use Rattle.counter_http.proofs.Asked.{answered_nothing, asked_as, asked_err, asked_full}
+use Rattle.counter_http.proofs.Faring.{fares_answered, fares_lost, fares_unread}
 use Rattle.counter_http.proofs.Fronts.{answered_here, ends_by, going_here, going_of, gone_here, parted_here}
 use Rattle.counter_http.proofs.Fronts.{number_ended, refused_here, stands_after}
 use Rattle.counter_http.proofs.Refused.{refused_now}
@@ -79,6 +80,8 @@ says_answered seen {known = known} figures bank new old after m head answer fron
       own = (refl, tt);
       asked = asked;
       told = told _;
+      fares = λ fault refused among. fares_answered old after (answer_text answer head.shows_body head.closes) head
+          (step_told given old.number 0 m) [] refl going did;
       number = did.same.number;
       stands = λ k first steps takes stands.
           answered_here old after given 0 m head
@@ -89,7 +92,8 @@ says_answered seen {known = known} figures bank new old after m head answer fron
           (says h (followed_by log (submitted_by steps)) (takes.shows (asked.honest h) log s))) stands;
     }
 says_answered seen figures bank new old after m head answer front.Nothing result lost is going reads asked told says =
-    answered_nothing seen bank new old after result asked (told []) lost.number
+    answered_nothing seen bank new old after result asked (told [])
+    (λ fault refused among. fares_lost old after lost) lost.number
     (λ k c steps stands. gone_here old after lost (stands_after old asked.honest stands))
 says_answered seen figures bank new old after m head answer (front.Record r) result did is going reads asked told says =
     absurd did
@@ -165,7 +169,7 @@ read_answered seen figures bank new old after m head (Err why) result did is goi
     answered_nothing seen bank new old after result asks
     (refusal_told seen bank new old after why result did.1
     (tells_refusal seen bank new old after m head why did.0 is going reads asks.honest))
-    (number_ended old after did.0) (λ k c steps stands. refused_here old after m head why going is did.0 asks.honest stands)
+    (fares_unread old after why result did.0 did.1) (number_ended old after did.0) (λ k c steps stands. refused_here old after m head why going is did.0 asks.honest stands)
 
 -- ---- no message is there
 

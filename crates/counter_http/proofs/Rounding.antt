@@ -23,13 +23,13 @@ use Rattle.posting_core.proofs.{Stops.stop_all, StreamedBatches.all_more, Stream
 use Rattle.counter_http.specs.Clients.{ClientsCall, Refused, Waited, given_up_told, waited_told}
 use Rattle.counter_http.specs.Connections.{Known}
 use Rattle.counter_http.specs.together.Crowd.{Differ, GoesOn, HasLeft, HaveMoved, IsCrowd, IsHere, ServesRounds, TakesIn}
-use Rattle.counter_http.specs.together.Crowd.{WereRefused, all_numbers, fault_of_bank}
+use Rattle.counter_http.specs.together.Crowd.{WereRefused, all_numbers}
 use Rattle.counter_http.specs.together.Order.{AreDated, AreFigured, CountsRounds, HasSpared, IsDated, IsRound, Round, Step, readings_in, readings_of, steps_in}
 use Rattle.counter_http.specs.together.Order.{steps_of, submitted_by}
 use Rattle.counter_http.specs.together.Rounds.{AnswersRound, IsOfOneOf, ends_here, fault_in, given_up, number_in, numbers}
 use Rattle.counter_http.specs.together.Standing.{Writes}
 use Rattle.counter_http.specs.together.Serving.{ClientIsRefused, ClientIsServed, EndsTogether, IfBank, IsOfVisit, IsToldTo}
-use Rattle.counter_http.specs.together.Serving.{IsVisited, IsVisitWhy, IsWhyRefused, OfOthers, Visit, number_of, openings}
+use Rattle.counter_http.specs.together.Serving.{IsVisited, IsVisitWhy, IsWhyRefused, OfOthers, Visit, fault_of_bank, number_of, openings}
 use Rattle.counter_http.specs.together.Tracing.{AreLaps, AreTakenIn, HasRefused, IsCutOff, IsLap, IsNoWait, Lap, ServesTogether, StoodSo}
 use Rattle.counter_http.specs.together.Tracing.{calls_in, calls_of, calls_until, here_after, number_waited}
 use Rattle.counter_http.specs.declared.parting.Parting.TheVariants as parting
@@ -783,9 +783,10 @@ serves_together {C} {R} {W} seen {reason} {known} {g} {t} {t'} old new {n} here 
       each = All-from_recursion Visited crowd.visits
           (each_weaker (HasLeft (IsErr result) known (seen old) (seen new) (steps_of s.rounds) (fault_of_bank result)
           s.refused calls) Visited (λ v left. left.0) crowd.visits crowd.visited);
-      parted = All-from_recursion (IsVisitWhy (IsErr result) calls) crowd.visits
+      parted = All-from_recursion (IsVisitWhy (IsErr result) (fault_of_bank result) s.refused calls) crowd.visits
           (each_weaker (HasLeft (IsErr result) known (seen old) (seen new) (steps_of s.rounds) (fault_of_bank result)
-          s.refused calls) (IsVisitWhy (IsErr result) calls) (λ v left. left.2) crowd.visits crowd.visited);
+          s.refused calls) (IsVisitWhy (IsErr result) (fault_of_bank result) s.refused calls) (λ v left. left.2) crowd.visits
+          crowd.visited);
       all = sym long ∙ crowd.all;
       some = some_then (λ f. (f ≡ Memory) × (new ≡ old)) s.refused result s.some;
       refusals = told_of (IsErr result) known (seen old) (seen new) (steps_of s.rounds) calls crowd.visits s.refused result

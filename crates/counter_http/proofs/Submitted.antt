@@ -13,7 +13,7 @@ use Rattle.posting_rules.proofs.Sequence.{replies_to-append}
 use Rattle.posting_core.specs.Stream.{IsOfCall}
 use Rattle.posting_core.proofs.StreamedBatches.{all_more}
 use Rattle.counter_http.specs.Connections.{Known}
-use Rattle.counter_http.specs.together.Order.{AreCommits, Step, is_posted_under, submitted_by}
+use Rattle.counter_http.specs.together.Order.{AreCommits, Step, clients_of, is_posted_under, submitted_by}
 use Rattle.counter_http.specs.Figures.{Counts}
 use Rattle.counter_http.specs.declared.figures.Tally.{Tally}
 use Rattle.counter_http.specs.together.Rounds.{AllDiffer, IsOfOneOf, LacksMemory, fault_in, numbers}
@@ -25,6 +25,8 @@ use Rattle.counter_http.specs.declared.client.Client.{Client}
 use Rattle.counter_http.proofs.AnsweredTurns.{why_first}
 use Rattle.counter_http.proofs.Counted.{commits_then, counts_none, counts_then}
 use Rattle.counter_http.proofs.Asked.{unchanged_takes}
+use Rattle.counter_http.proofs.Fared.{all_same, all_then}
+use Rattle.counter_http.proofs.FaredEach.{all_among, all_spared, fare_answered, fare_refused}
 use Rattle.counter_http.proofs.Fronts.{stands_after}
 use Rattle.counter_http.proofs.Placed.{beside_none, beside_then, found_too, takes_then}
 use Rattle.counter_http.proofs.Posted.{answered_each, numbers_all_answered, numbers_all_refused, refused_each}
@@ -53,6 +55,7 @@ submitted_nothing seen readings bank here t = record {
   beside = beside_none seen bank bank here (λ h. h);
   whose_refused = tt;
   are_told = λ p y y' at at' k first before takes is. tt;
+  fare = all_same here;
   stood = bank;
   honest_first = λ h. h;
   honest = λ h. h;
@@ -85,6 +88,7 @@ spared_all {X = X} seen contents reason readings old new here cs t why e it =
       beside = beside_none seen old new here call.honest;
       whose_refused = tt;
       are_told = λ p y y' at at' k first before takes is. tt;
+      fare = all_same here;
       stood = new;
       honest_first = call.honest;
       honest = λ h. h;
@@ -141,6 +145,7 @@ module _ {C K R W X : Type 0} (seen : C → Seen) (contents : C → K) (reason :
     };
     whose_refused = tt;
     are_told = λ p y y' at at' k first before takes is. tt;
+    fare = fare_answered moment here here' ss rs qs g apart chain;
     stood = new;
     honest_first = call.honest;
     honest = λ h. h;
@@ -177,6 +182,7 @@ module _ {C K R W X : Type 0} (seen : C → Seen) (contents : C → K) (reason :
         subst (λ (l : List Step). AreRefused known k (seen first) (seen new) l (Some why) (steps_at moment here ss rs g) y')
         (sym (append-nil before))
         (told_each moment here here' ss rs why g apart all chain p y y' at at' (stands_after y call.honest is));
+    fare = fare_refused moment here here' ss rs why g apart (all_among why (steps_at moment here ss rs g)) chain;
     stood = old;
     honest_first = λ h. h;
     honest = call.honest;
@@ -215,6 +221,7 @@ module _ {C K R W X : Type 0} (seen : C → Seen) (contents : C → K) (reason :
         };
         whose_refused = tt;
         are_told = λ p y y' at at' k first before takes is. tt;
+        fare = fare_refused moment here here' ss rs why g apart (all_spared why e (clients_of (steps_at moment here ss rs g))) chain;
         stood = new;
         honest_first = call.honest;
         honest = λ h. h;
@@ -290,6 +297,7 @@ submitted_then {C = C} seen {reason} {known} readings old mid new here one two {
           (b.are_told p mids.0 y' mids.1 at' k first (before ++ a.posts)
           (takes_then seen first old mid before a.posts honest takes took)
           (a.beside.stand p y mids.0 at mids.1 k first before takes is));
+      fare = all_then here one two a.posts b.posts a.beside.same a.fare b.fare;
       stood = b.stood;
       honest_first = λ h. honest (b.honest_first h);
       honest = b.honest;
@@ -332,6 +340,7 @@ submitted_few n m le a = record {
   beside = a.beside;
   whose_refused = a.whose_refused;
   are_told = a.are_told;
+  fare = a.fare;
   stood = a.stood;
   honest_first = a.honest_first;
   honest = a.honest;

@@ -1,6 +1,7 @@
 pub mod Order
 pub mod Serving
 pub mod Listening
+pub mod Faring
 pub mod Standing
 pub mod Rounds
 pub mod Submitting

@@ -14,11 +14,12 @@ use Rattle.posting_core.specs.believed.EndCalls.{GrowsBy}
 use Rattle.counter_http.specs.Clients.{ClientsCall, Gave, Gave_up, Closed}
 use Rattle.counter_http.specs.Connections.{Known}
 use Rattle.counter_http.specs.together.Order.{AreDated, AreFigured, Step, Round, IsRound, steps_of, readings_of, submitted_by}
+use Rattle.counter_http.specs.together.Faring.{IsToldSo}
 use Rattle.counter_http.specs.together.Reading.{Reads}
 use Rattle.counter_http.specs.together.Rounds.{IsOfOneOf, numbers}
 use Rattle.counter_http.specs.together.Standing.{AreRefused, IsNew, IsOver, IsParting, StandsHere, Writes}
 use Rattle.counter_http.specs.together.Serving.{ClientIsRefused, EndsTogether, IfBank, IsVisited, IsVisitWhy, Visit, closed_of}
-use Rattle.counter_http.specs.together.Serving.{closings, number_of, openings}
+use Rattle.counter_http.specs.together.Serving.{closings, fault_of_bank, number_of, openings}
 use Rattle.counter_http.specs.together.Tracing.{AreLaps, GivesNone, HasRefused, IsCutOff, IsNoWait, Lap, calls_of, here_after}
 use Rattle.counter_http.specs.declared.client.Client.{Client}
 use Rattle.counter_http.specs.declared.listen_fault.ListenFault.{ListenFault}
@@ -126,13 +127,14 @@ pub record TakesIn {R W : Type 0} (n : ℕ) (a b : Scene R W) (result : Result (
 -- ---- all who came
 
 -- one that is here was given by an opening, stands by the messages that were answered, and was told that the bank
--- refused what it refused of it
+-- refused what it refused of it, and nothing else
 pub record IsHere {R W : Type 0} (known : R × W → Known) (c c' : Seen) (steps : List Step) (fault : Option Fault)
     (refused : List Step) (calls : List (ClientsCall (R × W))) (client : Client R W) : Type 0 where
   pub given : R × W
   pub came : Contains calls (Gave client.number given)
   pub stands : StandsHere known (known given) c c' steps client
   pub are_refused : AreRefused known (known given) c c' steps fault refused client
+  pub told : IsToldSo fault refused client.number client.parting
 
 -- and so was one that left
 abbrev pub WereRefused : {E : Type 0} → (E → Known) → (c c' : Seen) → List Step → Option Fault → List Step → Visit E
@@ -145,7 +147,7 @@ WereRefused known c c' steps (Some fault) refused v =
 abbrev pub HasLeft : {E : Type 0} → (stops : Type 0) → (E → Known) → (c c' : Seen) → List Step → Option Fault → List Step
     → List (ClientsCall E) → Visit E → Type 0
 HasLeft stops known c c' steps fault refused calls v =
-    IsVisited known c c' steps calls v × WereRefused known c c' steps fault refused v × IsVisitWhy stops calls v
+    IsVisited known c c' steps calls v × WereRefused known c c' steps fault refused v × IsVisitWhy stops fault refused calls v
 
 -- a wait said to give these up, and the bank refused nothing yet
 abbrev pub AreGivenUp : {E : Type 0} → Option Fault → List (ClientsCall E) → List ℕ → Type 0
@@ -179,10 +181,6 @@ pub record IsCrowd {R W : Type 0} (stops : Type 0) (given : List ℕ) (known : R
   pub many : length (all_numbers visits a.here) ≡ a.came
 
 -- ---- round by round
-
-abbrev pub fault_of_bank : Result (Unit {0}) ListenFault → Option Fault
-fault_of_bank (Err (Bank fault)) = Some fault
-fault_of_bank _ = None
 
 -- rounds were served, until the connections were, or a fault came; some clients may be here still
 pub record ServesRounds {C R W : Type 0} (seen : C → Seen) (reason : Fault → C → C → Type 0) (known : R × W → Known)

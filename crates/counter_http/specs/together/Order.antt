@@ -27,6 +27,13 @@ pub record Step : Type 0 where
 abbrev pub turn_in : Step → Turn
 turn_in s = s.turn
 
+-- whose messages they are
+abbrev pub client_of : Step → ℕ
+client_of s = s.client
+
+abbrev pub clients_of : List Step → List ℕ
+clients_of ss = map client_of ss
+
 abbrev pub turns_of : List Step → List Turn
 turns_of ss = map turn_in ss
 

@@ -11,6 +11,7 @@ use Rattle.posting_rules.specs.believed.Runs.{replies_to}
 use Rattle.posting_core.specs.Stream.{IsOfCall}
 use Rattle.posting_core.specs.believed.Clock.{AreReadings}
 use Rattle.counter_http.specs.Connections.{Known}
+use Rattle.counter_http.specs.together.Faring.{AllFare}
 use Rattle.counter_http.specs.together.Order.{HasSpared, IsRound, Round, Step, steps_in, submitted_by}
 use Rattle.counter_http.specs.together.Standing.{AreRefused, MovesOn, StandsHere}
 use Rattle.counter_http.specs.Figures.{Counts}
@@ -134,3 +135,4 @@ pub record AnswersRound {C R W X : Type 0} (seen : C â†’ Seen) (reason : Fault â
   pub moves : OnOk result (AllMoveOn here here' round.posts)
   -- each client whose record was refused was told so
   pub are_told : AreToldAt seen known old new here here' (steps_in round) (fault_in result) refused
+  pub fare : AllFare (fault_in result) refused (steps_in round) here here'

@@ -2,7 +2,7 @@
 -- bank. The bank is old before and new after, and seen says what is seen of it. Of the ends of a client k is known
 -- before and l after.
 use Rattle.std.specs.Prelude.{◌≡◌, ◌<◌, ◌≢◌, ◌⊎◌, ℕ, List, [], ◌∷◌, ◌++◌, length, map, take, get_or, Option}
-use Rattle.std.specs.Prelude.{Result, Err, ⊤, Contains}
+use Rattle.std.specs.Prelude.{Result, Err, Some, None, ⊤, Contains}
 use Rattle.std.specs.List.{AllByRecursion}
 use Rattle.std.specs.Io.KnownBytes.{Appends, Consumes}
 use Rattle.posting_rules.specs.declared.fault.Fault.{Fault}
@@ -23,7 +23,7 @@ use Rattle.counter_http.specs.believed.Ends.{HasEnded}
 use Rattle.counter_http.specs.believed.Turns.{Turn, texts_of}
 use Rattle.counter_http.specs.believed.Serving.{KeepsConnection, BeginsWithNoMessage, IsWalked, IsBrokenOff}
 use Rattle.counter_http.specs.believed.Serving.{ServingIsCutOff}
-use Rattle.counter_http.specs.together.Order.{Step, of_client, answers_at, submitted_by}
+use Rattle.counter_http.specs.together.Order.{Step, clients_of, of_client, answers_at, submitted_by}
 
 -- ---- where a client stands
 
@@ -179,14 +179,24 @@ IsVisited known c c' steps calls v =
     Contains calls (Gave v.number v.given)
     × ClientIsServed v.number (known v.given) (known v.left) c c' steps v.parting
 
--- a client was given up only where a wait said so, and stopped only where clients were
-abbrev pub IsWhyParted : {E : Type 0} → (stops : Type 0) → List (ClientsCall E) → ℕ → Parting → Type 0
-IsWhyParted stops calls n parting.GivenUp = Contains calls (Gave_up n)
-IsWhyParted stops calls n parting.Stopped = stops
-IsWhyParted stops calls n _ = ⊤
+-- a client is told that the bank refused its message, by this fault, only where memory was refused, or the bank refused the
+-- last call by that fault and a message of this client was in it
+pub data IsWhyTold (fault : Option Fault) (refused : List Step) (n : ℕ) (why : Fault) : Type 0 where
+  For_memory : why ≡ Memory → IsWhyTold fault refused n why
+  By_the_bank : fault ≡ Some why → Contains (clients_of refused) n → IsWhyTold fault refused n why
 
-abbrev pub IsVisitWhy : {E : Type 0} → (stops : Type 0) → List (ClientsCall E) → Visit E → Type 0
-IsVisitWhy stops calls v = IsWhyParted stops calls v.number v.parting
+-- a client was given up only where a wait said so, stopped only where clients were, and told of a refusal only where it was
+-- refused
+abbrev pub IsWhyParted : {E : Type 0} → (stops : Type 0) → Option Fault → (refused : List Step) → List (ClientsCall E) → ℕ
+    → Parting → Type 0
+IsWhyParted stops fault refused calls n parting.GivenUp = Contains calls (Gave_up n)
+IsWhyParted stops fault refused calls n parting.Stopped = stops
+IsWhyParted stops fault refused calls n (parting.Bank why) = IsWhyTold fault refused n why
+IsWhyParted stops fault refused calls n _ = ⊤
+
+abbrev pub IsVisitWhy : {E : Type 0} → (stops : Type 0) → Option Fault → (refused : List Step) → List (ClientsCall E)
+    → Visit E → Type 0
+IsVisitWhy stops fault refused calls v = IsWhyParted stops fault refused calls v.number v.parting
 
 -- a message that the bank refused is of one of them, who was told so
 pub record IsToldTo {E : Type 0} (known : E → Known) (c c' : Seen) (steps : List Step) (visits : List (Visit E))
@@ -202,6 +212,11 @@ pub record IsToldTo {E : Type 0} (known : E → Known) (c c' : Seen) (steps : Li
 abbrev pub IfBank : ListenFault → (Fault → Type 0) → Type 0
 IfBank (Bank fault) P = P fault
 IfBank Network P = ⊤
+
+-- the fault of the bank, if it ended so
+abbrev pub fault_of_bank : Result (Unit {0}) ListenFault → Option Fault
+fault_of_bank (Err (Bank fault)) = Some fault
+fault_of_bank _ = None
 
 -- how the serving ended: the bank refused nothing then, or the one message or the batch of the last round
 abbrev pub EndsTogether : {C : Type 0} → (C → Seen) → Result (Unit {0}) ListenFault → (stood new : C)

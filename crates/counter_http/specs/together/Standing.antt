@@ -2,7 +2,7 @@
 -- when it was taken in, and l now. The bank is seen as c when the serving began, and as c' now; steps are the
 -- messages that were answered.
 use Rattle.std.specs.Prelude.{◌≡◌, ◌≢◌, ◌<◌, ℕ, List, [], ◌∷◌, ◌++◌, length, take, drop, Bool, false, true, Option, Some, None}
-use Rattle.std.specs.Prelude.{IfErr, Result, Ok, Err, ⊤, ◌⊎◌}
+use Rattle.std.specs.Prelude.{Contains, IfErr, Result, Ok, Err, ⊤, ◌⊎◌}
 use Rattle.std.specs.List.{AllByRecursion}
 use Rattle.std.specs.Io.KnownBytes.{Appends, Consumes}
 use Rattle.posting_rules.specs.declared.fault.Fault.{Fault}
@@ -14,6 +14,7 @@ use Rattle.posting_core.specs.believed.EndCalls.{EndsWith}
 use Rattle.posting_core.specs.believed.Batches.{joined}
 use Rattle.counter_http.specs.Connections.{Known}
 use Rattle.counter_http.specs.Next.{IsUnfinished}
+use Rattle.counter_http.specs.together.Faring.{Fares}
 use Rattle.counter_http.specs.together.Serving.{AnswersBeforeItsReads, IsOfRefusal, IsWrittenAs, PartingIsOfItsEnd, PartsAs}
 use Rattle.counter_http.specs.Turns.{IsAsked}
 use Rattle.counter_http.specs.Asking.{said_in}
@@ -21,7 +22,7 @@ use Rattle.counter_http.specs.believed.Answers.{Answer, answer_text, asked_by, b
 use Rattle.counter_http.specs.believed.Ends.{HasEnded}
 use Rattle.counter_http.specs.believed.Messages.{Message, message_text, IsMessage, closes}
 use Rattle.counter_http.specs.believed.Serving.{BeginsWithNoMessage, IsBrokenOff, KeepsConnection}
-use Rattle.counter_http.specs.together.Order.{Step, answers_at, is_read_under, of_client, submitted_by}
+use Rattle.counter_http.specs.together.Order.{Step, answers_at, clients_of, is_read_under, of_client, submitted_by}
 use Rattle.counter_http.specs.declared.figures.Figures.{Figures}
 use Rattle.counter_http.specs.believed.Turns.{Turn, texts_of}
 use Rattle.counter_http.specs.declared.answers.Reading.{Reading}
@@ -178,6 +179,10 @@ pub record IsAnswered {C R W X : Type 0} (seen : C → Seen) (reason : Fault →
   pub own : AllByRecursion (λ s. s.client ≡ client.number) more
   pub asked : IsAsked seen reason old new result
   pub told : IfErr result (TellsRefusal seen known old new client client' more)
+  -- whatever else was refused with its message, if one was
+  pub fares : (fault : Option Fault) (refused : List Step)
+      → IfErr result (λ why. (fault ≡ Some why) × Contains (clients_of refused) client.number)
+      → Fares fault refused more client client'
   pub number : client'.number ≡ client.number
   pub stands : (k : Known) (first : C) (steps : List Step) → Takes (seen first) (seen old) (submitted_by steps)
       → StandsHere known k (seen first) (seen old) steps client

@@ -11,6 +11,7 @@ use Rattle.posting_rules.specs.believed.Runs.{replies_to}
 use Rattle.posting_core.specs.Stream.{IsOfCall}
 use Rattle.posting_core.specs.believed.Clock.{AreReadings}
 use Rattle.counter_http.specs.Connections.{Known}
+use Rattle.counter_http.specs.together.Faring.{AllFare}
 use Rattle.counter_http.specs.together.Order.{AreCommits, HasSpared, Step, is_posted_under, is_read_under, submitted_by}
 use Rattle.counter_http.specs.together.Rounds.{AreToldAt, EndsRound, IsOfOneOf, PostsSome, fault_in, numbers}
 use Rattle.counter_http.specs.together.Standing.{AnswersRecord, GivesRecord, HasEndedWith, MovesOn, StandsHere}
@@ -144,6 +145,7 @@ pub record Gathers {C R W X : Type 0} (seen : C → Seen) (reason : Fault → C 
   pub whose_refused : AllByRecursion (IsOfOneOf (numbers here)) refused
   pub none_posted : submitted_by refused ≡ []
   pub are_told : AreToldAt seen known old new here here' reads (fault_in result) refused
+  pub fare : AllFare (fault_in result) refused reads here here'
   pub beside : AreBeside seen known old new here here' reads
   pub gives : IsBatchOf here' batch
 
@@ -166,6 +168,7 @@ pub record AreSubmitted {C R W X : Type 0} (seen : C → Seen) (reason : Fault �
   pub beside : AreBeside seen known old new here here' posts
   pub whose_refused : AllByRecursion (IsOfOneOf (numbers here)) refused
   pub are_told : AreToldAt seen known old new here here' posts (fault_in result) refused
+  pub fare : AllFare (fault_in result) refused posts here here'
   pub stood : C
   pub honest_first : (seen stood).honest → (seen old).honest
   pub honest : (seen new).honest → (seen stood).honest

@@ -14,7 +14,7 @@ use Rattle.counter_http.specs.Clients.{ClientsCall, Closed, Gave, Gave_up, Nobod
 use Rattle.counter_http.specs.Connections.{Known}
 use Rattle.counter_http.specs.together.Order.{AreDated, AreFigured, IsRound, Round, Step, readings_of, steps_in, steps_of, submitted_by}
 use Rattle.counter_http.specs.together.Serving.{ClientIsServed, EndsTogether, IfBank, IsOfVisit, IsToldTo, IsVisited, IsVisitWhy}
-use Rattle.counter_http.specs.together.Serving.{IsWhyRefused, OfOthers, Visit, closed_of, closings, openings}
+use Rattle.counter_http.specs.together.Serving.{IsWhyRefused, OfOthers, Visit, closed_of, closings, fault_of_bank, openings}
 use Rattle.counter_http.specs.declared.listen_fault.ListenFault.{ListenFault}
 use Rattle.counter_http.specs.declared.listen_fault.ListenFault.TheVariants.{Network}
 use Rattle.counter_http.specs.declared.parting.Parting.TheVariants as parting
@@ -164,8 +164,9 @@ pub record ServesTogether {C E : Type 0} (seen : C → Seen) (reason : Fault →
   pub once : AllPairs OfOthers visits
   pub each : All (IsVisited known (seen old) (seen new) (steps_of rounds) calls) visits
   pub all : length visits ≡ length (openings calls)
-  -- nobody else is given up than a wait says, and nobody is stopped where the serving ends well
-  pub parted : All (IsVisitWhy (IsErr result) calls) visits
+  -- nobody else is given up than a wait says, nobody is stopped where the serving ends well, and nobody is told of a refusal
+  -- whose message the bank didn't refuse
+  pub parted : All (IsVisitWhy (IsErr result) (fault_of_bank result) refused calls) visits
   -- a call of the bank was refused with some messages in it, and each is its client's own, who was told so
   pub some : IfErr result (λ fault. IfBank fault (λ f. (refused ≢ []) ⊎ ((f ≡ Memory) × (new ≡ old))))
   pub refusals : IfErr result (λ fault. IfBank fault

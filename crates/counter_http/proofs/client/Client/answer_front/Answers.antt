@@ -1,4 +1,4 @@
-use Rattle.std.proofs.Common.{◌≡◌, ◌∙◌, refl, sym, ap, subst, Bool, false, true, Option, Some, None, take, Ok, inl}
+use Rattle.std.proofs.Common.{◌≡◌, ◌∙◌, refl, sym, ap, subst, Bool, false, true, Option, Some, None, take, Ok, [], inl, inr}
 use Rattle.std.proofs.lemmas.{Bool.true≢false}
 use Rattle.std.specs.Prelude.{is_some, not}
 use Rattle.counter_http.specs.{Next.IsHopeless, Next.IsUnfinished, Next.IsWhole, Next.asked, Tasks.IsTaskOf}
@@ -13,6 +13,7 @@ use Rattle.counter_http.specs.declared.tasks.Task.TheVariants.{Submit}
 use Rattle.counter_http.specs.Holders.{balance_of, holder_line}
 use Rattle.counter_http.proofs.AnsweredTurns.{IsReadFor, answers_as, asks_as, read_for, submits_as}
 use Rattle.counter_http.proofs.Asked.{answered_nothing, asked_none}
+use Rattle.counter_http.proofs.Faring.{fares_ended, fares_same, told_still}
 use Rattle.counter_http.proofs.Fronts.{number_ended}
 use Rattle.counter_http.proofs.Looked.{read_gives, says_gives, within_front}
 use Rattle.counter_http.proofs.Moves.{ended_so, read_so, said_so}
@@ -29,7 +30,8 @@ none_if (Some x) b e f = absurd (true≢false (sym e ∙ f))
 pub returns-then-not-self-clause-answers : goal.returns-then-not-self-clause-answers
 returns-then-not-self-clause-answers g c =
     answered_nothing g.C.Counter.seen c.args.bank.now c.args.bank.now c.args.self.now c.args.self.now _
-    (asked_none g.C.Counter.seen c.args.bank.now _) tt refl (λ k first steps is. is)
+    (asked_none g.C.Counter.seen c.args.bank.now _) tt (λ fault refused among. fares_same c.args.self.now) refl
+    (λ k first steps is. is)
 
 -- a record
 pub returns-in-Submit : goal.returns-in-Submit
@@ -39,7 +41,8 @@ returns-in-Submit g c =
     let task : IsTaskOf (asked c.in-Message.message) (Submit c.in-Submit.bytes) = c.in-Submit.ensures in
     record {
       answers = answered_nothing g.C.Counter.seen c.args.bank.now c.args.bank.now c.args.self.now c.args.self.now _
-          (asked_none g.C.Counter.seen c.args.bank.now _) tt refl (λ k first steps is. is);
+          (asked_none g.C.Counter.seen c.args.bank.now _) tt (λ fault refused among. fares_same c.args.self.now) refl
+          (λ k first steps is. is);
       «record» = record {
         going = none_if c.args.self.now.parting c.is_some.result c.is_some.ensures c.if-is_some.false;
         is = record_of _ whole c.in-Submit.bytes (head_of _ whole refl (ap not c.is_head.ensures) refl) task;
@@ -138,7 +141,8 @@ returns-in-Unfinished g c =
     let going = none_if old.parting c.is_some.result c.is_some.ensures c.if-is_some.false in
     record {
       answers = answered_nothing g.C.Counter.seen c.args.bank.now c.args.bank.now old _ _
-          (asked_none g.C.Counter.seen c.args.bank.now _) tt refl
+          (asked_none g.C.Counter.seen c.args.bank.now _) tt
+          (λ fault refused among. record { did = inr (inl (inl refl)); told = told_still [] }) refl
           (λ k first steps is. unfinished_here old _ c.in-Unfinished.shows refl refl refl going going refl refl refl refl
           waits is);
       «record» = tt;
@@ -154,7 +158,9 @@ returns-in-Refused g c =
     rw c.deref.ensures.value at c.in-Refused.ensures in
     record {
       answers = answered_nothing g.C.Counter.seen c.args.bank.now c.args.bank.now old c.end_with.new.self _
-          (asked_none g.C.Counter.seen c.args.bank.now _) tt (number_ended old c.end_with.new.self c.end_with.ensures)
+          (asked_none g.C.Counter.seen c.args.bank.now _) tt
+          (λ fault refused among. fares_ended old c.end_with.new.self c.end_with.ensures)
+          (number_ended old c.end_with.new.self c.end_with.ensures)
           (λ k first steps stands. hopeless_here old c.end_with.new.self c.in-Refused.shows _ c.bad_request.ensures
           (none_if old.parting c.is_some.result c.is_some.ensures c.if-is_some.false) is c.end_with.ensures stands);
       «record» = tt;

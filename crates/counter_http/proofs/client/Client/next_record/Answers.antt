@@ -2,12 +2,14 @@ use Rattle.std.proofs.Common.{◌<◌, Ok, arith, inl, inr, length, refl}
 use Rattle.counter_http.specs.together.Standing.{unread}
 use Rattle.std.proofs.lemmas.Result.{err_from_is_err_and}
 use Rattle.counter_http.proofs.Asked.{answered_as, answered_nothing, answered_then, asked_none, answered_err}
+use Rattle.counter_http.proofs.Faring.{fares_same}
 use Rattle.counter_http.proofs.client.Client.next_record.Goals as goal
 
 pub messages-init : goal.messages-init
 messages-init g c = record {
   answered = answered_nothing g.C.Counter.seen c.args.bank.now c.args.bank.now c.args.self.now c.args.self.now (Ok tt)
-      (asked_none g.C.Counter.seen c.args.bank.now tt) tt refl (λ k first steps is. is);
+      (asked_none g.C.Counter.seen c.args.bank.now tt) tt (λ fault refused among. fares_same c.args.self.now) refl
+      (λ k first steps is. is);
   few = omega arith;
   spares = g.met.C.Counter.spares_itself c.args.bank.now;
 }
