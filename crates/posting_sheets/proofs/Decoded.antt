@@ -4,7 +4,7 @@ use Rattle.std.proofs.Common.{Some, None, Ok, Err, All, inl, inr, refl, sym, ap,
 use Rattle.std.specs.Io.KnownBytes.{Appends, Consumes, Keeps}
 use Rattle.std.proofs.KnownBytes.{Appends-kept, Appends-trans, Consumes-kept, Consumes-nil, Consumes-trans}
 use Rattle.std.specs.Prelude.{◌⊎◌, OnOk, is_some}
-use Rattle.std.specs.{Result.is_err, List.flat_map}
+use Rattle.std.specs.{Result.is_err}
 use Rattle.std.proofs.Math.Seq.{take-length}
 use Rattle.std.proofs.lemmas.List.{length_push, Concat.flat_map-append, Elements.All-nil, Elements.All-push}
 use Rattle.message_records.specs.{believed.Records.ReplyFields, Records.IsReply, believed.Spelling.reply_spelling}

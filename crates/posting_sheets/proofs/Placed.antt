@@ -1,5 +1,5 @@
 -- Replies and the rows in their places.
-use Rattle.std.proofs.Common.{◌≡◌, ◌+◌, ◌∷◌, ◌++◌, ◌∙◌, ℕ, zero, suc, List, [], length, Option, Some, None, refl, sym, ap}
+use Rattle.std.proofs.Common.{◌≡◌, ◌+◌, ◌∷◌, ◌++◌, ◌∙◌, ℕ, List, [], length, Option, Some, None, sym, ap}
 use Rattle.std.proofs.Common.{append-nil, append_assoc, arith}
 use Rattle.std.specs.Prelude.{is_some, slice_get}
 use Rattle.std.specs.{List.flat_map}
@@ -7,7 +7,7 @@ use Rattle.std.proofs.lemmas.List.{Concat.flat_map-append}
 use Rattle.branch_loader.specs.Records.{Records}
 use Rattle.message_records.specs.believed.Records.{ReplyFields, RequestFields}
 use Rattle.posting_sheets.specs.Beside.{AnswerPostings, AnswersPosting, row_lines, row_of, rows_heading}
-use Rattle.posting_sheets.specs.Replies.{heading, replies_sheet, reply_line}
+use Rattle.posting_sheets.specs.Replies.{heading, reply_line}
 use Rattle.posting_sheets.specs.Sheets.{Sheet}
 use Rattle.posting_sheets.specs.Walking.{AnswerIn, AreAfter, IsRowIn, heading_with, line_with, sheet_in}
 use Rattle.posting_sheets.specs.declared.line.PostingRow.{PostingRow}

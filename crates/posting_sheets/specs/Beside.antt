@@ -1,6 +1,6 @@
 -- The sheet of replies beside the sheet of the postings that they answer: each line has its row too.
 use Rattle.std.specs.Prelude.{◌≡◌, ◌≤◌, ◌+◌, ⊤, ℕ, List, [], ◌∷◌, ◌++◌, length, slice_get, codes, All, IfSome, IsSomeAnd}
-use Rattle.std.specs.Prelude.{Option, None, Some, Result, Ok, Err}
+use Rattle.std.specs.Prelude.{Option, None, Some, Result, Err}
 use Rattle.std.specs.Fmt.{decimal}
 use Rattle.std.specs.Io.KnownBytes.{Appends, Consumes, IsAtEnd}
 use Rattle.message_records.specs.believed.Records.{ReplyFields, RequestFields, unreferenced}

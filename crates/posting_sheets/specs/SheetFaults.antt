@@ -7,7 +7,7 @@ use Rattle.message_records.specs.declared.limits.TheConstants.{REFERENCE_BYTES}
 use Rattle.posting_sheets.specs.declared.fault.BadRow.{BadRow}
 use Rattle.posting_sheets.specs.declared.fault.Column.{Column}
 use Rattle.posting_sheets.specs.declared.fault.Column.TheVariants.{Columns, Account, Teller, Number, Delta}
-use Rattle.posting_sheets.specs.declared.fault.Column.TheVariants.{Branch, Reference}
+use Rattle.posting_sheets.specs.declared.fault.Column.TheVariants.{Amount, Branch, Reference}
 use Rattle.posting_sheets.specs.declared.fault.SheetFault.{SheetFault}
 use Rattle.posting_sheets.specs.declared.fault.SheetFault.TheVariants as sheet
 use Rattle.posting_sheets.specs.declared.fault.RepliesFault.{RepliesFault}
@@ -31,6 +31,7 @@ column_text Account = codes "account"
 column_text Teller = codes "teller"
 column_text Number = codes "number"
 column_text Delta = codes "delta"
+column_text Amount = codes "amount"
 column_text Branch = codes "branch"
 column_text Reference = codes "reference"
 

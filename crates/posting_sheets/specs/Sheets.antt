@@ -19,7 +19,8 @@ use Rattle.posting_sheets.specs.declared.money.Money.{Money}
 use Rattle.posting_sheets.specs.declared.money.Money.TheVariants.{Cents, Decimals}
 use Rattle.posting_sheets.specs.declared.fault.BadRow.{BadRow}
 use Rattle.posting_sheets.specs.declared.fault.Column.TheVariants.{Columns, Account, Teller, Number, Delta}
-use Rattle.posting_sheets.specs.declared.fault.Column.TheVariants.{Branch, Reference}
+use Rattle.posting_sheets.specs.declared.fault.Column.{Column}
+use Rattle.posting_sheets.specs.declared.fault.Column.TheVariants.{Amount, Branch, Reference}
 use Rattle.posting_sheets.specs.declared.fault.SheetFault.{SheetFault}
 use Rattle.posting_sheets.specs.declared.fault.SheetFault.TheVariants.{Header, Row}
 
@@ -35,6 +36,11 @@ money_named name =
     if bytes_eq name (codes "delta") then Some Cents
     else if bytes_eq name (codes "amount") then Some Decimals
     else None
+
+-- and that column is called so
+abbrev pub money_column : Money → Column
+money_column Cents = Delta
+money_column Decimals = Amount
 
 -- the four columns that each sheet has, and then a branch, a reference, or both; the place of one that isn't there
 -- is after the last
@@ -134,7 +140,7 @@ request_of_fields form fields = do
   account ← ok_or (number_within MAX_ACCOUNT (field 0 fields)) (faulty_at Account (field 0 fields))
   teller ← ok_or (number_within MAX_TELLER (field 1 fields)) (faulty_at Teller (field 1 fields))
   number ← ok_or (number_within MAX_NUMBER (field 2 fields)) (faulty_at Number (field 2 fields))
-  delta ← ok_or (delta_of form.money (field 3 fields)) (faulty_at Delta (field 3 fields))
+  delta ← ok_or (delta_of form.money (field 3 fields)) (faulty_at (money_column form.money) (field 3 fields))
   branch ← ok_or (branch_of teller (field form.branch fields)) (faulty_at Branch (field form.branch fields))
   reference ←
       ok_or (reference_of (field form.reference fields)) (faulty_at Reference (field form.reference fields))

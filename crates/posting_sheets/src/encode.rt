@@ -70,16 +70,16 @@ fn records_of_text(alloc: Global, text: &[u8]) -> (Vec<u8>, Result<u64, SheetFau
     (records, end)
 }
 
-/// Reads a sheet to its end, and writes and flushes the record of each posting, up to the sheet's first fault. It
-/// answers how many records it wrote. It takes memory for the text and for the records.
+/// Reads a sheet to its end, and checks all of it. Then it writes and flushes the record of each posting, and answers
+/// how many they are. It takes memory for the text and for the records.
 ///
 /// # Errors
 ///
-/// - [`SheetFault::Read`]: a read failed, or 2^64 - 1 reads were made. Nothing was written.
 /// - [`SheetFault::Write`]: a write or the flush failed, a write took no byte, or it was interrupted 2^64 - 1 times
 ///   in a row. A prefix of the records was written.
-/// - [`SheetFault::Memory`]: memory was refused. A prefix of the records was written.
-/// - Any other is the sheet's own. The records of the rows before it were written.
+/// - [`SheetFault::Read`]: a read failed, or 2^64 - 1 reads were made. Nothing was written.
+/// - [`SheetFault::Memory`]: memory was refused. Nothing was written.
+/// - Any other is the sheet's own, its first. Nothing was written.
 pub fn encode_sheet<R: Source, W: Sink>(
     alloc: Global,
     reader: &mut R,
@@ -96,8 +96,9 @@ pub fn encode_sheet<R: Source, W: Sink>(
         Err(_) => return Err(SheetFault::Memory),
     };
     let (records, end) = records_of_text(alloc, &text);
+    let count = end?;
     match write_out(writer, &records) {
-        Ok(()) => end,
+        Ok(()) => Ok(count),
         Err(_) => Err(SheetFault::Write),
     }
 }

@@ -17,9 +17,11 @@ pub enum Column {
     Teller,
     /// The number isn't 1 to 12 digits with a value of 1..=`MAX_NUMBER`.
     Number,
-    /// The delta isn't 1 to 10 digits, with a sign or without one; or the amount isn't 1 to 8, with a sign or without
-    /// one, and with a point and two digits after them or without.
+    /// The delta isn't 1 to 10 digits, with a sign or without one.
     Delta,
+    /// The amount isn't 1 to 8 digits, with a sign or without one, and with a point and two digits after them or
+    /// without.
+    Amount,
     /// The branch isn't 1 to 12 digits with a value of 1..=`MAX_BRANCH`; or there is none, and the teller's isn't in
     /// that range.
     Branch,
@@ -41,6 +43,7 @@ impl fmt::Display for Column {
             Column::Teller => "teller",
             Column::Number => "number",
             Column::Delta => "delta",
+            Column::Amount => "amount",
             Column::Branch => "branch",
             Column::Reference => "reference",
         };
@@ -83,19 +86,19 @@ impl fmt::Display for BadRow {
 
 impl std::error::Error for BadRow {}
 
-/// Why a sheet wasn't translated to its end: its first fault. Rows count from 1 after the header. Unless an end
-/// failed or memory was refused, the records of the rows before it were written, and nothing of its own row.
+/// Why a sheet wasn't translated: its first fault. Rows count from 1 after the header. Unless the sink failed nothing
+/// was written.
 #[derive(Clone, Copy, Debug, PartialEq, Eq)]
 pub enum SheetFault {
     /// The first record isn't the header, or there is none.
     Header,
     /// The row states no posting, and this is what is wrong with it.
     Row(u64, BadRow),
-    /// The source failed. Nothing was written.
+    /// The source failed.
     Read,
     /// The sink failed, or took no byte. A prefix of the records was written.
     Write,
-    /// Memory was refused. A prefix of the records was written.
+    /// Memory was refused.
     Memory,
 }
 

@@ -3,7 +3,7 @@ ghost use Rattle.std.specs.Prelude.{◌≡◌, ◌≤◌, ◌<◌, ◌^◌, nat_
 ghost use Rattle.std.specs.Option.{ok_or};
 ghost use Rattle.csv.specs.Records.{fields_of};
 ghost use Rattle.posting_sheets.specs.Sheets.{branch_of, cents_of, cents_written, delta_of, number_up_to};
-ghost use Rattle.posting_sheets.specs.Sheets.{number_within, reference_of, request_of_fields, request_of_row};
+ghost use Rattle.posting_sheets.specs.Sheets.{money_column, number_within, reference_of, request_of_fields, request_of_row};
 ghost use Rattle.posting_sheets.specs.SheetFaults.{faulty_at};
 
 use crate::fault::{BadRow, Column};
@@ -100,6 +100,16 @@ pub fn reference_of(text: &[u8]) -> Option<Option<Reference>>
     Some(Some(Reference::new(&filled(text))?))
 }
 
+// What the column is called that writes money so.
+fn money_column(money: Money) -> Column
+    ensures { result ≡ money_column money }
+{
+    match money {
+        Money::Cents => Column::Delta,
+        Money::Decimals => Column::Amount,
+    }
+}
+
 // What a field states, or which one is wrong.
 fn stated<T>(value: Option<T>, column: Column, field: &[u8]) -> Result<T, BadRow>
     ensures { result ≡ ok_or value (faulty_at column field.now) }
@@ -122,7 +132,8 @@ fn request_of_fields(form: Form, fields: &ByteRecord) -> Result<Request, BadRow>
     let text = field(fields, 2);
     let number = stated(number_within(text), Column::Number, text)?;
     let money = field(fields, 3);
-    let delta = stated(delta_of(form.money, money), Column::Delta, money)?;
+    let column = money_column(form.money);
+    let delta = stated(delta_of(form.money, money), column, money)?;
     let text = field(fields, form.branch);
     let branch = stated(branch_of(teller, text), Column::Branch, text)?;
     let text = field(fields, form.reference);
@@ -130,7 +141,7 @@ fn request_of_fields(form: Form, fields: &ByteRecord) -> Result<Request, BadRow>
     // Ten digits are within the limit.
     stated(
         Request::new(account, teller, branch, number, delta, reference),
-        Column::Delta,
+        column,
         money,
     )
 }
