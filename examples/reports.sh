@@ -1,7 +1,9 @@
 #!/usr/bin/env bash
-# What a back office asks every day, as SQL on a copy of a bank, for the day that is named, in UTC:
+# What a back office asks every day, as SQL on a copy of a bank, for the day that is named:
 #
-#     examples/reports.sh FILE [YYYY-MM-DD] [FOLDER]
+#     [ZONE=+01:00] examples/reports.sh FILE [YYYY-MM-DD] [FOLDER]
+#
+# Days and times are those of UTC, or of a clock that is ZONE ahead of it, as for `bank statement`.
 #
 # It needs `sqlite3`. No command may run on FILE while it is copied: see examples/evening.sh, whose copy serves as FILE.
 # FOLDER gets postings.csv, all postings; without it there is none. The day is today if none is named.
@@ -16,6 +18,11 @@ if [ "$(date -u -d "$day" +%F 2>/dev/null)" != "$day" ]; then
     echo "reports: $day is no date such as $(date -u +%F)" >&2
     exit 2
 fi
+zone="${ZONE:-+00:00}"
+if ! [[ "$zone" =~ ^[+-][0-9]{2}:[0-9]{2}$ ]]; then
+    echo "reports: $zone is no zone such as +01:00" >&2
+    exit 2
+fi
 work="$(mktemp -d)"
 trap 'rm -rf "$work"' EXIT
 cp "$file" "$work/copy.db"
@@ -23,13 +30,13 @@ if [ -e "$file-wal" ]; then cp "$file-wal" "$work/copy.db-wal"; fi
 
 ask() {
     echo "== $1"
-    sqlite3 -header "-${3:-column}" -cmd ".read $work/views.sql" :memory: "$2"
+    (cd "$work" && sqlite3 -header "-${3:-column}" -cmd ".read views.sql" :memory: "$2")
 }
 
 # A posting with its time, its amount in units and hundredths, and its reference.
 cat >"$work/views.sql" <<END
-ATTACH '$work/copy.db' AS bank;
-CREATE TEMP VIEW posting AS SELECT ordinal, datetime(moment, 'unixepoch') AS time, bid AS branch, tid AS teller,
+ATTACH 'copy.db' AS bank;
+CREATE TEMP VIEW posting AS SELECT ordinal, datetime(moment, 'unixepoch', '$zone') AS time, bid AS branch, tid AS teller,
     aid AS account, delta, printf('%+.2f', delta / 100.0) AS amount,
     coalesce(rtrim(reference), '') AS reference
   FROM history LEFT JOIN request_reference USING (ordinal);

@@ -20,7 +20,8 @@ columns="tid AS teller, number, aid AS account, amount, reference, CASE outcome 
 if [ "${1:-}" = --encode ]; then
     columns='aid AS account, tid AS teller, abs(random() % 9999999999) + 1 AS number, amount, reference'
 fi
-sqlite3 -header -csv :memory: "ATTACH '$work/first.db' AS first; ATTACH '$work/second.db' AS second;
+cd "$work"
+sqlite3 -header -csv :memory: "ATTACH 'first.db' AS first; ATTACH 'second.db' AS second;
     SELECT $columns FROM (
         SELECT one.ordinal, one.tid, one.number, one.aid, other.outcome, printf('%.2f', one.delta / 100.0) AS amount,
             rtrim(coalesce((SELECT reference FROM first.request_reference WHERE ordinal = one.ordinal), '')) AS reference
