@@ -47,7 +47,7 @@ posting, below the names of its columns: account, ordinal, time, teller,
 branch, amount, balance, reference. A time is as 2026-11-28T09:30:00+01:00, in
 the zone; amounts are in decimals, as -7.00; a reference with a comma or a
 quote stands in quotes. The balances before and at the end are no lines: each
-line has the balance after it.
+line has the balance after it. For paper `column -t -s ,` lays a sheet out.
 
 Statuses: 0 done, 2 no command, and with a line on standard error
   3  store fault: FILE can't be used, is in use, or the disk failed: see

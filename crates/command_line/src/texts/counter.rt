@@ -145,7 +145,11 @@ Requests:
   POST /post            the body is a record of 100 bytes; the answer's body is
                         its reply of 200 bytes
   GET /account/NUMBER   the balance of an open account
+  GET /teller/NUMBER    the balance of an open teller: all that it posted
   GET /branches         the open branches, one in a line
+  GET /log/N            up to 192 entries after the first N, as `bank log`
+                        writes them
+  GET /plan             the open branches as a plan, as `bank plan` writes it
   GET /health           `ok`, without a look at the bank
   GET /metrics          how it goes, in the text that Prometheus reads: what was
                         replied since the start, connections and seconds
@@ -182,8 +186,9 @@ error
 pub const ENCODE: CommandTexts = CommandTexts {
     about: "Make records of a sheet of postings",
     at_length: "\
-Read a sheet of postings, a CSV file, from standard input, and write the record
-of each to standard output, as `bank post` takes it. It touches no bank.",
+Read a sheet of postings, a CSV file, from standard input, check all of it, and
+write the record of each to standard output, as `bank post` takes it. It touches
+no bank.",
     details: "\
 The first line is a header, and each line after it is a posting: its account,
 its teller, the teller's own number for it, and how many cents are added to the
@@ -193,7 +198,9 @@ account, with a sign or without one:
   100001,1,2,-700
 
 With `amount` in place of `delta` money has a point and two digits of cents, or
-neither, as 5.00, -7.00 and 12.
+neither, as 5.00, -7.00 and 12. A sheet with semicolons and 12,50 is turned
+first, if no reference has a comma or a semicolon:
+  sed 's/,/./g; s/;/,/g' export.csv > postings.csv
 
 Two columns may follow, `branch` and `reference`, one or both in this order. A
 posting without a branch gets the teller's, and one without a reference none:
@@ -209,9 +216,9 @@ Statuses: 0 done, 2 no command, and with a line on standard error
      has gone
   4  postings header: the first line is no header; semicolons, tabs, capitals
      and UTF-16 make it none
-  4  postings row N columns, account, teller, number, delta, branch, reference:
-     that is wrong in row N, where row 1 comes after the header; the records of
-     the rows before it are written",
+  4  postings row N columns, account, teller, number, delta or amount, branch,
+     reference: that is wrong in row N, where row 1 comes after the header. Then
+     nothing is written",
 };
 
 pub const DECODE: CommandTexts = CommandTexts {
