@@ -4,4 +4,5 @@ pub mod ByTables
 pub mod Appends
 pub mod Along
 pub mod Same
+pub mod Spared
 pub mod Shared

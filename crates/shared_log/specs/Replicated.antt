@@ -6,6 +6,16 @@ use Rattle.posting_rules.specs.believed.{Commands.Command, Counter.Seen, Tables.
 use Rattle.shared_log.specs.Known.{AreHeld, HoldsOn, Known}
 use Rattle.shared_log.specs.declared.replicated.Replicated.{Replicated}
 
+abbrev pub counter_of : {C L : Type 0} → Replicated C L → C
+counter_of r = r.counter
+
+abbrev pub log_of : {C L : Type 0} → Replicated C L → L
+log_of r = r.log
+
+-- it answers nothing until it joins
+abbrev pub is_stopped : {C L : Type 0} → Replicated C L → Type 0
+is_stopped r = r.is_down ≡ true
+
 -- tables that show the same logs
 pub record ShowSame (t u : Tables) : Type 0 where
   pub there : (log : List Command) → AreTablesOf t log → AreTablesOf u log

@@ -1,5 +1,7 @@
 //! A machine goes as far as the shared log, and the shared log as far as the machine, before it serves.
-ghost use Rattle.std.specs.Prelude.{◌≡◌, true, IfErr, IfOk, IfSome, [], OnOk, length, min, take};
+ghost use Rattle.std.specs.Prelude.{◌≡◌, true, IfErr, IfOk, IfSome, List, [], OnOk, length, min, take};
+ghost use Rattle.posting_core.specs.believed.LogEntries.{AnsweredRequest};
+ghost use Rattle.branch_loader.specs.Following.{HasFollowed};
 ghost use Rattle.shared_log.specs.Known.{with_more};
 ghost use Rattle.shared_log.specs.Joined.{HasCaughtUp, HasJoined, HasSent, HasTakenGiven, IsAsked};
 
@@ -7,7 +9,7 @@ use crate::log::{LogFault, SharedLog};
 use crate::publishing::{PublishFault, publish};
 use crate::replicated::Replicated;
 use crate::settled::MOST_TRIES;
-use branch_loader::{FollowFault, FollowWatch, Plan, follow};
+use branch_loader::{FollowFault, FollowWatch, OtherReply, Plan, follow};
 use posting_core::{Count, ENTRY_BYTES, Fault, Followed};
 use std::alloc::Global;
 
@@ -17,7 +19,7 @@ pub enum JoinFault {
     /// The bank's entry with this number, counted from 1, is another than the shared log's, or isn't there. It was never
     /// on a quorum, and nobody was told of it: the bank is made anew.
     Differs(Count),
-    /// It stopped following the shared log.
+    /// It stopped following the shared log, of whose entries the numbers are.
     Follow(FollowFault),
     /// The bank refused a call.
     Bank(Fault),
@@ -32,16 +34,6 @@ impl From<Fault> for JoinFault {
 
     fn from(fault: Fault) -> JoinFault {
         JoinFault::Bank(fault)
-    }
-}
-
-impl From<FollowFault> for JoinFault {
-    ghost use Rattle.shared_log.specs.declared.joining.JoinFault.TheVariants.{Follow};
-
-    ghost from_gives = { λ fault answer. answer ≡ Follow fault };
-
-    fn from(fault: FollowFault) -> JoinFault {
-        JoinFault::Follow(fault)
     }
 }
 
@@ -62,6 +54,22 @@ pub struct Joined {
     pub held: u64,
     /// How many both have now: those behind are the bank's alone before.
     pub holds: u64,
+}
+
+/// What says when a machine that follows the others is to serve.
+pub trait Turn {
+    /// Whether it is to serve from now on. It may wait a while before it answers.
+    fn is_here(&mut self) -> bool;
+}
+
+/// It is to serve as soon as it can.
+#[derive(Drop)]
+pub struct AtOnce;
+
+impl Turn for AtOnce {
+    fn is_here(&mut self) -> bool {
+        true
+    }
 }
 
 // Reads the next entries, and asks again where that isn't answered.
@@ -102,7 +110,8 @@ fn has_given<C: Followed>(
     place: u64,
     given: &[[u8; ENTRY_BYTES]],
 ) -> Result<usize, JoinFault>
-    ensures { IfOk result (IsAsked C.seen C.spares counter.old counter.new place given.now) }
+    ensures asked { IfOk result (IsAsked C.seen C.spares counter.old counter.new place given.now) }
+    ensures others { C.spares counter.old counter.new }
 {
     let Some(bytes) = counter.entries_after(place)? else {
         return Err(JoinFault::Differs(place as Count));
@@ -111,23 +120,62 @@ fn has_given<C: Followed>(
     alike(place, own, given)
 }
 
+// A fault of entries that come behind so many, with the entry's number in the shared log.
+fn placed(before: Count, fault: FollowFault) -> FollowFault {
+    match fault {
+        FollowFault::Differs(other) => FollowFault::Differs(OtherReply {
+            entry: before.saturating_add(other.entry),
+            ..other
+        }),
+        FollowFault::NoEntry(count) => FollowFault::NoEntry(before.saturating_add(count)),
+        fault => fault,
+    }
+}
+
+// Whoever watches is told of the entries of all that was given, and not of each part.
+#[derive(Drop)]
+struct Unwatched;
+
+impl FollowWatch for Unwatched {
+    fn followed(&mut self, _entries: Count) {}
+}
+
+// Follows entries of the shared log that come behind so many.
+fn follow_lacked<C: Followed>(
+    alloc: Global,
+    plan: &Plan,
+    counter: &mut C,
+    before: Count,
+    lacked: &[[u8; ENTRY_BYTES]],
+) -> Result<(), JoinFault>
+    ensures followed { OnOk result ((entries : List AnsweredRequest)
+        × HasFollowed C.seen C.spares plan.now counter.old counter.new entries []) }
+    ensures others { C.spares counter.old counter.new }
+{
+    let mut bytes = lacked.as_flattened();
+    match follow(alloc, plan, &mut bytes, counter, &mut Unwatched) {
+        Ok(_) => Ok(()),
+        Err(fault) => Err(JoinFault::Follow(placed(before, fault))),
+    }
+}
+
 // Takes the entries that the shared log has at a place: the bank has them already, or follows those that it lacks.
-fn take_given<C: Followed, T: FollowWatch>(
+fn take_given<C: Followed>(
     alloc: Global,
     plan: &Plan,
     counter: &mut C,
     place: u64,
     given: &[[u8; ENTRY_BYTES]],
-    watch: &mut T,
 ) -> Result<(), JoinFault>
-    ensures { OnOk result (HasTakenGiven C.seen C.spares plan.now counter.old counter.new place given.now) }
+    ensures taken { OnOk result (HasTakenGiven C.seen C.spares plan.now counter.old counter.new place given.now) }
+    ensures others { C.spares counter.old counter.new }
 {
     let had = has_given(counter, place, given)?;
     if had == given.len() {
         return Ok(());
     }
-    let mut lacked = given[had..].as_flattened();
-    follow(alloc, plan, &mut lacked, counter, watch)?;
+    let before = place as Count + had as Count;
+    follow_lacked(alloc, plan, counter, before, &given[had..])?;
     let has = has_given(counter, place, given)?;
     if has == given.len() {
         Ok(())
@@ -136,24 +184,32 @@ fn take_given<C: Followed, T: FollowWatch>(
     }
 }
 
-// Follows the shared log to its end.
-fn catch_up<C: Followed, L: SharedLog, T: FollowWatch>(
+// Follows the shared log until its turn has come, and then to its end.
+fn catch_up<C: Followed, L: SharedLog, T: FollowWatch, U: Turn>(
     alloc: Global,
     plan: &Plan,
     bank: &mut C,
     log: &mut L,
     watch: &mut T,
+    turn: &mut U,
 ) -> Result<(), JoinFault>
     requires { IfSome (L.known log.old) (λ entries. entries ≡ []) }
-    ensures { OnOk result (HasCaughtUp C.seen C.spares plan.now bank.old bank.new (L.known log.new)) }
+    ensures caught { OnOk result (HasCaughtUp C.seen C.spares plan.now bank.old bank.new (L.known log.new)) }
+    ensures others { C.spares bank.old bank.new }
 {
+    let mut is_turn = false;
     for _ in 0..u64::MAX {
         let place = log.count();
         let given = read_settled(log)?;
         if given.is_empty() {
-            return Ok(());
+            if is_turn {
+                return Ok(());
+            }
+            is_turn = turn.is_here();
+            continue;
         }
-        take_given(alloc, plan, bank, place, given.as_slice(), watch)?;
+        take_given(alloc, plan, bank, place, given.as_slice())?;
+        watch.followed(log.count() as Count);
     }
     Err(JoinFault::Log(LogFault::Unanswered))
 }
@@ -170,7 +226,8 @@ fn unsent(place: u64, fault: PublishFault) -> JoinFault {
 
 // Appends all that the bank has beyond the shared log's end.
 fn send_rest<C: Followed, L: SharedLog>(bank: &mut C, log: &mut L) -> Result<(), JoinFault>
-    ensures { OnOk result (HasSent C.seen C.spares bank.old bank.new (L.known log.old) (L.known log.new)) }
+    ensures sent { OnOk result (HasSent C.seen C.spares bank.old bank.new (L.known log.old) (L.known log.new)) }
+    ensures others { C.spares bank.old bank.new }
 {
     for _ in 0..u64::MAX {
         let place = log.count();
@@ -186,26 +243,28 @@ fn send_rest<C: Followed, L: SharedLog>(bank: &mut C, log: &mut L) -> Result<(),
 }
 
 impl<C: Followed + Drop, L: SharedLog + Drop> Replicated<C, L> {
-    /// Follows the shared log from its first entry to its end: the bank has its entries already, or posts them, with
-    /// branches of the plan opened as they are needed. Then all that only the bank has is appended. It serves from then
-    /// on, and not before.
+    /// Follows the shared log from its first entry on until its turn has come, and then to its end: the bank has its
+    /// entries already, or posts them, with branches of the plan opened as they are needed. Then all that only the bank
+    /// has is appended. It serves from then on, and not before.
     ///
     /// # Errors
     ///
     /// A [`JoinFault`]. It serves nothing.
-    pub fn join<T: FollowWatch>(
+    pub fn join<T: FollowWatch, U: Turn>(
         &mut self,
         alloc: Global,
         plan: &Plan,
         watch: &mut T,
+        turn: &mut U,
     ) -> Result<Joined, JoinFault>
         requires { IfSome (L.known self.old.log) (λ entries. entries ≡ []) }
         ensures joined { OnOk result (HasJoined C.seen L.known C.spares plan.now self.old self.new) }
         ensures counts { IfOk result (λ joined. IfSome (L.known self.new.log) (λ entries. joined.holds ≡ length entries)) }
         ensures down { IfErr result (λ fault. self.new.is_down ≡ true) }
+        ensures others { C.spares self.old.counter self.new.counter }
     {
         self.is_down = true;
-        catch_up(alloc, plan, &mut self.counter, &mut self.log, watch)?;
+        catch_up(alloc, plan, &mut self.counter, &mut self.log, watch, turn)?;
         let held = self.log.count();
         send_rest(&mut self.counter, &mut self.log)?;
         let holds = self.log.count();

@@ -7,7 +7,7 @@
 //!
 //! use branch_loader::{FollowWatch, Plan};
 //! use posting_core::Followed;
-//! use shared_log::{JoinFault, Replicated, SharedLog};
+//! use shared_log::{AtOnce, JoinFault, Replicated, SharedLog};
 //! use std::alloc::Global;
 //!
 //! pub fn first_machine<C: Followed + Drop, L: SharedLog + Drop, T: FollowWatch>(
@@ -20,7 +20,7 @@
 //!     requires { IfSome (L.known log) (λ entries. entries ≡ []) }
 //! {
 //!     let mut machine = Replicated::new(bank, log);
-//!     let joined = machine.join(alloc, plan, watch)?;
+//!     let joined = machine.join(alloc, plan, watch, &mut AtOnce)?;
 //!     let _both_hold = joined.holds;
 //!     Ok(machine)
 //! }
@@ -30,6 +30,8 @@
 //! some: others stand there, it gave no answer, or memory was refused. [`append_settled`] asks where it gave no answer.
 //! [`JoinFault`] says why a machine can't serve: an entry of its own that the others don't have at its place, or what the
 //! bank or the log refused.
+//!
+//! A machine that stands by follows the others until a [`Turn`] says that it is to serve.
 //!
 //! Read next: [`SharedLog`]; [`Replicated`], with `specs/Replicated`, which says what it shows; [`Replicated::join`], with
 //! `specs/Joined`.
@@ -42,7 +44,7 @@ mod publishing;
 mod replicated;
 mod settled;
 
-pub use joining::{JoinFault, Joined};
+pub use joining::{AtOnce, JoinFault, Joined, Turn};
 pub use laws::sharing_law;
 pub use log::{LogFault, SharedLog};
 pub use replicated::Replicated;

@@ -3,7 +3,7 @@ ghost use Rattle.std.specs.Prelude.{◌≡◌, [], IfSome};
 
 use branch_loader::{FollowWatch, Plan};
 use posting_core::Followed;
-use shared_log::{JoinFault, Replicated, SharedLog};
+use shared_log::{AtOnce, JoinFault, Replicated, SharedLog};
 use std::alloc::Global;
 
 pub fn first_machine<C: Followed + Drop, L: SharedLog + Drop, T: FollowWatch>(
@@ -16,7 +16,7 @@ pub fn first_machine<C: Followed + Drop, L: SharedLog + Drop, T: FollowWatch>(
     requires { IfSome (L.known log) (λ entries. entries ≡ []) }
 {
     let mut machine = Replicated::new(bank, log);
-    let joined = machine.join(alloc, plan, watch)?;
+    let joined = machine.join(alloc, plan, watch, &mut AtOnce)?;
     let _both_hold = joined.holds;
     Ok(machine)
 }

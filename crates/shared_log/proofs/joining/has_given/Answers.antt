@@ -3,8 +3,8 @@ use Rattle.std.proofs.Common.{◌∙◌, List, ℕ, Option, Some, ap}
 use Rattle.shared_log.proofs.Along.{asked}
 use Rattle.shared_log.proofs.joining.has_given.Goals as goal
 
-pub returns : goal.returns
-returns g c =
+pub returns-clause-asked : goal.returns-clause-asked
+returns-clause-asked g c =
     let call = c.in_ok-bytes.ensures.call in
     asked g.C.Counter.seen g.C.Counter.spares c.args.counter.now c.entries_after.new.self c.args.place c.args.given.now
     c.as_slice.result.now c.as_chunks.result.0.now c.alike.result call.done call.honest call.up

@@ -33,8 +33,8 @@ loop-preserved g c =
           (g.L.SharedLog.known c.publish.new.log) it.takes p.honest c.in-Ok.count it.some p.known;
     }
 
-pub returns-then-count-eq0 : goal.returns-then-count-eq0
-returns-then-count-eq0 g c =
+pub returns-then-count-eq0-clause-sent : goal.returns-then-count-eq0-clause-sent
+returns-then-count-eq0-clause-sent g c =
     let it = c.loop.invariant in
     let p = c.in-Ok.ensures in
     let none : c.in-Ok.count ≡ 0 = omega arith in
@@ -48,3 +48,17 @@ returns-then-count-eq0 g c =
     (g.L.SharedLog.known c.publish.new.log) it.takes p.honest it.some
     (subst (λ (n : ℕ). AreKnown (g.C.Counter.seen c.loop.bank) (g.C.Counter.seen c.publish.new.counter)
     (g.L.SharedLog.known c.loop.log) (g.L.SharedLog.known c.publish.new.log) n) none p.known))
+
+-- no step touches what no call of the bank does
+pub returns-in-Err-clause-others : goal.returns-in-Err-clause-others
+returns-in-Err-clause-others g c =
+    g.met.C.Counter.spares_then c.args.bank.now c.loop.bank c.publish.new.counter c.loop.invariant.others
+    c.in-Err.ensures.others
+
+pub returns-then-count-eq0-clause-others : goal.returns-then-count-eq0-clause-others
+returns-then-count-eq0-clause-others g c =
+    g.met.C.Counter.spares_then c.args.bank.now c.loop.bank c.publish.new.counter c.loop.invariant.others
+    c.in-Ok.ensures.others
+
+pub returns-clause-others : goal.returns-clause-others
+returns-clause-others g c = c.loop.invariant.others
