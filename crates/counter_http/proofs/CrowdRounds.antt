@@ -17,7 +17,7 @@ use Rattle.counter_http.specs.together.Order.{submitted_by}
 use Rattle.counter_http.specs.together.Reading.{Lost, Reads, Refused, SaysAtEnd, Silent}
 use Rattle.counter_http.specs.together.Rounds.{AnswersRound, IsOfOneOf, fault_in, numbers}
 use Rattle.counter_http.specs.together.Standing.{AreRefused, IsUpToDate, StandsHere, Writes, unread}
-use Rattle.counter_http.specs.together.Serving.{IsVisitWhy, IsWhyParted, Visit, number_of}
+use Rattle.counter_http.specs.together.Serving.{IsWhyParted, Visit, number_of}
 use Rattle.counter_http.specs.declared.client.Client.{Client}
 use Rattle.counter_http.specs.declared.figures.Tally.{Tally}
 use Rattle.counter_http.specs.declared.parting.Parting.{Parting}
@@ -115,7 +115,7 @@ same_numbers M number (x ∷ xs) (y ∷ ys) all =
     ap (λ (n : ℕ). n ∷ numbers ys) (number x y all.0)
     ∙ ap (λ (ns : List ℕ). x.number ∷ ns) (same_numbers M number xs ys all.1)
 
-all_by : {A : Type 0} (M : A → A → Type 0) (P Q : A → Type 0) → ((x y : A) → M x y → P x → Q y) → (xs ys : List A)
+pub all_by : {A : Type 0} (M : A → A → Type 0) (P Q : A → Type 0) → ((x y : A) → M x y → P x → Q y) → (xs ys : List A)
     → AllZip M xs ys → AllByRecursion P xs → AllByRecursion Q ys
 all_by M P Q f [] [] all h = tt
 all_by M P Q f [] (y ∷ ys) all h = absurd all
@@ -245,7 +245,7 @@ abbrev AtPlaces : {A : Type 0} → (A → A → Type 0) → List A → List A �
 AtPlaces {A} M xs ys =
     (p : ℕ) (x y : A) → slice_get xs p ≡ Some x → slice_get ys p ≡ Some y → M x y
 
-zip_places : {R W : Type 0} (M : Client R W → Client R W → Type 0) (xs ys : List (Client R W)) → numbers ys ≡ numbers xs
+pub zip_places : {R W : Type 0} (M : Client R W → Client R W → Type 0) (xs ys : List (Client R W)) → numbers ys ≡ numbers xs
     → AtPlaces M xs ys → AllZip (λ (x y : Client R W). (y.number ≡ x.number) × M x y) xs ys
 zip_places M [] [] same at = tt
 zip_places M [] (y ∷ ys) same at = cc same

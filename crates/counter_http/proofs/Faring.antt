@@ -1,13 +1,12 @@
 -- What becomes of a client in a part of a round, and in one part after another.
-use Rattle.std.proofs.Common.{◌≡◌, ℕ, List, [], ◌∷◌, ◌++◌, length, map, Option, None, Some, Bool, Result, Ok, Err}
+use Rattle.std.proofs.Common.{◌≡◌, ℕ, List, [], ◌∷◌, ◌++◌, map, Option, None, Some, Bool, Result}
 use Rattle.std.proofs.Common.{true, false, refl, sym, ap, subst, ◌∙◌, arith, inl, inr}
 use Rattle.std.specs.Prelude.{◌≢◌, ◌⊎◌, Contains, IfErr}
-use Rattle.std.specs.List.{slice_get}
 use Rattle.std.proofs.lemmas.List.{map-append}
 use Rattle.std.proofs.lemmas.List.Elements.{Contains-append_left, Contains-append_right}
 use Rattle.posting_rules.specs.declared.fault.Fault.{Fault}
 use Rattle.posting_rules.specs.declared.fault.Fault.TheVariants as fault
-use Rattle.counter_http.specs.together.Faring.{AllFare, Fares, HasNoMore, IsToldSo}
+use Rattle.counter_http.specs.together.Faring.{Fares, HasNoMore, IsToldSo}
 use Rattle.counter_http.specs.together.Order.{Step, client_of, clients_of}
 use Rattle.counter_http.specs.together.Serving.{By_the_bank, For_memory, IsWhyTold}
 use Rattle.counter_http.specs.together.Standing.{HasAnswered, HasEndedWith, IsLost, IsToldOf, parting_after}

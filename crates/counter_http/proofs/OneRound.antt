@@ -1,7 +1,7 @@
 -- A round: messages that were answered while records were gathered, and those records.
 use Rattle.std.proofs.Common.{◌≡◌, ℕ, List, [], ◌++◌, length, Option, Some, Result, Ok, Err, refl, sym, ap, subst}
-use Rattle.std.proofs.Common.{◌∙◌, append_assoc, append-nil, arith}
-use Rattle.std.specs.{List.AllByRecursion, Prelude.OnOk}
+use Rattle.std.proofs.Common.{◌∙◌, append_assoc, append-nil, arith, inl, inr}
+use Rattle.std.specs.{List.AllByRecursion}
 use Rattle.posting_rules.specs.declared.fault.Fault.{Fault}
 use Rattle.posting_rules.specs.believed.Commands.{Command}
 use Rattle.posting_rules.specs.believed.Counter.{LeavesOnly, Refuses, Seen, ShowsPrefix, StandsAt, Takes}
@@ -12,7 +12,7 @@ use Rattle.posting_core.proofs.StreamedBatches.{all_more}
 use Rattle.counter_http.specs.Connections.{Known}
 use Rattle.counter_http.specs.together.Faring.{AllFare}
 use Rattle.counter_http.specs.together.Order.{Step, is_read_under, submitted_by}
-use Rattle.counter_http.specs.together.Rounds.{AllMoveOn, AnswersRound, EndsRound, IsOfOneOf, fault_in, numbers}
+use Rattle.counter_http.specs.together.Rounds.{AllMoveOn, AnswersRound, MayBeLate, EndsRound, IsOfOneOf, fault_in, numbers}
 use Rattle.counter_http.specs.together.Standing.{AreRefused, StandsHere}
 use Rattle.counter_http.specs.together.Submitting.{Gathers, SubmitsBatch}
 use Rattle.counter_http.specs.Figures.{Counts}
@@ -71,7 +71,7 @@ pub round_submitted : {C R W X Y : Type 0} (seen : C → Seen) {reason : Fault �
     (batch : Batch) {x : X} (result : Result Y Fault)
     → (g : Gathers seen reason known (figures_at here t seconds) old mid here one batch (Ok x))
     → (s : SubmitsBatch seen reason known k k' mid new one two t t' (length batch.records.items) result)
-    → OnOk result (AllMoveOn here two s.did.posts)
+    → AllMoveOn (MayBeLate reason result s.did.posts s.did.refused) here two (g.reads ++ s.did.posts)
     → AnswersRound seen reason known k k' old new here two t t' seconds result
 round_submitted seen {reason} {known} old mid new here one two {t} {t'} seconds batch result g s moves =
     let d = s.did in
@@ -152,7 +152,7 @@ round_refused {Y = Y} seen {reason} {known} old new here one t seconds batch why
       figured = refl;
       counts = λ h log shown. subst (λ (cs : List Command). Counts t t (replies_to log cs) 0)
           (sym (only_posts (figures_at here t seconds) g.reads [] g.are_reads)) (counts_none t);
-      moves = tt;
+      moves = λ p x y at at'. inr (inr (inr (inl g.none_posted)));
       refused = g.refused;
       some = g.some;
       dated = λ read. absurd (omega (arith, read));
@@ -226,7 +226,7 @@ round_err a = record {
   whose_refused = a.whose_refused;
   are_told = a.are_told;
   fare = a.fare;
-  moves = tt;
+  moves = a.moves;
   clock = a.clock;
   stood = a.stood;
   honest_first = a.honest_first;

@@ -1,17 +1,16 @@
 -- Senders that are answered one after another, and how all clients stand then.
-use Rattle.std.proofs.Common.{◌≡◌, ◌<◌, ℕ, suc, List, [], ◌∷◌, ◌++◌, arith, length, slice_set, Some}
+use Rattle.std.proofs.Common.{◌≡◌, ℕ, suc, List, [], ◌∷◌, ◌++◌, length, slice_set, Some}
 use Rattle.std.proofs.Common.{refl, sym, ap, subst, ◌∙◌, append_assoc, append-nil, inl, inr, true}
-use Rattle.std.specs.{Prelude.◌≢◌, Prelude.◌⊎◌, List.AllByRecursion, List.slice_get}
+use Rattle.std.specs.{Prelude.◌≢◌, List.AllByRecursion, List.slice_get}
 use Rattle.std.proofs.lemmas.List.{length-set}
 use Rattle.message_records.specs.believed.Spelling.{reply_spelling}
 use Rattle.posting_rules.specs.declared.fault.Fault.{Fault}
-use Rattle.posting_rules.specs.declared.fault.Fault.TheVariants as fault
 use Rattle.posting_rules.specs.believed.{Commands.Command, Commands.Post, Counter.Seen, Counter.ShowsLog, Entries.reply}
 use Rattle.posting_rules.specs.believed.Runs.{followed_by, posts, replies_to}
 use Rattle.posting_rules.proofs.Sequence.{after-append}
 use Rattle.counter_http.specs.Connections.{Known}
 use Rattle.counter_http.specs.together.Order.{Step, is_posted_under, submitted_by}
-use Rattle.counter_http.specs.together.Rounds.{AllDiffer, IsOfOneOf, LacksMemory, numbers}
+use Rattle.counter_http.specs.together.Rounds.{AllDiffer, IsOfOneOf, numbers}
 use Rattle.counter_http.specs.together.Standing.{AnswersRecord, AreRefused, HasEndedWith, StandsHere, StandsRefused}
 use Rattle.counter_http.specs.together.Submitting.{AnswersAt, AnswersEach, AreApart, AreGiven, GivesAt, IsElsewhere, RefusesAt}
 use Rattle.counter_http.specs.together.Submitting.{RefusesEach}
@@ -319,28 +318,6 @@ told_each {R} {W} {known} {k} {c} {c'} {steps} moment here here' (s ∷ ss) (r �
           (told_each moment mid here' ss rs why later apart.1 (differ_still _ _ same all) more p there.0 x' there.1 at'
           (refused_one here mid s r why g.0 one p x there.0 at there.1 is)),
     )
-
--- the first was told that memory was refused
-lacks_memory : {R W : Type 0} {old : Client R W} (new : Client R W) {text : List ℕ}
-    → HasEndedWith old new text (parting.Bank fault.Memory)
-    → (new.parting ≡ Some parting.Memory) ⊎ (new.parting ≡ Some (parting.Bank fault.Memory))
-lacks_memory new (inl ended) = inr ended.parting
-lacks_memory new (inr lost) = inl lost.parting
-
-pub told_first : {R W : Type 0} (here here' : List (Client R W)) (ss : List Sender) (rs : List (List ℕ)) (why : Fault)
-    → why ≡ fault.Memory → AreGiven here ss rs → AreApart ss → RefusesEach here here' ss why → 0 < length rs
-    → LacksMemory here'
-told_first here here' [] [] why e g apart a some = absurd (omega (arith, some))
-told_first here here' [] (r ∷ rs) why e g apart a some = absurd g
-told_first here here' (s ∷ ss) [] why e g apart a some = absurd g
-told_first {R} {W} here here' (s ∷ ss) (r ∷ rs) why e g apart (mid, one, more) some = record {
-  place = s.place;
-  client = one.after;
-  at = refused_elsewhere mid here' ss why s.place more apart.0
-      ∙ ap (λ (cs : List (Client R W)). slice_get cs s.place) one.is ∙ at_same here s.place one.before one.after one.at;
-  why = lacks_memory {old = one.before} one.after (subst (λ (f : Fault). HasEndedWith one.before one.after
-      (answer_text (bare 503) s.head.shows_body true) (parting.Bank f)) e one.tells);
-}
 
 -- ---- the chain, one sender more
 

@@ -1,15 +1,14 @@
 -- Messages in one order, and those of one client among them.
-use Rattle.std.proofs.Common.{◌≡◌, ℕ, List, [], ◌∷◌, ◌++◌, Bool, true, false, None, Option, refl, sym, ap, ◌∙◌, eqb}
+use Rattle.std.proofs.Common.{◌≡◌, ℕ, List, [], ◌∷◌, ◌++◌, Bool, true, false, refl, sym, ap, ◌∙◌, eqb}
 use Rattle.std.proofs.Common.{eq-eqb}
 use Rattle.std.specs.{Prelude.◌≢◌, List.AllByRecursion}
 use Rattle.std.proofs.lemmas.{Bool.ne_eqb, List.map-append, List.Concat.flat_map-append}
 use Rattle.posting_rules.specs.{believed.Commands.Command, believed.Runs.followed_by}
 use Rattle.posting_rules.proofs.Sequence.{after-append}
 use Rattle.counter_http.specs.Figures.{answer_told}
-use Rattle.counter_http.specs.believed.Answers.{asked_by, answer_of}
-use Rattle.counter_http.specs.declared.figures.Figures.{Figures}
+use Rattle.counter_http.specs.believed.Answers.{asked_by}
 use Rattle.counter_http.specs.together.Order.{Step, answers_at, if_own, of_client, submitted_by, turn_in, turns_of}
-use Rattle.counter_http.specs.believed.Turns.{Turn, answers_to, commands_in, commands_of}
+use Rattle.counter_http.specs.believed.Turns.{Turn, commands_in, commands_of}
 
 pub submitted-append : (ss ts : List Step) → submitted_by (ss ++ ts) ≡ submitted_by ss ++ submitted_by ts
 submitted-append ss ts =
@@ -60,20 +59,6 @@ no_answers i log (t ∷ ts) all =
 pub all_of : (i : ℕ) (ts : List Step) → AllByRecursion (OfOne i) ts → of_client i ts ≡ turns_of ts
 all_of i [] all = refl
 all_of i (t ∷ ts) all = rw (eq-eqb t.client i all.0) (ap (λ (x : List Turn). t.turn ∷ x) (all_of i ts all.1))
-
--- it asked for no figures
-abbrev pub IsUntold : Step → Type 0
-IsUntold s = s.figures ≡ None
-
-pub all_answers : (i : ℕ) (log : List Command) (ts : List Step) → AllByRecursion (OfOne i) ts
-    → AllByRecursion IsUntold ts → answers_at i log ts ≡ answers_to log (turns_of ts)
-all_answers i log [] all untold = refl
-all_answers i log (t ∷ ts) all untold =
-    rw (eq-eqb t.client i all.0)
-    (ap (λ (figures : Option Figures). answer_told figures log (asked_by t.turn.message)
-    ∷ answers_at i (followed_by log (commands_in t.turn)) ts) untold.0
-    ∙ ap (λ (x : List (List ℕ)). answer_of log (asked_by t.turn.message) ∷ x)
-    (all_answers i (followed_by log (commands_in t.turn)) ts all.1 untold.1))
 
 -- one alone, whether it is told figures or not
 pub one_answer : (i : ℕ) (log : List Command) (t : Step) → t.client ≡ i

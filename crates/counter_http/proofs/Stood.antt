@@ -38,7 +38,7 @@ begins_less xs ys text e =
 
 -- ---- why it was parted from
 
-pub stands_of : {has_ended : Type 0} {own lost : List Turn} {rest : List ℕ} {last : List (List ℕ)} (p : Parting)
+unfoldable pub stands_of : {has_ended : Type 0} {own lost : List Turn} {rest : List ℕ} {last : List (List ℕ)} (p : Parting)
     → PartsAs p has_ended own lost rest last → Stands has_ended own lost rest last
 stands_of parting.Served is = Walk_ended is
 stands_of parting.Read is = Goes_on (record { stays = is.stays; none_lost = is.none_refused; nothing = is.nothing })

@@ -13,10 +13,10 @@ use Rattle.posting_rules.proofs.Sequence.{replies_to-append}
 use Rattle.posting_core.specs.Stream.{IsOfCall}
 use Rattle.posting_core.proofs.StreamedBatches.{all_more}
 use Rattle.counter_http.specs.Connections.{Known}
-use Rattle.counter_http.specs.together.Order.{AreCommits, Step, clients_of, is_posted_under, submitted_by}
+use Rattle.counter_http.specs.together.Order.{AreCommits, HasSpared, Step, clients_of, is_posted_under, submitted_by}
 use Rattle.counter_http.specs.Figures.{Counts}
 use Rattle.counter_http.specs.declared.figures.Tally.{Tally}
-use Rattle.counter_http.specs.together.Rounds.{AllDiffer, IsOfOneOf, LacksMemory, fault_in, numbers}
+use Rattle.counter_http.specs.together.Rounds.{AllDiffer, IsOfOneOf, fault_in, numbers}
 use Rattle.counter_http.specs.together.Standing.{AreRefused, StandsHere}
 use Rattle.counter_http.specs.together.Submitting.{AnswersEach, AreApart, AreGiven, AreSubmitted}
 use Rattle.counter_http.specs.together.Submitting.{RefusesEach}
@@ -30,7 +30,7 @@ use Rattle.counter_http.proofs.FaredEach.{all_among, all_spared, fare_answered, 
 use Rattle.counter_http.proofs.Fronts.{stands_after}
 use Rattle.counter_http.proofs.Placed.{beside_none, beside_then, found_too, takes_then}
 use Rattle.counter_http.proofs.Posted.{answered_each, numbers_all_answered, numbers_all_refused, refused_each}
-use Rattle.counter_http.proofs.Posted.{steps_at, steps_long, steps_posted, steps_submit, steps_whose, told_each, told_first}
+use Rattle.counter_http.proofs.Posted.{steps_at, steps_long, steps_posted, steps_submit, steps_whose, told_each}
 use Rattle.counter_http.proofs.Steps.{submitted-append}
 
 -- ---- no record
@@ -50,7 +50,8 @@ submitted_nothing seen readings bank here t = record {
   some = tt;
   together = tt;
   few = omega arith;
-  moves = λ some. absurd (omega (arith, some));
+  moves = inl (omega arith);
+  whole = tt;
   dated = λ some. absurd (omega (arith, some));
   beside = beside_none seen bank bank here (λ h. h);
   whose_refused = tt;
@@ -66,7 +67,14 @@ submitted_nothing seen readings bank here t = record {
   why = tt;
 }
 
--- memory was refused for a call, and no client was told
+-- memory was refused for a call
+pub spared_by : {C K X : Type 0} {seen : C → Seen} {contents : C → K} {reason : Fault → C → C → Type 0} {old new : C}
+    {cs : List Command} (why : Fault) → why ≡ fault.Memory → IsCounterCall {X = X} seen contents reason old new cs (Err why)
+    → HasSpared reason
+spared_by {reason = reason} {old} {new} why e call =
+    record { before = old; after = new; why = subst (λ (f : Fault). reason f old new) e call.why }
+
+-- and no client was told
 pub spared_all : {C K R W X : Type 0} (seen : C → Seen) (contents : C → K) (reason : Fault → C → C → Type 0)
     {known : R × W → Known} (readings : List ℕ) (old new : C) (here : List (Client R W)) (cs : List Command)
     (t : Tally) (why : Fault) → why ≡ fault.Memory → IsCounterCall {X = X} seen contents reason old new cs (Err why)
@@ -83,7 +91,8 @@ spared_all {X = X} seen contents reason readings old new here cs t why e it =
       some = tt;
       together = tt;
       few = omega arith;
-      moves = λ some. absurd (omega (arith, some));
+      moves = inl (omega arith);
+      whole = tt;
       dated = λ some. absurd (omega (arith, some));
       beside = beside_none seen old new here call.honest;
       whose_refused = tt;
@@ -133,7 +142,8 @@ module _ {C K R W X : Type 0} (seen : C → Seen) (contents : C → K) (reason :
     some = tt;
     together = steps_posted moment here ss rs g;
     few = omega (arith, steps_long moment here ss rs g);
-    moves = λ some. inl (omega (arith, steps_long moment here ss rs g, some));
+    moves = inl (omega (arith, steps_long moment here ss rs g));
+    whole = tt;
     dated = λ some. inl (omega (arith, steps_long moment here ss rs g, some));
     beside = record {
       whose = steps_whose moment here ss rs g;
@@ -170,7 +180,8 @@ module _ {C K R W X : Type 0} (seen : C → Seen) (contents : C → K) (reason :
     some = λ none. absurd (omega (arith, some, steps_long moment here ss rs g, ap length none));
     together = tt;
     few = omega arith;
-    moves = λ given. tt;
+    moves = tt;
+    whole = inl (omega (arith, steps_long moment here ss rs g));
     dated = λ given. inr (inr (omega (arith, steps_long moment here ss rs g, some)));
     beside = record {
       whose = tt;
@@ -211,7 +222,8 @@ module _ {C K R W X : Type 0} (seen : C → Seen) (contents : C → K) (reason :
         some = tt;
         together = tt;
         few = omega arith;
-        moves = λ some. inr (told_first here here' ss rs why e g apart chain some);
+        moves = inr (record { before = old; after = new; why = call.why });
+        whole = tt;
         dated = λ some. inr (inl (record { before = old; after = new; why = call.why }));
         beside = record {
           whose = tt;
@@ -243,11 +255,12 @@ why_then seen reason old mid new cs (Err f) takes honest idle (inl call) =
     inl (refused_after seen reason old mid new cs takes honest idle f call)
 why_then seen reason old mid new cs (Err f) takes honest idle (inr own) = inr own
 
-more_posted : {R W X : Type 0} (here : List (Client R W)) (ss ts : List Step) (result : Result X Fault)
-    → OnOk result ((0 < length ts) ⊎ LacksMemory here) → OnOk result ((0 < length (ss ++ ts)) ⊎ LacksMemory here)
-more_posted here ss ts (Ok x) (inl some) = inl (omega (arith, length-append ss ts, some))
-more_posted here ss ts (Ok x) (inr lacks) = inr lacks
-more_posted here ss ts (Err f) none = tt
+more_moved : {P X : Type 0} (ss ts : List Step) (n m : ℕ) (result : Result X Fault) → (n ≤ length ss) ⊎ P
+    → OnOk result ((m ≤ length ts) ⊎ P) → OnOk result ((n + m ≤ length (ss ++ ts)) ⊎ P)
+more_moved ss ts n m (Ok x) (inl some) (inl more) = inl (omega (arith, length-append ss ts, some, more))
+more_moved ss ts n m (Ok x) (inl some) (inr spared) = inr spared
+more_moved ss ts n m (Ok x) (inr spared) more = inr spared
+more_moved ss ts n m (Err f) first none = tt
 
 more_dated : {P : Type 0} (ss ts : List Step) → (0 < length ts) ⊎ P → (0 < length (ss ++ ts)) ⊎ P
 more_dated ss ts (inl some) = inl (omega (arith, length-append ss ts, some))
@@ -260,9 +273,10 @@ positive (x ∷ xs) some = omega arith
 pub submitted_then : {C R W X Y : Type 0} (seen : C → Seen) {reason : Fault → C → C → Type 0} {known : R × W → Known}
     (readings : List ℕ) (old mid new : C) (here one two : List (Client R W)) {t u v : Tally} (n m : ℕ) {x : X}
     (result : Result Y Fault) → AreSubmitted seen reason known readings old mid here one t u n (Ok x)
-    → AreSubmitted seen reason known readings mid new one two u v m result → (0 < n + m → 0 < m)
+    → (b : AreSubmitted seen reason known readings mid new one two u v m result) → (0 < n + m → 0 < m)
+    → IfErr result (λ f. (n + m ≤ length b.refused) ⊎ HasSpared reason)
     → AreSubmitted seen reason known readings old new here two t v (n + m) result
-submitted_then {C = C} seen {reason} {known} readings old mid new here one two {t} {u} {v} n m result a b some =
+submitted_then {C = C} seen {reason} {known} readings old mid new here one two {t} {u} {v} n m result a b some whole =
     let took : Takes (seen old) (seen mid) (submitted_by a.posts) =
     subst (λ (c : C). Takes (seen old) (seen c) (submitted_by a.posts)) (sym a.ends.1) a.takes in
     let honest : (seen mid).honest → (seen old).honest = λ h. a.honest_first (a.honest h) in
@@ -286,7 +300,8 @@ submitted_then {C = C} seen {reason} {known} readings old mid new here one two {
       some = b.some;
       together = all_more (is_posted_under readings) a.posts b.posts a.together b.together;
       few = omega (arith, length-append a.posts b.posts, a.few, b.few);
-      moves = λ given. more_posted two a.posts b.posts result (b.moves (some given));
+      moves = more_moved a.posts b.posts n m result a.moves b.moves;
+      whole = whole;
       dated = λ given. more_dated a.posts b.posts (b.dated (some given));
       beside = beside_then seen old mid new here one two a.posts b.posts took honest a.beside b.beside;
       whose_refused = subst (λ (ns : List ℕ). AllByRecursion (IsOfOneOf ns) b.refused) a.beside.same b.whose_refused;
@@ -316,17 +331,23 @@ pub submitted_after : {C R W X Y : Type 0} (seen : C → Seen) {reason : Fault �
     (result : Result Y Fault) → AreSubmitted seen reason known readings old mid here one t u 0 (Ok x)
     → AreSubmitted seen reason known readings mid new one two u v m result
     → AreSubmitted seen reason known readings old new here two t v m result
-submitted_after seen {reason} {known} readings old mid new here one two {t} {u} {v} m result a b =
+submitted_after {Y = Y} seen {reason} {known} readings old mid new here one two {t} {u} {v} m result a b =
     let same : 0 + m ≡ m = omega arith in
     subst (λ (n : ℕ). AreSubmitted seen reason known readings old new here two t v n result) same
-    (submitted_then seen readings old mid new here one two 0 m result a b (λ some. omega (arith, some)))
+    (submitted_then seen readings old mid new here one two 0 m result a b (λ some. omega (arith, some)) (whole result b.whole))
+  where
+    whole : (r : Result Y Fault) → IfErr r (λ f. (m ≤ length b.refused) ⊎ HasSpared reason)
+        → IfErr r (λ f. (0 + m ≤ length b.refused) ⊎ HasSpared reason)
+    whole (Ok y) none = tt
+    whole (Err f) (inl all) = inl (omega (arith, all))
+    whole (Err f) (inr spared) = inr spared
 
 -- fewer are no more, where one was refused
 pub submitted_few : {C R W X : Type 0} {seen : C → Seen} {reason : Fault → C → C → Type 0} {known : R × W → Known}
-    {readings : List ℕ} {old new : C} {here here' : List (Client R W)} {t t' : Tally} {f : Fault} (n m : ℕ) → n ≤ m
+    {readings : List ℕ} {old new : C} {here here' : List (Client R W)} {t t' : Tally} {f : Fault} (n m : ℕ) → n ≤ m → HasSpared reason
     → AreSubmitted {X = X} seen reason known readings old new here here' t t' n (Err f)
     → AreSubmitted {X = X} seen reason known readings old new here here' t t' m (Err f)
-submitted_few n m le a = record {
+submitted_few n m le spared a = record {
   posts = a.posts;
   commits = a.commits;
   are_commits = a.are_commits;
@@ -335,7 +356,8 @@ submitted_few n m le a = record {
   some = a.some;
   together = a.together;
   few = omega (arith, a.few, le);
-  moves = λ some. tt;
+  moves = tt;
+  whole = inr spared;
   dated = λ given. inr (inr (positive a.refused a.some));
   beside = a.beside;
   whose_refused = a.whose_refused;

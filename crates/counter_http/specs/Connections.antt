@@ -1,5 +1,5 @@
 -- What is known of the two ends of a connection.
-use Rattle.std.specs.Prelude.{ℕ, List, Option, None}
+use Rattle.std.specs.Prelude.{ℕ, List, Option}
 use Rattle.posting_core.specs.believed.EndCalls.{ReadCall}
 use Rattle.posting_core.specs.EndCalls.{Beside, WriteCall}
 
@@ -11,10 +11,6 @@ pub record Known : Type 0 where
   pub beside : Option (List Beside)
   pub writer : Option (List ℕ)
   pub writes : Option (List WriteCall)
-
--- no clause says what a stream of the system gives or takes
-abbrev pub unknown : Known
-unknown = record { reader = None; reads = None; beside = None; writer = None; writes = None }
 
 -- of a pair of ends of any kind, whose ghosts these are
 abbrev pub known_ends : {R W : Type 0} → (R → Option (List ℕ)) → (R → Option (List ReadCall))

@@ -1,6 +1,5 @@
 pub mod Order
 pub mod Serving
-pub mod Listening
 pub mod Faring
 pub mod Standing
 pub mod Rounds

@@ -1,9 +1,10 @@
 //! The records that are submitted together: at most one of each client.
-ghost use Rattle.std.specs.Prelude.{◌≡◌, ◌<◌, ◌≤◌, ◌∷◌, [], length};
+ghost use Rattle.std.specs.Prelude.{◌≡◌, ◌<◌, ◌≤◌, ◌∷◌, ◌⊎◌, [], length};
 ghost use Rattle.posting_core.specs.believed.Clock.{AreReadings};
 ghost use Rattle.counter_http.specs.Connections.{known_ends};
+ghost use Rattle.counter_http.specs.together.Order.{HasSpared};
 ghost use Rattle.counter_http.specs.together.Rounds.{AllDiffer, numbers};
-ghost use Rattle.counter_http.specs.together.Submitting.{AddsIfRoom, AnswersAt, AnswersEach, AreSubmitted};
+ghost use Rattle.counter_http.specs.together.Submitting.{AddsIfRoom, AllGo, AnswersAt, AnswersEach, AreSubmitted};
 ghost use Rattle.counter_http.specs.together.Submitting.{ChangesAt, GivesAt, IsBatchOf, IsNextPlace, RefusesAt, RefusesEach, SubmitsBatch};
 
 use crate::client::{Client, Head, Record};
@@ -147,7 +148,7 @@ impl Batch {
         ensures submits { SubmitsBatch C.seen C.reason (known_ends R.remaining R.calls R.beside W.contents W.calls)
             (K.readings clock.old) (K.readings clock.new) bank.old bank.new here.old.items here.new.items
             tally.old tally.new (length self.now.records.items) result }
-        ensures none { length self.now.records.items ≡ 0 → here.new.items ≡ here.old.items }
+        ensures each { AllGo here.old.items here.new.items self.now.senders.items ⊎ HasSpared C.reason }
         ensures spares { C.spares bank.old bank.new }
     {
         let records = self.records.as_slice();
@@ -195,7 +196,8 @@ impl Batch {
         }
     }
 
-    // Submits the records one by one, answers each sender at once, and counts the replies.
+    // Submits the records one by one, since the bank had no memory for them together, answers each sender at once, and
+    // counts the replies.
     fn submit_each<R: Source + Drop, W: Sink + Drop, C: Counter>(
         &self,
         here: &mut Vec<Client<R, W>>,
@@ -204,6 +206,7 @@ impl Batch {
         bank: &mut C,
     ) -> Result<(), Fault>
         requires others { AllDiffer (numbers here.old.items) }
+        requires spared { HasSpared C.reason }
         requires gives { IsBatchOf here.old.items self.now }
         ensures submits { AreSubmitted C.seen C.reason (known_ends R.remaining R.calls R.beside W.contents W.calls)
             (moment ∷ []) bank.old bank.new here.old.items here.new.items tally.old tally.new

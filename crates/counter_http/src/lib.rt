@@ -39,7 +39,7 @@
 //! refused, or the bank refused a call, which is answered by a 503.
 //!
 //! Read next: [`serve_connection`]; `specs/believed/Messages`, what a message is, and `specs/believed/Paths`, where each leads;
-//! [`serve_connections`], which serves the clients of a listener at once.
+//! [`serve_together`], which serves clients at once; [`TcpClients`], those of a listener.
 #![tactic(auto)]
 
 mod answers;
@@ -48,7 +48,6 @@ mod client;
 mod clients;
 mod closing;
 mod connection;
-mod connections;
 mod fault;
 mod fields;
 mod figures;
@@ -74,11 +73,10 @@ mod together;
 pub use client::Client;
 pub use clients::{Clients, Readiness};
 pub use connection::{Served, serve_connection};
-pub use connections::serve_connections;
 pub use fault::ServeFault;
 pub use laws::answers_have_no_moment;
 pub use limits::{MAX_BODY, MAX_FIELDS, MAX_HEAD};
 pub use listen_fault::ListenFault;
-pub use serve_watch::ServeWatch;
+pub use serve_watch::{ServeWatch, Unwatched};
 pub use tcp_clients::TcpClients;
 pub use together::{MOST_CLIENTS, serve_together};

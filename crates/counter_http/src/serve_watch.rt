@@ -19,7 +19,7 @@ pub trait ServeWatch {
 
 /// Nobody who watches.
 #[derive(Drop)]
-pub(crate) struct Unwatched;
+pub struct Unwatched;
 
 impl ServeWatch for Unwatched {
     fn served(&mut self, _connected: usize, _postings: u64) {}

@@ -4,7 +4,7 @@
 ghost use Rattle.std.specs.Prelude.{◌≡◌, ◌≢◌, ◌<◌, ◌≤◌, ℕ, [], OnOk, length};
 ghost use Rattle.std.specs.List.{AllByRecursion, AllZip};
 ghost use Rattle.counter_http.specs.Connections.{known_ends};
-ghost use Rattle.counter_http.specs.together.Crowd.{Closes, GoesOn, HaveMoved, ServesRounds, TakesIn};
+ghost use Rattle.counter_http.specs.together.Crowd.{Closes, GoesOn, HaveMoved, IsLeftOf, ServesRounds, TakesIn};
 ghost use Rattle.counter_http.specs.together.Rounds.{AllDiffer, AnswersRound, given_up, numbers};
 ghost use Rattle.counter_http.specs.together.Standing.{Writes};
 ghost use Rattle.counter_http.specs.together.Submitting.{Gathers, IsBatchOf, IsElsewhere, IsFrom, LooksAt, LooksOver, MayAdd};
@@ -216,8 +216,9 @@ fn answer<R: Source + Drop, W: Sink + Drop, K: Clock, C: Followed>(
 
 // Closes the connections of those for whom nothing more is done.
 fn part<D: Clients>(listener: &mut D, here: &mut Vec<Client<D::Reader, D::Writer>>)
-    ensures { (came : ℕ) → HaveMoved ⊥ [] (record { calls = D.calls listener.old; came = came; here = here.old.items })
+    ensures leave { (came : ℕ) → HaveMoved ⊥ [] (record { calls = D.calls listener.old; came = came; here = here.old.items })
         (record { calls = D.calls listener.new; came = came; here = here.new.items }) }
+    ensures rest { AllByRecursion (IsLeftOf here.old.items) here.new.items }
 {
     let mut place = 0;
     'clients: while place < here.len() {

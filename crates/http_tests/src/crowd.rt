@@ -17,7 +17,8 @@ pub struct Teller<'a> {
     pub most: usize,
     pub piece: usize,
     pub write_fault: Option<ErrorKind>,
-    /// It is given up in this round.
+    /// It waits to be taken in from this round on, and is given up in that one.
+    pub comes: u64,
     pub patience: u64,
     /// What it is written: one answer after another.
     pub answers: [&'a [u8]; 3],
@@ -33,6 +34,7 @@ impl<'a> Teller<'a> {
             most: 1000,
             piece: 1000,
             write_fault: None,
+            comes: 0,
             patience: u64::MAX,
             answers,
         }
@@ -81,12 +83,24 @@ pub struct Closed {
     pub taken: Vec<u8>,
 }
 
-// Clients that all come in the first round.
+/// How a serving went.
+#[derive(Drop)]
+pub struct Played {
+    /// The clients, as their connections were closed.
+    pub closed: Vec<Closed>,
+    pub ended: Result<(), ListenFault>,
+    /// Each wait was for all who were here.
+    pub waits_for_all: bool,
+}
+
+// Clients that come, each in its round or later.
 #[derive(Drop)]
 struct Crowd<'a> {
     alloc: Global,
     tellers: &'a [Teller<'a>],
     round: u64,
+    here: usize,
+    waits_for_all: bool,
     closed: Vec<Closed>,
 }
 
@@ -102,6 +116,7 @@ impl<'a> Clients for Crowd<'a> {
         readiness: &mut Vec<Readiness>,
     ) {
         self.round = self.round.saturating_add(1);
+        self.waits_for_all = self.waits_for_all && clients.len() == self.here;
         readiness.clear();
         for client in clients {
             let found = match self.tellers.get(client.number() as usize) {
@@ -116,31 +131,37 @@ impl<'a> Clients for Crowd<'a> {
 
     fn open(&mut self, number: u64) -> io::Result<Option<(CutReader<'a>, SlowWriter)>> {
         match self.tellers.get(number as usize) {
-            Some(teller) => Ok(Some((teller.reader(), teller.writer(self.alloc)))),
-            None => Ok(None),
+            Some(teller) if teller.comes <= self.round => {
+                self.here = self.here.saturating_add(1);
+                Ok(Some((teller.reader(), teller.writer(self.alloc))))
+            }
+            _ => Ok(None),
         }
     }
 
     fn close(&mut self, number: u64, _reader: CutReader<'a>, writer: SlowWriter) {
+        self.here = self.here.saturating_sub(1);
         let taken = writer.writer.taken;
         let _ = self.closed.push(Closed { number, taken });
     }
 }
 
-/// Serves clients at once, by a clock at the moment 0: what each took, and how the serving ended.
-pub fn serve<'a>(
-    alloc: Global,
-    tellers: &'a [Teller<'a>],
-    bank: &mut FailingBank,
-) -> (Vec<Closed>, Result<(), ListenFault>) {
+/// Serves clients at once, by a clock at the moment 0.
+pub fn serve<'a>(alloc: Global, tellers: &'a [Teller<'a>], bank: &mut FailingBank) -> Played {
     let mut crowd = Crowd {
         alloc,
         tellers,
         round: 0,
+        here: 0,
+        waits_for_all: true,
         closed: Vec::new(alloc),
     };
     let mut clock = StoredClock::new(Vec::new(alloc));
     let count = tellers.len() as u64;
     let ended = serve_together(alloc, &mut crowd, count, &mut clock, bank);
-    (crowd.closed, ended)
+    Played {
+        closed: crowd.closed,
+        ended,
+        waits_for_all: crowd.waits_for_all,
+    }
 }

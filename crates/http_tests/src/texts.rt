@@ -72,6 +72,9 @@ pub const READS_BETWEEN: &[u8] = b"POST /post HTTP/1.1\r\nContent-Length: 100\r\
     POST /post HTTP/1.1\r\nContent-Length: 100\r\n\r\n\
     DC01000000100001000000010000010000000002-0000000700                                                 ";
 
+/// A message that asks for account 1.
+pub const BALANCE: &[u8] = b"GET /account/1 HTTP/1.1\r\n\r\n";
+
 /// The balance of account 1 after the first record.
 pub const BALANCE_ANSWER: &[u8] =
     b"HTTP/1.1 200 OK\r\nContent-Type: text/plain\r\nContent-Length: 22\r\n\r\naccount 1 balance 500\n";

@@ -1,8 +1,8 @@
 //! Clients who are served at once: each gets the answers to what it sent, however the bytes of all interleave, and
 //! what it may have where the bank fails.
-use crate::crowd::{Closed, Teller, serve};
+use crate::crowd::{Closed, Played, Teller, serve};
 use crate::texts::{
-    BAD, BALANCE_ANSWER, CLOSES, FIGURES_ANSWER, FIRST_AND_REMOTE, FIRST_ANSWER, FIRST_TWICE,
+    BAD, BALANCE, BALANCE_ANSWER, CLOSES, FIGURES_ANSWER, FIRST_AND_REMOTE, FIRST_ANSWER, FIRST_TWICE,
     HEALTH_ANSWER, IS_REFUSED, LAST_HEALTH_ANSWER, NO_ACCOUNT_ANSWER, OTHER_ANSWER,
     OTHER_LAST_ANSWER, OTHER_TWO, POSTS_AND_WATCHES, READS_BETWEEN, REMOTE_ANSWER, UNAVAILABLE,
 };
@@ -71,11 +71,44 @@ fn are_answered(rt: &impl Abort, tellers: &[Teller], serving: &Serving, closed: 
 // Serves clients on a new bank, and gives how many calls it took.
 fn play(rt: &(impl Abort + Alloc<A = Global>), tellers: &[Teller], serving: &Serving) -> u64 {
     let mut bank = new_bank(rt, serving);
-    let (closed, ended) = serve(rt.alloc(), tellers, &mut bank);
+    let Played {
+        closed,
+        ended,
+        waits_for_all,
+    } = serve(rt.alloc(), tellers, &mut bank);
     assert!(rt; ended.err() == serving.fault.map(ListenFault::Bank));
+    assert!(rt; waits_for_all);
     are_answered(rt, tellers, serving, &closed);
     assert!(rt; balances(&mut bank.bank) == Some(serving.balances));
     serving.calls.saturating_sub(bank.left)
+}
+
+// A client that asks once its own record was answered on another connection sees it; and twelve clients are served.
+#[test]
+fn who_asks_later_sees_what_was_posted(rt: HostRuntime) {
+    let serving = Serving {
+        balances: (500, 0),
+        ..WELL
+    };
+    let first = Teller::new(&FIRST_TWICE[..144], [FIRST_ANSWER, b"", b""]);
+    let later = Teller {
+        comes: 3,
+        ..Teller::new(BALANCE, [BALANCE_ANSWER, b"", b""])
+    };
+    play(&rt, &[first, later], &serving);
+    play(&rt, &[first; 12], &serving);
+}
+
+// Nobody waits for one that is slow.
+#[test]
+fn who_is_slow_holds_up_no_other(rt: HostRuntime) {
+    let quick = Teller::new(&FIRST_TWICE[..144], [FIRST_ANSWER, b"", b""]);
+    let slow = Teller { piece: 7, ..quick };
+    let mut bank = new_bank(&rt, &WELL);
+    let tellers = [slow, quick, quick];
+    let played = serve(rt.alloc(), &tellers, &mut bank);
+    let last = played.closed.as_slice().last().expect(&rt, "a client");
+    assert!(rt; played.ended.is_ok() && last.number == 0);
 }
 
 // Two clients, of whom each sends two records, in two pieces: the one at each cut, the other before a whole message,

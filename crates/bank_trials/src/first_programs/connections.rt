@@ -1,5 +1,5 @@
-//! The first program of `counter_http/src/connections`.
-use counter_http::serve_connections;
+//! The first program of `counter_http/src/tcp_clients`.
+use counter_http::{TcpClients, Unwatched, serve_together};
 use message_records::Branch;
 use posting_core::{Counter, PlainBank, StoredClock};
 use std::io::{self, Read, Write};
@@ -20,7 +20,8 @@ pub fn first_connections<R: Read, W: Write>(
     let client = TcpStream::connect(rt, listener.local_addr()?)?;
     io::copy(input, &mut &client)?;
     client.shutdown(Shutdown::Write)?;
-    serve_connections(rt, listener, 2, &mut clock, &mut bank)?;
+    let mut clients = TcpClients::new(rt.alloc(), listener, rt, Unwatched)?;
+    serve_together(rt.alloc(), &mut clients, 2, &mut clock, &mut bank)?;
     io::copy(&mut &silent, output)?; // nothing
     io::copy(&mut &client, output)?;
     Ok(())

@@ -13,17 +13,17 @@ use Rattle.posting_core.specs.believed.Clock.{AreReadings}
 use Rattle.posting_core.specs.believed.EndCalls.{GrowsBy}
 use Rattle.counter_http.specs.Clients.{ClientsCall, Gave, Gave_up, Closed}
 use Rattle.counter_http.specs.Connections.{Known}
-use Rattle.counter_http.specs.together.Order.{AreDated, AreFigured, Step, Round, IsRound, steps_of, readings_of, submitted_by}
-use Rattle.counter_http.specs.together.Faring.{IsToldSo}
+use Rattle.counter_http.specs.together.Order.{AreDated, AreFigured, BreaksOff, HasSpared, Step, Round, IsRound, steps_of, readings_of, submitted_by}
+use Rattle.counter_http.specs.together.Faring.{HasNoMore, IsToldSo}
 use Rattle.counter_http.specs.together.Reading.{Reads}
 use Rattle.counter_http.specs.together.Rounds.{IsOfOneOf, numbers}
 use Rattle.counter_http.specs.together.Standing.{AreRefused, IsNew, IsOver, IsParting, StandsHere, Writes}
 use Rattle.counter_http.specs.together.Serving.{ClientIsRefused, EndsTogether, IfBank, IsVisited, IsVisitWhy, Visit, closed_of}
 use Rattle.counter_http.specs.together.Serving.{closings, fault_of_bank, number_of, openings}
-use Rattle.counter_http.specs.together.Tracing.{AreLaps, GivesNone, HasRefused, IsCutOff, IsNoWait, Lap, calls_of, here_after}
+use Rattle.counter_http.specs.together.Tracing.{AllMoved, AreLaps, GivesNone, HasRefused, IsCutOff, IsNoWait, Lap, MayHaveMore, OnLast, calls_of, here_after}
 use Rattle.counter_http.specs.declared.client.Client.{Client}
 use Rattle.counter_http.specs.declared.listen_fault.ListenFault.{ListenFault}
-use Rattle.counter_http.specs.declared.listen_fault.ListenFault.TheVariants.{Bank, Network}
+use Rattle.counter_http.specs.declared.listen_fault.ListenFault.TheVariants.{Network}
 use Rattle.counter_http.specs.declared.together.TheConstants.{MOST_CLIENTS}
 use Rattle.counter_http.specs.declared.parting.Parting.{Parting}
 use Rattle.counter_http.specs.declared.parting.Parting.TheVariants as parting
@@ -115,6 +115,10 @@ pub record HaveMoved {R W : Type 0} (stops : Type 0) (given : List ℕ) (a b : S
   pub calls : List (ClientsCall (R × W))
   pub moves : Moves stops given scenes calls a b
 
+-- it was here before, and is not over
+abbrev pub IsLeftOf : {R W : Type 0} → (here : List (Client R W)) → Client R W → Type 0
+IsLeftOf here client = Contains here client × (IsOver client → ⊥)
+
 -- those who waited were taken in, of n as far as there is room; or an opening was refused
 pub record TakesIn {R W : Type 0} (n : ℕ) (a b : Scene R W) (result : Result (Unit {0}) ListenFault) : Type 0 where
   pub moved : HaveMoved ⊥ [] a b
@@ -180,6 +184,19 @@ pub record IsCrowd {R W : Type 0} (stops : Type 0) (given : List ℕ) (known : R
   pub all : length (all_numbers visits a.here) ≡ length (openings calls)
   pub many : length (all_numbers visits a.here) ≡ a.came
 
+-- ---- after a round
+
+-- one is to be waited for, and can't go on, or may have more
+abbrev pub IsSettled : {R W : Type 0} → (late : Type 0) → (R × W → Known) → (c c' : Seen) → List (ClientsCall (R × W))
+    → List Step → Lap (R × W) → Round → Client R W → Type 0
+IsSettled late known c c' calls steps l r client =
+    (IsOver client → ⊥) × (HasNoMore client ⊎ MayHaveMore late known c c' calls steps l r client.number)
+
+abbrev pub all_settled : {R W : Type 0} → (late : Round → Type 0) → (R × W → Known) → (c c' : Seen) → (here : List (Client R W))
+    → List (ClientsCall (R × W)) → List Step → Lap (R × W) → Round → Type 0
+all_settled late known c c' here calls steps l r =
+    AllByRecursion (IsSettled (late r) known c c' calls steps l r) here
+
 -- ---- round by round
 
 -- rounds were served, until the connections were, or a fault came; some clients may be here still
@@ -208,6 +225,9 @@ pub record ServesRounds {C R W : Type 0} (seen : C → Seen) (reason : Fault →
   pub laps : List (Lap (R × W))
   pub calls_are : calls ≡ calls_of laps
   pub are_laps : AreLaps known (seen old) (seen new) n [] [] laps rounds
+  pub moves : AllMoved (HasSpared reason) known (seen old) (seen new) [] [] laps rounds
+  pub left : IfErr result (λ fault. IfBank fault (λ f. OnLast (all_settled (λ r. BreaksOff (HasSpared reason) refused) known
+      (seen old) (seen new) here) [] [] laps rounds))
   pub network : IsCutOff result calls laps
   pub came : ℕ
   pub few : came ≤ n

@@ -93,6 +93,14 @@ pub record HasSpared {C : Type 0} (reason : Fault → C → C → Type 0) : Type
   pub after : C
   pub why : reason Memory before after
 
+-- as many records were posted in a round as are submitted together, or the bank has no memory for that
+abbrev pub FillsRound : (spared : Type 0) → (posts : List Step) → Type 0
+FillsRound spared posts = (RECORDS_PER_BATCH ≤ length posts) ⊎ spared
+
+-- the call that the bank refused last had no record in it, or as many as are submitted together, or the bank has no memory
+abbrev pub BreaksOff : (spared : Type 0) → (refused : List Step) → Type 0
+BreaksOff spared refused = (submitted_by refused ≡ []) ⊎ FillsRound spared refused
+
 -- the clock is read only where records are posted, or the bank has no memory for that
 abbrev pub IsDated : {C : Type 0} → (reason : Fault → C → C → Type 0) → Round → Type 0
 IsDated reason r = 0 < length r.readings → (0 < length r.posts) ⊎ HasSpared reason

@@ -1,25 +1,23 @@
 -- One round of clients that are served at once: what was read from them is answered. The bank is old before and
 -- new after, the clients are here before and here' after, and the clock's known readings are k and k'.
 use Rattle.std.specs.Prelude.{◌≡◌, ◌≢◌, ◌⊎◌, ◌<◌, ℕ, List, [], ◌∷◌, ◌++◌, length, map, Option, None, Some, Result, Ok, Err, IfErr}
-use Rattle.std.specs.Prelude.{AllPairs, Contains, OnOk}
+use Rattle.std.specs.Prelude.{AllPairs, Contains}
 use Rattle.std.specs.List.{AllByRecursion, slice_get}
 use Rattle.posting_rules.specs.declared.fault.Fault.{Fault}
-use Rattle.posting_rules.specs.declared.fault.Fault.TheVariants.{Memory}
 use Rattle.posting_rules.specs.believed.Commands.{Command}
 use Rattle.posting_rules.specs.believed.Counter.{Seen, ShowsLog, StandsAt, LeavesOnly, ShowsPrefix, Takes, Refuses}
 use Rattle.posting_rules.specs.believed.Runs.{replies_to}
 use Rattle.posting_core.specs.Stream.{IsOfCall}
 use Rattle.posting_core.specs.believed.Clock.{AreReadings}
 use Rattle.counter_http.specs.Connections.{Known}
-use Rattle.counter_http.specs.together.Faring.{AllFare}
-use Rattle.counter_http.specs.together.Order.{HasSpared, IsRound, Round, Step, steps_in, submitted_by}
-use Rattle.counter_http.specs.together.Standing.{AreRefused, MovesOn, StandsHere}
+use Rattle.counter_http.specs.together.Faring.{AllFare, HasNoMore}
+use Rattle.counter_http.specs.together.Order.{BreaksOff, FillsRound, HasSpared, IsRound, Round, Step, clients_of, steps_in, submitted_by}
+use Rattle.counter_http.specs.together.Standing.{AreRefused, HasMuch, StandsHere}
 use Rattle.counter_http.specs.Figures.{Counts}
 use Rattle.counter_http.specs.declared.client.Client.{Client}
 use Rattle.counter_http.specs.declared.clients.Readiness.{Readiness}
 use Rattle.counter_http.specs.declared.clients.Readiness.TheVariants as readiness
 use Rattle.counter_http.specs.declared.figures.Tally.{Tally}
-use Rattle.counter_http.specs.declared.parting.Parting.TheVariants as parting
 
 -- ---- who is here
 
@@ -68,22 +66,18 @@ AreToldAt {C} {R} {W} seen known old new here here' steps fault refused =
 
 -- ---- what was done
 
--- memory was refused for one that is here
-pub record LacksMemory {R W : Type 0} (here : List (Client R W)) : Type 0 where
-  pub place : ℕ
-  pub client : Client R W
-  pub at : slice_get here place ≡ Some client
-  pub why : (client.parting ≡ Some parting.Memory) ⊎ (client.parting ≡ Some (parting.Bank Memory))
+-- why some may have to wait for the next round: others filled this one, or the bank refused a call
+abbrev pub MayBeLate : {C X : Type 0} → (reason : Fault → C → C → Type 0) → Result X Fault → (posts refused : List Step)
+    → Type 0
+MayBeLate reason (Ok x) posts refused = FillsRound (HasSpared reason) posts
+MayBeLate reason (Err fault) posts refused = BreaksOff (HasSpared reason) refused
 
--- some of so many records were posted, where there were any and no fault came, or memory was refused
-abbrev pub PostsSome : {R W X : Type 0} → ℕ → List Step → List (Client R W) → Result X Fault → Type 0
-PostsSome n posts here result = 0 < n → OnOk result ((0 < length posts) ⊎ LacksMemory here)
-
--- each client moves on, or others were answered: records were posted, or memory was refused
-abbrev pub AllMoveOn : {R W : Type 0} → (here here' : List (Client R W)) → List Step → Type 0
-AllMoveOn {R} {W} here here' posts =
+-- each client has nothing left that can be answered, or a message of it was, or it had many answers to take first, or it may
+-- be late
+abbrev pub AllMoveOn : {R W : Type 0} → (late : Type 0) → (here here' : List (Client R W)) → (steps : List Step) → Type 0
+AllMoveOn {R} {W} late here here' steps =
     (p : ℕ) (client client' : Client R W) → slice_get here p ≡ Some client → slice_get here' p ≡ Some client'
-    → MovesOn client client' ⊎ ((0 < length posts) ⊎ LacksMemory here')
+    → HasNoMore client' ⊎ (Contains (clients_of steps) client.number ⊎ (HasMuch client ⊎ late))
 
 -- ---- a round
 
@@ -131,8 +125,8 @@ pub record AnswersRound {C R W X : Type 0} (seen : C → Seen) (reason : Fault �
       → (known_first : Known) (first : C) (steps : List Step) → Takes (seen first) (seen old) (submitted_by steps)
       → StandsHere known known_first (seen first) (seen old) steps client
       → StandsHere known known_first (seen first) (seen new) (steps ++ steps_in round) client'
-  -- where no fault came, what could be done was done
-  pub moves : OnOk result (AllMoveOn here here' round.posts)
+  -- what could be done was done
+  pub moves : AllMoveOn (MayBeLate reason result round.posts refused) here here' (steps_in round)
   -- each client whose record was refused was told so
   pub are_told : AreToldAt seen known old new here here' (steps_in round) (fault_in result) refused
   pub fare : AllFare (fault_in result) refused (steps_in round) here here'

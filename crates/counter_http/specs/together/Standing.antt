@@ -106,10 +106,14 @@ pub record StandsHere {R W : Type 0} (known : R × W → Known) (k : Known) (c c
 abbrev pub IsUpToDate : {R W : Type 0} → Client R W → Type 0
 IsUpToDate client = client.parting ≡ None → client.has_more ≡ false → BeginsWithNoMessage (unread client)
 
+-- it has more bytes of answers to take than are let wait
+abbrev pub HasMuch : {R W : Type 0} → Client R W → Type 0
+HasMuch client = UNTAKEN < length (pending client)
+
 -- nothing can be done for it now: it waits for bytes, takes many answers first, or is parted from
 abbrev pub Rests : {R W : Type 0} → Client R W → Type 0
 Rests client =
-    (client.has_more ≡ false) ⊎ ((UNTAKEN < length (pending client)) ⊎ ((p : Parting) × (client.parting ≡ Some p)))
+    (client.has_more ≡ false) ⊎ (HasMuch client ⊎ ((p : Parting) × (client.parting ≡ Some p)))
 
 -- or some of its bytes were answered
 abbrev pub MovesOn : {R W : Type 0} → Client R W → Client R W → Type 0

@@ -1,7 +1,7 @@
 -- Records that clients sent, which are submitted together or one by one, and what becomes of those clients. The
 -- bank is old before and new after, and the clients are here before and here' after.
 use Rattle.std.specs.Prelude.{◌≡◌, ◌≢◌, ◌⊎◌, ◌<◌, ◌≤◌, ◌+◌, ◌-◌, ◌^◌, ℕ, List, [], ◌∷◌, ◌++◌, length, slice_set, Option, Some}
-use Rattle.std.specs.Prelude.{Result, IfErr, ⊤, true}
+use Rattle.std.specs.Prelude.{Result, IfErr, OnOk, ⊤, true}
 use Rattle.std.specs.List.{AllByRecursion, slice_get}
 use Rattle.posting_rules.specs.declared.fault.Fault.{Fault}
 use Rattle.posting_rules.specs.declared.limits.TheConstants.{RECORDS_PER_BATCH}
@@ -11,10 +11,10 @@ use Rattle.posting_rules.specs.believed.Runs.{replies_to}
 use Rattle.posting_core.specs.Stream.{IsOfCall}
 use Rattle.posting_core.specs.believed.Clock.{AreReadings}
 use Rattle.counter_http.specs.Connections.{Known}
-use Rattle.counter_http.specs.together.Faring.{AllFare}
+use Rattle.counter_http.specs.together.Faring.{AllFare, HasNoMore}
 use Rattle.counter_http.specs.together.Order.{AreCommits, HasSpared, Step, is_posted_under, is_read_under, submitted_by}
-use Rattle.counter_http.specs.together.Rounds.{AreToldAt, EndsRound, IsOfOneOf, PostsSome, fault_in, numbers}
-use Rattle.counter_http.specs.together.Standing.{AnswersRecord, GivesRecord, HasEndedWith, MovesOn, StandsHere}
+use Rattle.counter_http.specs.together.Rounds.{AreToldAt, EndsRound, IsOfOneOf, fault_in, numbers}
+use Rattle.counter_http.specs.together.Standing.{AnswersRecord, GivesRecord, HasEndedWith, MovesOn, StandsHere, unread}
 use Rattle.counter_http.specs.Turns.{IsAsked}
 use Rattle.counter_http.specs.believed.Answers.{answer_text, bare}
 use Rattle.counter_http.specs.Figures.{Counts}
@@ -163,7 +163,8 @@ pub record AreSubmitted {C R W X : Type 0} (seen : C → Seen) (reason : Fault �
   pub some : IfErr result (λ fault. refused ≢ [])
   pub together : AllByRecursion (is_posted_under readings) posts
   pub few : length posts ≤ n
-  pub moves : PostsSome n posts here' result
+  pub moves : OnOk result ((n ≤ length posts) ⊎ HasSpared reason)
+  pub whole : IfErr result (λ fault. (n ≤ length refused) ⊎ HasSpared reason)
   pub dated : 0 < n → (0 < length posts) ⊎ (HasSpared reason ⊎ (0 < length refused))
   pub beside : AreBeside seen known old new here here' posts
   pub whose_refused : AllByRecursion (IsOfOneOf (numbers here)) refused
@@ -191,20 +192,36 @@ pub record SubmitsBatch {C R W X : Type 0} (seen : C → Seen) (reason : Fault �
 
 -- ---- what was looked at
 
-abbrev pub HoldsOne : Batch → Type 0
-HoldsOne batch = 0 < length batch.records.items
+-- one of the senders is at this place
+abbrev pub IsAmong : List Sender → ℕ → Type 0
+IsAmong [] place = ⊥
+IsAmong (sender ∷ senders) place = (sender.place ≡ place) ⊎ IsAmong senders place
 
--- the one at a place moves on, or the batch holds a record
+-- the batch has the record of the client at a place, or is full
+abbrev pub IsIn : ℕ → Batch → Type 0
+IsIn place batch = IsAmong batch.senders.items place ⊎ (RECORDS_PER_BATCH ≤ length batch.records.items)
+
+-- the one at a place moves on, or the batch has its record or is full
 pub record LooksAt {R W : Type 0} (here here' : List (Client R W)) (place : ℕ) (batch : Batch) : Type 0 where
   pub before : Client R W
   pub after : Client R W
   pub at : slice_get here place ≡ Some before
   pub is : here' ≡ slice_set here place after
-  pub moves : MovesOn before after ⊎ HoldsOne batch
+  pub moves : MovesOn before after ⊎ IsIn place batch
 
 -- and so do those at some places, one after another
 pub record LooksOver {R W : Type 0} (here here' : List (Client R W)) (from to : ℕ) (old new : Batch) : Type 0 where
   pub others : (p : ℕ) → (p < from) ⊎ (to ≤ p) → slice_get here' p ≡ slice_get here p
-  pub keeps : HoldsOne old → HoldsOne new
+  pub keeps : (p : ℕ) → IsIn p old → IsIn p new
   pub moves : (p : ℕ) (client client' : Client R W) → from ≤ p → p < to → slice_get here p ≡ Some client
-      → slice_get here' p ≡ Some client' → MovesOn client client' ⊎ HoldsOne new
+      → slice_get here' p ≡ Some client' → MovesOn client client' ⊎ IsIn p new
+
+-- some bytes of it were answered, or no more can be done for it
+abbrev pub Goes : {R W : Type 0} → Client R W → Client R W → Type 0
+Goes old new = HasNoMore new ⊎ (length (unread new) < length (unread old))
+
+-- so it is of each sender
+abbrev pub AllGo : {R W : Type 0} → (here here' : List (Client R W)) → List Sender → Type 0
+AllGo {R} {W} here here' senders =
+    (p : ℕ) (client client' : Client R W) → slice_get here p ≡ Some client → slice_get here' p ≡ Some client'
+    → IsAmong senders p → Goes client client'

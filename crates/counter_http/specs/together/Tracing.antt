@@ -1,23 +1,31 @@
 -- What all clients together do to the bank, round by round: from each wait for clients up to the next one. The bank is old
 -- before and new after, and seen as c and c'; of the ends of a client known says what is known.
-use Rattle.std.specs.Prelude.{◌≡◌, ◌≢◌, ◌⊎◌, ◌≤◌, ◌-◌, ◌^◌, ◌==◌, ℕ, List, [], ◌∷◌, ◌++◌, length, map, Bool, true, false, ⊤, Contains}
+use Rattle.std.specs.Prelude.{◌≡◌, ◌≢◌, ◌⊎◌, ◌<◌, ◌≤◌, ◌+◌, ◌-◌, ◌^◌, ◌==◌, ℕ, List, [], ◌∷◌, ◌++◌, length, map, Bool, true, false, ⊤, Contains}
 use Rattle.std.specs.Prelude.{All, AllPairs, Err, IfErr, IsErr, OnOk, Option, Result}
 use Rattle.std.specs.List.{AllByRecursion, flat_map}
+use Rattle.std.specs.Io.KnownBytes.{Appends, Consumes}
 use Rattle.std.specs.declared.io.ErrorKind.{ErrorKind}
 use Rattle.posting_rules.specs.declared.fault.Fault.{Fault}
 use Rattle.posting_rules.specs.declared.fault.Fault.TheVariants.{Memory}
 use Rattle.posting_rules.specs.believed.Commands.{Command}
 use Rattle.posting_rules.specs.believed.Counter.{LeavesOnly, Seen, ShowsLog, ShowsPrefix, StandsAt, Takes}
+use Rattle.posting_core.specs.believed.Batches.{joined}
 use Rattle.posting_core.specs.believed.Clock.{AreReadings}
 use Rattle.posting_core.specs.believed.EndCalls.{GrowsBy}
 use Rattle.counter_http.specs.Clients.{ClientsCall, Closed, Gave, Gave_up, Nobody, Refused, Waited}
 use Rattle.counter_http.specs.Connections.{Known}
-use Rattle.counter_http.specs.together.Order.{AreDated, AreFigured, IsRound, Round, Step, readings_of, steps_in, steps_of, submitted_by}
+use Rattle.counter_http.specs.believed.Ends.{HasEnded}
+use Rattle.counter_http.specs.believed.Serving.{BeginsWithNoMessage}
+use Rattle.counter_http.specs.believed.Turns.{Turn, texts_of}
+use Rattle.counter_http.specs.together.Order.{AreDated, AreFigured, BreaksOff, FillsRound, HasSpared, IsRound, Round, Step, answers_at}
+use Rattle.counter_http.specs.together.Order.{clients_of, of_client, readings_of, steps_in, steps_of, submitted_by}
+use Rattle.counter_http.specs.together.Serving.{Broken_off, Goes_on, Stands, Walk_ended}
 use Rattle.counter_http.specs.together.Serving.{ClientIsServed, EndsTogether, IfBank, IsOfVisit, IsToldTo, IsVisited, IsVisitWhy}
 use Rattle.counter_http.specs.together.Serving.{IsWhyRefused, OfOthers, Visit, closed_of, closings, fault_of_bank, openings}
 use Rattle.counter_http.specs.declared.listen_fault.ListenFault.{ListenFault}
 use Rattle.counter_http.specs.declared.listen_fault.ListenFault.TheVariants.{Network}
 use Rattle.counter_http.specs.declared.parting.Parting.TheVariants as parting
+use Rattle.counter_http.specs.declared.client.TheConstants.{UNTAKEN}
 use Rattle.counter_http.specs.declared.together.TheConstants.{MOST_CLIENTS}
 
 -- ---- who is here
@@ -108,6 +116,73 @@ AreLaps known c c' n calls before (l ∷ ls) [] = ⊥
 AreLaps known c c' n calls before (l ∷ ls) (r ∷ rs) =
     IsLap known c c' n calls (steps_of before) l r × AreLaps known c c' n (calls ++ calls_in l) (before ++ r ∷ []) ls rs
 
+-- ---- who moves on from one wait to the next
+
+-- as a client was waited for, it had more answers to take than are let wait
+pub record LeftMuch {E : Type 0} (known : E → Known) (c c' : Seen) (steps : List Step) (calls : List (ClientsCall E))
+    (waited : List (ℕ × E)) (n : ℕ) : Type 0 where
+  pub ends : E
+  pub one : Contains waited (n, ends)
+  pub given : E
+  pub came : Contains calls (Gave n given)
+  pub written : List ℕ
+  pub wrote : Appends (known given).writer (known ends).writer written
+  pub many : c'.honest → (log : List Command) → ShowsLog c log
+      → length written + UNTAKEN < length (joined (answers_at n log steps))
+
+-- A whole message may be left of a client after a round, where another one of it was answered in that, where it had many
+-- answers to take first, and where it was late for that.
+abbrev pub MayHaveMore : {E : Type 0} → (late : Type 0) → (known : E → Known) → (c c' : Seen) → List (ClientsCall E)
+    → List Step → Lap E → Round → ℕ → Type 0
+MayHaveMore late known c c' calls steps l r n =
+    Contains (clients_of (steps_in r)) n ⊎ (LeftMuch known c c' steps calls l.waited n ⊎ late)
+
+-- no whole message is left of one that stands so, or no more of its messages are answered
+abbrev pub HasNoneLeft : {has_ended : Type 0} {own lost : List Turn} {rest : List ℕ} {last : List (List ℕ)}
+    → Stands has_ended own lost rest last → Type 0
+HasNoneLeft {rest = rest} (Goes_on is) = BeginsWithNoMessage rest
+HasNoneLeft (Walk_ended is) = ⊤
+HasNoneLeft (Broken_off is) = ⊤
+
+-- so it is of one whose ends stand so after a round, after these calls and messages before that
+pub record HasMovedOn {E : Type 0} (late : Type 0) (known : E → Known) (c c' : Seen) (calls : List (ClientsCall E))
+    (steps : List Step) (l : Lap E) (r : Round) (w : ℕ × E) : Type 0 where
+  pub given : E
+  pub came : Contains (calls ++ calls_in l) (Gave w.0 given)
+  pub lost : List Turn
+  pub rest : List ℕ
+  pub last : List (List ℕ)
+  pub read : Consumes (known given).reader (known w.1).reader (texts_of (of_client w.0 (steps ++ steps_in r) ++ lost) ++ rest)
+  pub stands : Stands (HasEnded (known w.1).reader (known given).reads (known w.1).reads)
+      (of_client w.0 (steps ++ steps_in r)) lost rest last
+  pub none : HasNoneLeft stands ⊎ MayHaveMore late known c c' calls steps l r w.0
+
+-- others filled a round
+abbrev pub fills : (spared : Type 0) → Round → Type 0
+fills spared r = FillsRound spared r.posts
+
+abbrev pub all_on : {E : Type 0} → (late : Round → Type 0) → (known : E → Known) → (c c' : Seen) → (stood : List (ℕ × E))
+    → List (ClientsCall E) → List Step → Lap E → Round → Type 0
+all_on late known c c' stood calls steps l r = AllByRecursion (HasMovedOn (late r) known c c' calls steps l r) stood
+
+-- and of all that are waited for after each round
+abbrev pub AllMoved : {E : Type 0} → (spared : Type 0) → (known : E → Known) → (c c' : Seen) → List (ClientsCall E)
+    → (before : List Round) → List (Lap E) → List Round → Type 0
+AllMoved spared known c c' calls before [] rs = ⊤
+AllMoved spared known c c' calls before (l ∷ []) rs = ⊤
+AllMoved spared known c c' calls before (l ∷ m ∷ ls) [] = ⊤
+AllMoved spared known c c' calls before (l ∷ m ∷ ls) (r ∷ rs) =
+    all_on (fills spared) known c c' m.waited calls (steps_of before) l r
+    × AllMoved spared known c c' (calls ++ calls_in l) (before ++ r ∷ []) (m ∷ ls) rs
+
+-- this holds of the last round, and of what was called and answered before it
+abbrev pub OnLast : {E : Type 0} → (List (ClientsCall E) → List Step → Lap E → Round → Type 0) → List (ClientsCall E)
+    → (before : List Round) → List (Lap E) → List Round → Type 0
+OnLast P calls before [] rs = ⊤
+OnLast P calls before (l ∷ ls) [] = ⊤
+OnLast P calls before (l ∷ []) (r ∷ rs) = P calls (steps_of before) l r
+OnLast P calls before (l ∷ m ∷ ls) (r ∷ rs) = OnLast P (calls ++ calls_in l) (before ++ r ∷ []) (m ∷ ls) rs
+
 -- ---- all of it
 
 -- the calls are those of the rounds, and then connections were closed
@@ -157,6 +232,11 @@ pub record ServesTogether {C E : Type 0} (seen : C → Seen) (reason : Fault →
   pub calls : List (ClientsCall E)
   pub made : GrowsBy g g' calls
   pub traced : IsTraced known (seen old) (seen new) n calls rounds
+  -- everybody is served: as each is waited for, its whole messages are answered, or one was in the round before
+  pub moves : AllMoved (HasSpared reason) known (seen old) (seen new) [] [] traced.laps rounds
+  -- and so it is of those who are left where the bank refused a call: whoever was in that was told so
+  pub broken : IfErr result (λ fault. IfBank fault (λ f. OnLast (all_on (λ r. BreaksOff (HasSpared reason) refused) known
+      (seen old) (seen new) (closings traced.last)) [] [] traced.laps rounds))
   pub network : IsCutOff result calls traced.laps
   -- the clients, as their connections were closed: each one that was taken in, once
   pub visits : List (Visit E)

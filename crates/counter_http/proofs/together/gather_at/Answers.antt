@@ -3,7 +3,7 @@ use Rattle.std.proofs.lemmas.List.{set-get_or}
 use Rattle.std.proofs.lemmas.Option.{slice_get_read}
 use Rattle.std.proofs.lemmas.Result.{err_from_is_err_and}
 use Rattle.counter_http.proofs.Gathering.{batch_still, batch_then, gathers_as, gathers_at, gathers_err, gathers_nothing}
-use Rattle.counter_http.proofs.Moves.{holds_room}
+use Rattle.counter_http.proofs.Moves.{in_batch}
 use Rattle.counter_http.specs.{declared.batch.Batch.Batch, declared.client.Record.Record}
 use Rattle.counter_http.specs.together.Submitting.{AddsIfRoom, MayAdd}
 use Rattle.counter_http.proofs.together.gather_at.Goals as goal
@@ -69,7 +69,7 @@ returns-in-Some g c =
         at = slice_get_read here (length here) c.args.place c.index_mut.result.now refl c.requires.within
             c.index_mut.ensures.value;
         is = refl;
-        moves = inr (holds_room here c.args.batch.now c.add.new.self c.args.place c.in-Some.found c.requires.gives c.add.ensures);
+        moves = inr (in_batch here c.args.batch.now c.add.new.self c.args.place c.in-Some.found c.requires.gives c.add.ensures);
       };
       spares = c.in_ok-found.ensures.spares;
     }

@@ -1,7 +1,7 @@
 use Rattle.std.proofs.Common.{◌<◌, ◌∙◌, Some, length, ap, arith}
 use Rattle.std.proofs.lemmas.Option.{slice_get-get_or}
 use Rattle.counter_http.specs.declared.parting.Parting.TheVariants as parting
-use Rattle.counter_http.proofs.Crowds.{left_at, moved_then}
+use Rattle.counter_http.proofs.CrowdMoves.{left_at, moved_then}
 use Rattle.counter_http.proofs.GivenUp.{rest_removed, rest_stays, said_of}
 use Rattle.counter_http.proofs.together.give_up.Goals as goal
 use Rattle.counter_http.proofs.together.give_up.Goals.{in-GivenUp, in_default}

@@ -1,5 +1,5 @@
 use Rattle.counter_http.specs.declared.parting.Parting.TheVariants as parting
-use Rattle.counter_http.proofs.Crowds.{left_last, moved_then, some_last}
+use Rattle.counter_http.proofs.CrowdMoves.{left_last, moved_then, some_last}
 use Rattle.counter_http.proofs.together.part_from_all.Goals as goal
 
 -- the last one left

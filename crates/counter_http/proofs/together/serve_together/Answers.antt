@@ -1,4 +1,4 @@
-use Rattle.counter_http.proofs.Rounding.{nobody_came, serves_together}
+use Rattle.counter_http.proofs.Ended.{nobody_came, serves_together}
 use Rattle.counter_http.proofs.together.serve_together.Goals as goal
 
 -- memory was refused before anybody came

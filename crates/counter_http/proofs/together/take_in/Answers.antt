@@ -1,7 +1,7 @@
 use Rattle.std.proofs.Common.{◌<◌, [], ◌∷◌, arith, inr, refl}
 use Rattle.std.specs.IoError.{error_kind}
 use Rattle.counter_http.specs.Clients.{Nobody, Refused}
-use Rattle.counter_http.proofs.Crowds.{came_in, moved_then, nobody_came_in, said_last, turned_away}
+use Rattle.counter_http.proofs.CrowdMoves.{came_in, moved_then, nobody_came_in, said_last, turned_away}
 use Rattle.counter_http.proofs.together.take_in.Goals as goal
 
 -- there was no memory for it

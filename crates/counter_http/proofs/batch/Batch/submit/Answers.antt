@@ -1,18 +1,14 @@
-use Rattle.std.proofs.Common.{◌≡◌, ◌<◌, ◌∙◌, ℕ, Bool, List, [], ◌∷◌, ap, arith, eqb, false, length, refl, subst, sym}
+use Rattle.std.proofs.Common.{◌≡◌, ◌<◌, ◌∙◌, ℕ, List, [], ◌∷◌, ap, arith, eqb, false, inl, inr, length, refl, subst, sym}
 use Rattle.std.proofs.lemmas.{Bool.eqb-true, Bool.true≢false}
 use Rattle.counter_http.specs.together.Submitting.{AreGiven}
-use Rattle.counter_http.proofs.Submitted.{refused_all, spared_all, submitted_after, submitted_nothing}
+use Rattle.counter_http.proofs.FaredEach.{all_go, all_told, none_go}
+use Rattle.counter_http.proofs.Submitted.{refused_all, spared_all, spared_by, submitted_after, submitted_nothing}
 use Rattle.counter_http.proofs.Submitted.{taken_all}
 use Rattle.counter_http.proofs.batch.Batch.submit.Goals as goal
 
 some_of : (rs : List (List ℕ)) → eqb (length rs) 0 ≡ false → 0 < length rs
 some_of [] e = absurd (true≢false e)
 some_of (r ∷ rs) e = omega arith
-
--- there is one, so that nothing is claimed where there is none
-not_none : {P : Type 0} {rs all : List (List ℕ)} {empty : Bool} → rs ≡ all → empty ≡ eqb (length rs) 0 → empty ≡ false
-    → length all ≡ 0 → P
-not_none {rs = rs} same is some none = absurd (omega (arith, ap length same, some_of rs (sym is ∙ some), none))
 
 holds_some : {rs all : List (List ℕ)} → rs ≡ all → eqb (length rs) 0 ≡ false → 0 < length all
 holds_some {rs = rs} same some = omega (arith, ap length same, some_of rs some)
@@ -32,7 +28,8 @@ returns-then-is_empty g c =
         did = rw (sym c.as_slice-records.ensures.value, none)
             (submitted_nothing g.C.Counter.seen [] c.args.bank.now c.args.here.now.items c.args.tally.now);
       };
-      none = λ none. refl;
+      each = inl (none_go c.args.here.now.items c.args.here.now.items c.args.self.now.senders.items
+          c.args.self.now.records.items c.requires.gives.given (sym (ap length c.as_slice-records.ensures.value) ∙ none));
       spares = g.met.C.Counter.spares_itself c.args.bank.now;
     }
 
@@ -60,7 +57,7 @@ returns-in-Ok g c =
             (λ h log shown. c.deref.ensures.value ∙ c.in-Ok.ensures.answer h log shown) c.answer.ensures
             (rw (c.deref-in-Ok.ensures.value, sym c.deref.ensures.value) at c.count_commit.ensures) some);
       };
-      none = not_none c.as_slice-records.ensures.value c.is_empty.ensures c.if-is_empty.false;
+      each = inl (all_go here c.answer.new.here.items ss rs c.deref.result.now given c.requires.gives.apart c.answer.ensures);
       spares = c.in-Ok.ensures.spares;
     }
 
@@ -81,7 +78,7 @@ returns-in-Err-Memory g c =
             c.submit_all.new.self c.args.here.now.items _ c.args.tally.now c.in-Err-Memory.field-0
             c.in-Err-Memory.field-0-is c.in-Err-Memory.ensures.call) c.submit_each.ensures.submits;
       };
-      none = not_none c.as_slice-records.ensures.value c.is_empty.ensures c.if-is_empty.false;
+      each = inr (spared_by c.in-Err-Memory.field-0 c.in-Err-Memory.field-0-is c.in-Err-Memory.ensures.call);
       spares = g.met.C.Counter.spares_then c.args.bank.now c.submit_all.new.self c.submit_each.new.bank
           c.in-Err-Memory.ensures.spares c.submit_each.ensures.spares;
     }
@@ -108,7 +105,7 @@ returns-in-Err g c =
             c.requires.others c.in-Err.ensures.call c.refuse.ensures
             (some_of rs (sym c.is_empty.ensures ∙ c.if-is_empty.false)));
       };
-      none = not_none c.as_slice-records.ensures.value c.is_empty.ensures c.if-is_empty.false;
+      each = inl (all_told here c.refuse.new.here.items ss rs c.in-Err.fault given c.requires.gives.apart c.refuse.ensures);
       spares = c.in-Err.ensures.spares;
     }
 
@@ -118,7 +115,11 @@ pub answer-requires-clause-gives : goal.answer-requires-clause-gives
 answer-requires-clause-gives g c = c.requires.gives
 
 pub submit_each-requires : goal.submit_each-requires
-submit_each-requires g c = record { others = c.requires.others; gives = c.requires.gives }
+submit_each-requires g c = record {
+  others = c.requires.others;
+  spared = spared_by c.in-Err-Memory.field-0 c.in-Err-Memory.field-0-is c.in-Err-Memory.ensures.call;
+  gives = c.requires.gives;
+}
 
 pub refuse-requires : goal.refuse-requires
 refuse-requires g c = c.requires.gives

@@ -1,4 +1,4 @@
-use Rattle.std.proofs.Common.{◌≡◌, ◌<◌, ◌≤◌, ◌+◌, List, [], ◌∷◌, Ok, ap, arith, drop, false, get_or, length, subst}
+use Rattle.std.proofs.Common.{◌≡◌, ◌<◌, ◌≤◌, ◌+◌, List, [], ◌∷◌, Ok, ap, arith, drop, false, get_or, length, subst, inr}
 use Rattle.std.proofs.lemmas.Result.{err_from_is_err_and}
 use Rattle.counter_http.specs.together.Submitting.{ChangesAt}
 use Rattle.counter_http.specs.declared.batch.Sender.{Sender}
@@ -49,10 +49,10 @@ returns-in_err-submit_one-clause-submits g c =
     let failed = err_from_is_err_and c.from_residual.result c.from_residual.ensures.1 in
     let few : c.loop-i.i + 1 ≤ length c.args.self.now.records.items =
     omega (arith, ap length c.as_slice-bytes-items.ensures.value, c.loop-i-test.true) in
-    rw (failed.1, failed.2) (submitted_few (c.loop-i.i + 1) (length c.args.self.now.records.items) few
+    rw (failed.1, failed.2) (submitted_few (c.loop-i.i + 1) (length c.args.self.now.records.items) few c.requires.spared
     (submitted_then g.C.Counter.seen (c.args.moment ∷ []) c.args.bank.now c.loop-i.bank c.submit_one.new.bank
     c.args.here.now.items c.loop-i.here.items c.submit_one.new.here.items c.loop-i.i 1 _ c.loop-i.invariant.did
-    c.in_err-submit_one.ensures.submits (λ some. omega arith)))
+    c.in_err-submit_one.ensures.submits (λ some. omega arith) (inr c.requires.spared)))
 
 pub loop-i-preserved : goal.loop-i-preserved
 loop-i-preserved g c =
@@ -71,7 +71,7 @@ loop-i-preserved g c =
     record {
       did = submitted_then g.C.Counter.seen (c.args.moment ∷ []) c.args.bank.now c.loop-i.bank c.submit_one.new.bank
           c.args.here.now.items mid here' i 1 (Ok tt) c.loop-i.invariant.did c.in_ok-submit_one.ensures.submits
-          (λ some. omega arith);
+          (λ some. omega arith) tt;
       gives = given_still mid here' (get_or ss i nobody).place only.client (drop (i + 1) ss) (drop (i + 1) rs) only.is
           given.1 apart.0;
       apart = apart.1;
