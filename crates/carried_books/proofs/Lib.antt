@@ -1,4 +1,5 @@
 pub mod Runs
 pub mod Joined
 pub mod FirstApart
+pub mod Sought
 pub mod Shown

@@ -22,7 +22,7 @@ use Rattle.posting_rules.proofs.Looked.{account_balance_shown, terms_shown}
 use Rattle.posting_rules.proofs.NamedOpen.{all_name_open}
 use Rattle.posting_rules.proofs.NoBalance.{account_none, branch_none, teller_none}
 use Rattle.posting_rules.proofs.Requests.{are_new, kept_shown}
-use Rattle.carried_books.specs.Carrying.{CarriesShown, IsOfDesk, SameStanding, number_of, used_runs}
+use Rattle.carried_books.specs.Carrying.{CarriesShown, is_of_desk, SameStanding, number_of, used_runs}
 use Rattle.carried_books.proofs.Runs.{any-append}
 
 -- ---- balances
@@ -214,15 +214,18 @@ carries_shown desk old new one two shows_one shows_two carry =
       old_sealed = closed_by_rows old one shows_one 0 ∙ carry.old_sealed;
       new_unsealed = closed_two 0 ∙ carry.new_unsealed;
       desk_alone = λ t n low high is.
-          let has = of_number (IsOfDesk desk old) new.requests t n carry.desk_alone
+          let has = of_number (λ r. is_of_desk desk (used_runs old) r ≡ true) new.requests t n carry.desk_alone
           (sym (kept_by_rows new two shows_two t n) ∙ is) in
           of_desk has.0 t n high has.1 has.2 has.3;
     }
   where
-    of_desk : (r : RequestRow) (t n : ℕ) → n ≤ MAX_NUMBER → IsOfDesk desk old r → r.teller ≡ t → r.number ≡ n
-        → (branch_of_teller t ≡ desk) ⊎ (used one t n ≡ true)
-    of_desk r t n high (inl its) teller number = inl (ap branch_of_teller (sym teller) ∙ its)
-    of_desk r t n high (inr was) teller number =
-        inr (used_by_rows old one shows_one carry.in_range t n high
-        ∙ ap (λ (u : ℕ). is_closed_in (used_runs old) (number_key u n)) (sym teller)
-        ∙ ap (λ (m : ℕ). is_closed_in (used_runs old) (number_key r.teller m)) (sym number) ∙ was)
+    of_desk : (r : RequestRow) (t n : ℕ) → n ≤ MAX_NUMBER → is_of_desk desk (used_runs old) r ≡ true → r.teller ≡ t
+        → r.number ≡ n → (branch_of_teller t ≡ desk) ⊎ (used one t n ≡ true)
+    of_desk r t n high is teller number = elim (by_test (eqb (branch_of_teller r.teller) desk)) [
+      | inl its ↦ inl (ap branch_of_teller (sym teller) ∙ eqb-true (branch_of_teller r.teller) desk its)
+      | inr other ↦
+          let was : is_closed_in (used_runs old) (number_key r.teller r.number) ≡ true = (let g = rw other at is in g) in
+          inr (used_by_rows old one shows_one carry.in_range t n high
+          ∙ ap (λ (u : ℕ). is_closed_in (used_runs old) (number_key u n)) (sym teller)
+          ∙ ap (λ (m : ℕ). is_closed_in (used_runs old) (number_key r.teller m)) (sym number) ∙ was)
+    ]

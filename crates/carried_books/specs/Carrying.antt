@@ -1,5 +1,5 @@
 -- What the tables of two banks show where one carries the other on.
-use Rattle.std.specs.Prelude.{◌≡◌, ◌≤◌, ◌⊎◌, ℕ, List, ◌++◌, map, true, false}
+use Rattle.std.specs.Prelude.{◌≡◌, ◌≤◌, ◌==◌, ◌||◌, ℕ, List, ◌++◌, map, Bool, true, false}
 use Rattle.std.specs.List.{AllByRecursion}
 use Rattle.message_records.specs.declared.limits.TheConstants.{MAX_NUMBER}
 use Rattle.posting_rules.specs.declared.rows.{ClosingRow.ClosingRow, RequestRow.RequestRow}
@@ -24,10 +24,10 @@ number_of r = run_of (number_key r.teller r.number) (number_key r.teller r.numbe
 abbrev pub used_runs : Tables → List ClosingRow
 used_runs t = t.closings ++ map number_of t.requests
 
--- a kept request is of a teller of the desk, or its number was used in the old books
-abbrev pub IsOfDesk : ℕ → Tables → RequestRow → Type 0
-IsOfDesk desk old r = (branch_of_teller r.teller ≡ desk)
-    ⊎ (is_closed_in (used_runs old) (number_key r.teller r.number) ≡ true)
+-- a kept request is of a teller of the desk, or its number was used
+abbrev pub is_of_desk : ℕ → List ClosingRow → RequestRow → Bool
+is_of_desk desk used r =
+    branch_of_teller r.teller == desk || is_closed_in used (number_key r.teller r.number)
 
 -- Every balance, floor and count of accounts is the same in both, and closed in the new are just the numbers that were used
 -- in the old, which are sealed. The key 0 is the seal's, and no number's.
@@ -36,7 +36,7 @@ pub record TablesCarry (desk : ℕ) (old new : Tables) : Type 0 where
   pub numbers : (x : ℕ) → 1 ≤ x → is_closed_in new.closings x ≡ is_closed_in (used_runs old) x
   pub old_sealed : is_closed_in old.closings 0 ≡ true
   pub new_unsealed : is_closed_in new.closings 0 ≡ false
-  pub desk_alone : AllByRecursion (IsOfDesk desk old) new.requests
+  pub desk_alone : AllByRecursion (λ r. is_of_desk desk (used_runs old) r ≡ true) new.requests
   pub in_range : AllByRecursion (λ r. r.number ≤ MAX_NUMBER) old.requests
 
 -- then every log that the new tables show carries on every log that the old ones show

@@ -23,14 +23,17 @@
 //! }
 //! ```
 //!
+//! [`first_stray`] finds a request that new books keep and that is neither the desk's nor of a number that was used.
 //! [`carries_law`] says what follows where the rows of two banks' tables agree so: the new books carry the old ones on, and
 //! answer as one bank that never closed its books, by `two_years_law` of `posting_rules`.
 //!
 //! Read next: [`NumberRuns`]; `specs/Carrying`, what the tables show.
 #![tactic(auto)]
 
+mod desk;
 mod laws;
 mod number_runs;
 
+pub use desk::first_stray;
 pub use laws::carries_law;
 pub use number_runs::NumberRuns;

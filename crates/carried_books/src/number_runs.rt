@@ -135,6 +135,18 @@ impl NumberRuns {
         joining.finish()
     }
 
+    /// Tests whether it has the number of a key.
+    #[must_use]
+    pub fn has(&self, key: u64) -> bool
+        ensures { result ≡ is_closed_in self.now key }
+    {
+        let place = self.runs.partition_point(|run| run.last < key);
+        match run_at(&self.runs, place) {
+            Some(run) => run.first <= key,
+            None => false,
+        }
+    }
+
     /// The first number that one of them has and the other hasn't, if there is one.
     pub fn first_difference(&self, other: &NumberRuns) -> Option<u64>
         ensures { MatchOption result (SameNumbers self.now other.now) (DifferAt self.now other.now) }

@@ -1,0 +1,69 @@
+-- The place of the first run that doesn't end before a number.
+use Rattle.std.proofs.Common.{◌≡◌, ◌≤◌, ◌<◌, ◌+◌, ◌∙◌, ℕ, zero, suc, Bool, true, false, leb, ltb, List, [], ◌∷◌, length, get_or}
+use Rattle.std.proofs.Common.{Option, Some, None, refl, sym, ap, inl, inr, arith}
+use Rattle.std.specs.Prelude.{◌&&◌, ◌||◌, slice_get}
+use Rattle.std.specs.List.Sorted.{IsNonDecreasingBy, IsPartitionPoint}
+use Rattle.std.proofs.lemmas.Bool.{ltb-true, Decides.nat_tests}
+use Rattle.posting_rules.specs.declared.rows.ClosingRow.{ClosingRow}
+use Rattle.posting_rules.specs.believed.Closings.{is_closed_in, meets}
+use Rattle.posting_rules.proofs.Keyed.{by_test}
+use Rattle.carried_books.specs.Numbers.{RiseFrom}
+use Rattle.carried_books.proofs.Runs.{below_runs}
+
+-- a run, where there is one, begins by the number
+abbrev pub begins_by : ℕ → Option ClosingRow → Bool
+begins_by x None = false
+begins_by x (Some run) = leb run.first x
+
+pub sought : (low x : ℕ) (runs : List ClosingRow) (place : ℕ) → RiseFrom low runs
+    → ((k : ℕ) (d : ClosingRow) → k < place → k < length runs → (get_or runs k d).last < x)
+    → ((d : ClosingRow) → place < length runs → x ≤ (get_or runs place d).last)
+    → is_closed_in runs x ≡ begins_by x (slice_get runs place)
+sought low x [] place rise before after = refl
+sought low x (r ∷ runs) zero rise before after =
+    let within : x ≤ r.last = after r (omega arith) in
+    let end : leb x r.last ≡ true = grind (arith, nat_tests) in
+    rw (end, below_runs (r.last + 2) x runs rise.2 (omega arith)) (only (leb r.first x))
+  where
+    only : (b : Bool) → ((b && true) || false) ≡ b
+    only true = refl
+    only false = refl
+sought low x (r ∷ runs) (suc place) rise before after =
+    let past : r.last < x = before 0 r (omega arith) (omega arith) in
+    let f : (leb r.first x && leb x r.last) ≡ false = grind (arith, nat_tests) in
+    rw f
+    (sought (r.last + 2) x runs place rise.2 (λ k d lt within. before (suc k) d (omega (arith, lt)) (omega (arith, within)))
+    (λ d within. after d (omega (arith, within))))
+
+-- what the lasts of runs are, from a number on
+above : (low : ℕ) (runs : List ClosingRow) (j : ℕ) (d : ClosingRow) → RiseFrom low runs → j < length runs
+    → low ≤ (get_or runs j d).last
+above low [] j d rise lt = absurd (omega (arith, lt))
+above low (r ∷ runs) zero d rise lt = omega (arith, rise.0, rise.1)
+above low (r ∷ runs) (suc j) d rise lt =
+    let more = above (r.last + 2) runs j d rise.2 (omega (arith, lt)) in
+    omega (arith, rise.0, rise.1, more)
+
+pub lasts_rise : (low : ℕ) (runs : List ClosingRow) → RiseFrom low runs → IsNonDecreasingBy (λ r. r.last) runs
+lasts_rise low [] rise i j d le lt = absurd (omega (arith, lt))
+lasts_rise low (r ∷ runs) rise zero zero d le lt = omega arith
+lasts_rise low (r ∷ runs) rise zero (suc j) d le lt =
+    let more = above (r.last + 2) runs j d rise.2 (omega (arith, lt)) in
+    omega (arith, more)
+lasts_rise low (r ∷ runs) rise (suc i) zero d le lt = absurd (omega (arith, le))
+lasts_rise low (r ∷ runs) rise (suc i) (suc j) d le lt =
+    lasts_rise (r.last + 2) runs rise.2 i j d (omega (arith, le)) (omega (arith, lt))
+
+-- the run at the place tells whether one has the number
+pub has_is : (all runs again : List ClosingRow) (place x : ℕ) (found : Option ClosingRow) → runs ≡ all → again ≡ runs
+    → RiseFrom 0 runs → IsPartitionPoint (λ y. ltb y.last x ≡ true) (λ y. ltb y.last x ≡ false) runs place
+    → found ≡ slice_get again place → is_closed_in all x ≡ begins_by x found
+has_is all runs again place x found is same rise at looked =
+    ap (λ (l : List ClosingRow). is_closed_in l x) (sym is)
+    ∙ sought 0 x runs place rise
+    (λ k d low within. ltb-true (get_or runs k d).last x (at.0 k d (omega arith) low))
+    (λ d within. no_less (get_or runs place d).last x (at.1 place d (omega arith) within))
+    ∙ ap (begins_by x) (ap (λ (l : List ClosingRow). slice_get l place) (sym same) ∙ sym looked)
+  where
+    no_less : (a b : ℕ) → ltb a b ≡ false → b ≤ a
+    no_less a b f = grind (arith, nat_tests)
