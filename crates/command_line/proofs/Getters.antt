@@ -8,7 +8,7 @@ use Rattle.clap.specs.Words.{ReadsOne, Row, Text, TriesOne, one_of, one_text, ro
 use Rattle.clap.specs.Words.{subcommand_name_of, subcommand_rows_of}
 use Rattle.clap.specs.declared.parser.matches.{ArgMatches.ArgMatches, Found.Found, ArgMatches.TheViews.out-ArgMatches}
 use Rattle.clap.proofs.WalkLemmas.{one_text-rows}
-use Rattle.command_line.specs.Words.{IsNumber, spelled}
+use Rattle.command_line.specs.CommandLine.{IsNumber, spelled}
 
 -- one change after another
 composed : {A B C : Type 0} (f : A → B) (g : B → C) (o : Option A)

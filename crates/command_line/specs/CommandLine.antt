@@ -1,6 +1,10 @@
--- The program's command line as clap's specification sees it: which commands there are, and what each takes.
-use Rattle.std.specs.Prelude.{◌≡◌, ℕ, List, [], ◌∷◌, Some, true, false, codes, fold}
-use Rattle.clap.specs.Words.{App, Rule, Text, app_of, new_app, new_rule, with_rule, with_subcommand}
+-- The program's command line as clap's specification sees it: which commands there are, what each takes, and which of
+-- them clap matched.
+use Rattle.std.specs.Prelude.{◌≡◌, ◌⊎◌, ◌≤◌, ⊤, ℕ, List, [], ◌∷◌, Option, None, Some, Ok, Err, IfSome, IsSomeAnd}
+use Rattle.std.specs.Prelude.{true, false, codes, fold, if◌then◌else◌, option_map, unwrap_or}
+use Rattle.std.specs.Str.{bytes_eq}
+use Rattle.std.specs.Str.Parse.{digits_value, without_leading_plus}
+use Rattle.clap.specs.Words.{App, Row, Rule, Text, app_of, first_of, new_app, new_rule, one_of, with_rule, with_subcommand}
 use Rattle.clap.specs.declared.builder.action.ArgAction.TheVariants.{SetTrue}
 use Rattle.clap.specs.declared.builder.command.Command.{Command}
 use Rattle.clap.specs.declared.builder.command.Command.TheViews.{out-Command as fields_of}
@@ -8,6 +12,16 @@ use Rattle.clap.specs.declared.builder.value_parser.ValueParser.TheVariants.{Uns
 use Rattle.load_driver.specs.declared.drive.TheConstants.{MAX_DRIVEN}
 use Rattle.command_line.specs.declared.limits.TheConstants.{MAX_CONNECTIONS}
 use Rattle.message_records.specs.declared.limits.TheConstants.{MAX_ACCOUNT}
+use Rattle.posting_sheets.specs.declared.money.Money.{Money}
+use Rattle.posting_sheets.specs.declared.money.Money.TheVariants.{Cents, Decimals}
+use Rattle.command_line.specs.Queries.{query_in}
+use Rattle.command_line.specs.declared.reading.Command.{Command as Asked}
+use Rattle.command_line.specs.declared.reading.Command.TheVariants.{Decode, Encode, Mistaken, OnFile, Why}
+use Rattle.command_line.specs.declared.reading.Task.{Task}
+use Rattle.command_line.specs.declared.reading.Task.TheVariants.{Init, Migrate, With}
+use Rattle.command_line.specs.declared.reading.Work.{Work}
+use Rattle.command_line.specs.declared.reading.Work.TheVariants.{Audit, Digest, Drive, Export, Follow, Load, Log, Plan, Post}
+use Rattle.command_line.specs.declared.reading.Work.TheVariants.{Replay, Serve, Statement, Statements}
 
 -- a required positional argument, which takes one value and has a name in help
 abbrev pub required_rule : Text → Rule
@@ -212,3 +226,79 @@ with_commands bank commands = fold (λ bank command. with_subcommand bank comman
 -- `bank` with its commands; clap adds the command `help`
 abbrev pub bank_app : App
 bank_app = with_commands bank_alone bank_commands
+
+-- ---- what clap matched
+
+-- the number that a text of digits spells; a plus may come before them
+abbrev pub number_of : Text → ℕ
+number_of text = digits_value 10 (without_leading_plus text)
+
+-- the number that a text spells, if there is one
+abbrev pub spelled : Option Text → Option ℕ
+spelled None = None
+spelled (Some text) = Some (number_of text)
+
+-- the argument's value is this text
+abbrev pub IsText : Text → List Row → Text → Type 0
+IsText id rows text = first_of id rows ≡ Some text
+
+-- the argument's value spells this number
+abbrev pub IsNumber : Text → List Row → ℕ → Type 0
+IsNumber id rows n = IsSomeAnd (one_of id rows) (λ text. n ≡ number_of text)
+
+-- how a sheet of replies writes money: in decimals where the words have the flag, of which clap makes the value `true`
+abbrev pub money_of_flag : Option Text → Money
+money_of_flag None = Cents
+money_of_flag (Some text) = if bytes_eq text (codes "true") then Decimals else Cents
+
+abbrev pub money_in : List Row → Money
+money_in rows = money_of_flag (first_of (codes "words") rows)
+
+-- the work has this name, and its files and numbers are the values of its arguments
+abbrev pub IsWorkOf : Text × List Row → Work → Type 0
+IsWorkOf p (Load plan) = (p.0 ≡ codes "load") × IsText (codes "plan") p.1 plan.now
+IsWorkOf p Post = p.0 ≡ codes "post"
+IsWorkOf p (Drive seed count) = (p.0 ≡ codes "drive") × IsNumber (codes "seed") p.1 seed
+    × IsNumber (codes "count") p.1 count
+IsWorkOf p Audit = p.0 ≡ codes "audit"
+IsWorkOf p (Statement account query) = (p.0 ≡ codes "statement") × IsNumber (codes "account") p.1 account
+    × (Ok query ≡ query_in p.1)
+IsWorkOf p (Statements query) = (p.0 ≡ codes "statements") × (Ok query ≡ query_in p.1)
+IsWorkOf p Replay = p.0 ≡ codes "replay"
+IsWorkOf p (Digest requests) = (p.0 ≡ codes "digest") × IsNumber (codes "requests") p.1 requests
+IsWorkOf p (Export after) = (p.0 ≡ codes "export") × (after ≡ unwrap_or (spelled (one_of (codes "after") p.1)) 0)
+IsWorkOf p (Log after) = (p.0 ≡ codes "log") × (after ≡ unwrap_or (spelled (one_of (codes "after") p.1)) 0)
+IsWorkOf p Plan = p.0 ≡ codes "plan"
+IsWorkOf p (Follow plan) = (p.0 ≡ codes "follow") × IsText (codes "plan") p.1 plan.now
+IsWorkOf p (Serve address connections) = (p.0 ≡ codes "serve") × IsText (codes "address") p.1 address.now
+    × (connections ≡ spelled (one_of (codes "connections") p.1))
+
+abbrev pub IsTaskOf : Text × List Row → Task → Type 0
+IsTaskOf p Init = p.0 ≡ codes "init"
+IsTaskOf p Migrate = p.0 ≡ codes "migrate"
+IsTaskOf p (With work) = IsWorkOf p work
+
+-- the command has this name, and its file and all else that it says are the values of its arguments
+abbrev pub IsCommandOf : Text × List Row → Asked → Type 0
+IsCommandOf p (OnFile file task) = IsText (codes "file") p.1 file.now × IsTaskOf p task
+IsCommandOf p (Why file) = (p.0 ≡ codes "why") × IsText (codes "file") p.1 file.now
+IsCommandOf p Encode = p.0 ≡ codes "encode"
+IsCommandOf p (Decode money sheet) = (p.0 ≡ codes "decode") × (money ≡ money_in p.1)
+    × (option_map (λ s. s.now) sheet ≡ first_of (codes "sheet") p.1)
+IsCommandOf p (Mistaken fault) = ((p.0 ≡ codes "statement") ⊎ (p.0 ≡ codes "statements")) × (Err fault ≡ query_in p.1)
+
+-- the numbers of a work are in their ranges
+abbrev pub IsWorkInRange : Work → Type 0
+IsWorkInRange (Drive seed count) = (seed ≤ MAX_SEED) × (1 ≤ count) × (count ≤ MAX_DRIVEN)
+IsWorkInRange (Statement account query) = (1 ≤ account) × (account ≤ MAX_ACCOUNT)
+IsWorkInRange (Serve address connections) = IfSome connections (λ n. (1 ≤ n) × (n ≤ MAX_CONNECTIONS))
+IsWorkInRange _ = ⊤
+
+abbrev pub IsTaskInRange : Task → Type 0
+IsTaskInRange (With work) = IsWorkInRange work
+IsTaskInRange _ = ⊤
+
+-- and so are those of a command
+abbrev pub AreInRange : Asked → Type 0
+AreInRange (OnFile file task) = IsTaskInRange task
+AreInRange _ = ⊤

@@ -8,7 +8,7 @@ ghost use Rattle.command_line.specs.CommandLine.{serve_app, statement_app, state
 ghost use Rattle.command_line.specs.CommandLine.{with_days, with_query};
 
 use crate::limits::MAX_CONNECTIONS;
-use crate::texts::{self, CommandTexts};
+use crate::texts::{self, CommandTexts, books, counter};
 use clap::builder::ValueParser;
 use clap::{Arg, ArgAction, Command};
 use load_driver::MAX_DRIVEN;
@@ -21,21 +21,21 @@ pub fn bank_command<'a>(alloc: Global) -> Result<Command<'a>, AllocError>
 {
     let bank = with_command(bank_alone(alloc), init_command(alloc));
     let bank = with_command(bank, load_command(alloc));
-    let bank = with_command(bank, command_on_file(alloc, "post", texts::POST));
+    let bank = with_command(bank, command_on_file(alloc, "post", counter::POST));
     let bank = with_command(bank, drive_command(alloc));
-    let bank = with_command(bank, command_on_file(alloc, "audit", texts::AUDIT));
+    let bank = with_command(bank, command_on_file(alloc, "audit", books::AUDIT));
     let bank = with_command(bank, statement_command(alloc));
     let bank = with_command(bank, statements_command(alloc));
-    let bank = with_command(bank, command_on_file(alloc, "replay", texts::REPLAY));
+    let bank = with_command(bank, command_on_file(alloc, "replay", books::REPLAY));
     let bank = with_command(bank, digest_command(alloc));
     let bank = with_command(bank, export_command(alloc));
     let bank = with_command(bank, log_command(alloc));
-    let bank = with_command(bank, command_on_file(alloc, "plan", texts::PLAN));
+    let bank = with_command(bank, command_on_file(alloc, "plan", books::PLAN));
     let bank = with_command(bank, follow_command(alloc));
     let bank = with_command(bank, serve_command(alloc));
-    let bank = with_command(bank, command_on_file(alloc, "migrate", texts::MIGRATE));
+    let bank = with_command(bank, command_on_file(alloc, "migrate", books::MIGRATE));
     let bank = with_command(bank, why_command(alloc));
-    let bank = with_command(bank, command_alone(alloc, "encode", texts::ENCODE));
+    let bank = with_command(bank, command_alone(alloc, "encode", counter::ENCODE));
     with_command(bank, decode_command(alloc))
 }
 
@@ -96,14 +96,14 @@ fn with_argument<'a>(
 fn init_command<'a>(alloc: Global) -> Result<Command<'a>, AllocError>
     ensures { IfOk result (IsApp init_app) }
 {
-    let init = command_on_file(alloc, "init", texts::INIT)?;
-    Ok(init.after_help(texts::INIT_EXAMPLE))
+    let init = command_on_file(alloc, "init", counter::INIT)?;
+    Ok(init.after_help(counter::INIT_EXAMPLE))
 }
 
 fn load_command<'a>(alloc: Global) -> Result<Command<'a>, AllocError>
     ensures { IfOk result (IsApp load_app) }
 {
-    let load = command_on_file(alloc, "load", texts::LOAD);
+    let load = command_on_file(alloc, "load", counter::LOAD);
     let plan = required_argument(alloc, "plan", "CSV", texts::PLAN_FILE);
     with_argument(load, plan)
 }
@@ -111,7 +111,7 @@ fn load_command<'a>(alloc: Global) -> Result<Command<'a>, AllocError>
 fn drive_command<'a>(alloc: Global) -> Result<Command<'a>, AllocError>
     ensures { IfOk result (IsApp drive_app) }
 {
-    let drive = command_on_file(alloc, "drive", texts::DRIVE);
+    let drive = command_on_file(alloc, "drive", counter::DRIVE);
     let seed = number_option(alloc, "seed", "S", 0, u64::MAX, texts::SEED);
     let count = number_option(alloc, "count", "N", 1, MAX_DRIVEN, texts::COUNT);
     with_argument(with_argument(drive, seed), count)
@@ -127,17 +127,17 @@ fn statement_command<'a>(alloc: Global) -> Result<Command<'a>, AllocError>
 fn statement_of_account<'a>(alloc: Global) -> Result<Command<'a>, AllocError>
     ensures { IfOk result (IsApp account_app) }
 {
-    let statement = command_on_file(alloc, "statement", texts::STATEMENT)?;
+    let statement = command_on_file(alloc, "statement", books::STATEMENT)?;
     let account = required_argument(alloc, "account", "ACCOUNT", texts::ACCOUNT).value_parser(
         ValueParser::unsigned(1, MAX_ACCOUNT),
     );
-    statement.after_help(texts::STATEMENT_EXAMPLE).arg(account)
+    statement.after_help(books::STATEMENT_EXAMPLE).arg(account)
 }
 
 fn statements_command<'a>(alloc: Global) -> Result<Command<'a>, AllocError>
     ensures { IfOk result (IsApp statements_app) }
 {
-    let statements = command_on_file(alloc, "statements", texts::STATEMENTS);
+    let statements = command_on_file(alloc, "statements", books::STATEMENTS);
     with_query(alloc, statements)
 }
 
@@ -169,7 +169,7 @@ fn with_days<'a>(
 fn digest_command<'a>(alloc: Global) -> Result<Command<'a>, AllocError>
     ensures { IfOk result (IsApp digest_app) }
 {
-    let digest = command_on_file(alloc, "digest", texts::DIGEST)?;
+    let digest = command_on_file(alloc, "digest", books::DIGEST)?;
     let requests = required_argument(alloc, "requests", "N", texts::REQUESTS).value_parser(
         ValueParser::unsigned(0, u64::MAX),
     );
@@ -179,7 +179,7 @@ fn digest_command<'a>(alloc: Global) -> Result<Command<'a>, AllocError>
 fn export_command<'a>(alloc: Global) -> Result<Command<'a>, AllocError>
     ensures { IfOk result (IsApp export_app) }
 {
-    let export = command_on_file(alloc, "export", texts::EXPORT);
+    let export = command_on_file(alloc, "export", books::EXPORT);
     let after = optional_number(alloc, "after", "N", 0, u64::MAX, texts::AFTER);
     with_argument(export, after)
 }
@@ -187,7 +187,7 @@ fn export_command<'a>(alloc: Global) -> Result<Command<'a>, AllocError>
 fn log_command<'a>(alloc: Global) -> Result<Command<'a>, AllocError>
     ensures { IfOk result (IsApp log_app) }
 {
-    let log = command_on_file(alloc, "log", texts::LOG);
+    let log = command_on_file(alloc, "log", books::LOG);
     let after = optional_number(alloc, "after", "N", 0, u64::MAX, texts::AFTER);
     with_argument(log, after)
 }
@@ -195,7 +195,7 @@ fn log_command<'a>(alloc: Global) -> Result<Command<'a>, AllocError>
 fn follow_command<'a>(alloc: Global) -> Result<Command<'a>, AllocError>
     ensures { IfOk result (IsApp follow_app) }
 {
-    let follow = command_on_file(alloc, "follow", texts::FOLLOW);
+    let follow = command_on_file(alloc, "follow", books::FOLLOW);
     let plan = required_argument(alloc, "plan", "CSV", texts::PLAN_FILE);
     with_argument(follow, plan)
 }
@@ -203,7 +203,7 @@ fn follow_command<'a>(alloc: Global) -> Result<Command<'a>, AllocError>
 fn serve_command<'a>(alloc: Global) -> Result<Command<'a>, AllocError>
     ensures { IfOk result (IsApp serve_app) }
 {
-    let serve = command_on_file(alloc, "serve", texts::SERVE);
+    let serve = command_on_file(alloc, "serve", counter::SERVE);
     let address = required_argument(alloc, "address", "ADDR", texts::ADDRESS);
     let connections = optional_number(
         alloc,
@@ -220,13 +220,13 @@ fn serve_command<'a>(alloc: Global) -> Result<Command<'a>, AllocError>
 fn why_command<'a>(alloc: Global) -> Result<Command<'a>, AllocError>
     ensures { IfOk result (IsApp why_app) }
 {
-    command_on_file(alloc, "why", texts::WHY)?.alias("faults")
+    command_on_file(alloc, "why", books::WHY)?.alias("faults")
 }
 
 fn decode_command<'a>(alloc: Global) -> Result<Command<'a>, AllocError>
     ensures { IfOk result (IsApp decode_app) }
 {
-    let decode = command_alone(alloc, "decode", texts::DECODE);
+    let decode = command_alone(alloc, "decode", counter::DECODE);
     let sheet = optional_text(alloc, "sheet", "FILE", texts::SHEET);
     with_argument(
         with_argument(decode, flag(alloc, "words", texts::WORDS)),

@@ -5,12 +5,17 @@
 //! `bank drive bank.db --seed 7 --count 1000`, finds the file, 7 and 1000 in them:
 //!
 //! ```rust
-//! use command_line::{Command, read_words};
+//! use command_line::{Command, Task, Work, read_words};
 //! use std::alloc::Global;
 //!
 //! pub fn first_words<'a>(alloc: Global, words: &'a [&'a str]) -> Option<(&'a str, u64, u64)> {
 //!     match read_words(alloc, words) {
-//!         Ok(Command::Drive { file, seed, count }) => Some((file, seed, count)),
+//!         Ok(
+//!             Command::OnFile {
+//!                 file,
+//!                 task: Task::With(Work::Drive { seed, count }),
+//!             },
+//!         ) => Some((file, seed, count)),
 //!         _ => None,
 //!     }
 //! }
@@ -19,7 +24,7 @@
 //! Any other words are the error that `clap` gives, with its text for the user; a request for help is such an
 //! error too, of the kind `DisplayHelp`. Where the words are a command, only want of memory is one.
 //!
-//! Read next: [`Command`], what can be asked; [`read_words`]; `specs/Words`, how each command is spelled;
+//! Read next: [`Command`], [`Task`] and [`Work`], what can be asked; [`read_words`]; `specs/Words`, how each command is spelled;
 //! the crate `bank_commands`, which runs what is asked.
 #![tactic(auto)]
 
@@ -54,7 +59,7 @@ pub use lines::{
 pub use loading::{Plans, load_from, load_into};
 pub use prompting::prompt;
 pub use queries::QueryFault;
-pub use reading::{Command, read_words};
+pub use reading::{Command, Task, Work, read_words};
 pub use replaying::{print_agreeing, print_differing, print_digest};
 pub use serving::{Network, listen};
 pub use status::Status;

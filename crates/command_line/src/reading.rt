@@ -2,10 +2,10 @@
 ghost use Rattle.std.specs.Prelude.{◌≡◌, IfErr, IfOk, IfSome, IsErrAnd, IsSomeAnd, codes, map, option_map, true};
 ghost use Rattle.clap.specs.Words.{FailsBy, fault_of, first_of, found_of, kind_of, one_of, rows_of, subcommand_of};
 ghost use Rattle.clap.specs.Words.{subcommand_rows_of, takes};
-ghost use Rattle.command_line.specs.CommandLine.{bank_app};
+ghost use Rattle.command_line.specs.CommandLine.{AreInRange, IsCommandOf, IsNumber, IsText, IsWorkInRange, IsWorkOf};
+ghost use Rattle.command_line.specs.CommandLine.{bank_app, money_in, money_of_flag, spelled};
 ghost use Rattle.command_line.specs.Queries.{query_in};
-ghost use Rattle.command_line.specs.Words.{AreInRange, AsksForHelp, IsCommandOf, IsHelp, IsNumber, IsReadFrom, IsText};
-ghost use Rattle.command_line.specs.Words.{money_in, money_of_flag, spelled, words_read};
+ghost use Rattle.command_line.specs.Words.{AsksForHelp, IsHelp, IsReadFrom, words_read};
 
 use crate::command_line::bank_command;
 use crate::limits::MAX_CONNECTIONS;
@@ -22,77 +22,10 @@ use std::convert::AsStr;
 /// What the program is asked to do.
 #[derive(Clone, Copy)]
 pub enum Command<'a> {
-    /// Make a new bank in the file.
-    Init {
+    /// Something with the bank of a file.
+    OnFile {
         file: &'a str,
-    },
-    /// Open the branches of a plan in the file's bank.
-    Load {
-        file: &'a str,
-        plan: &'a str,
-    },
-    /// Post the records of standard input to the file's bank.
-    Post {
-        file: &'a str,
-    },
-    /// Post so many records that the driver draws, from this seed on, over the branches of the file's bank.
-    Drive {
-        file: &'a str,
-        seed: u64,
-        count: u64,
-    },
-    /// Audit the file's bank.
-    Audit {
-        file: &'a str,
-    },
-    /// Write the statement of an account of the file's bank, all of it or what is asked for, if it is something.
-    Statement {
-        file: &'a str,
-        account: Account,
-        query: Result<Query, QueryFault>,
-    },
-    /// Write the statement of each account of the file's bank that has a posting which is asked for, if it is something.
-    Statements {
-        file: &'a str,
-        query: Result<Query, QueryFault>,
-    },
-    /// Replay the file's bank.
-    Replay {
-        file: &'a str,
-    },
-    /// Print the digest of so many first requests of the file's bank.
-    Digest {
-        file: &'a str,
-        requests: u64,
-    },
-    /// Write the requests of the file's bank after so many as records.
-    Export {
-        file: &'a str,
-        after: u64,
-    },
-    /// Write the requests of the file's bank after so many as entries of a log.
-    Log {
-        file: &'a str,
-        after: u64,
-    },
-    /// Write the open branches of the file's bank as a plan.
-    Plan {
-        file: &'a str,
-    },
-    /// Take the file's bank along the log of another one, whose entries are the standard input, by a plan.
-    Follow {
-        file: &'a str,
-        plan: &'a str,
-    },
-    /// Serve the file's bank over HTTP at this address, to so many connections, or to all that come.
-    Serve {
-        file: &'a str,
-        address: &'a str,
-        connections: Option<u64>,
-    },
-    /// Carry the file's bank, which an older version made, over to this version.
-    Migrate {
-        file: &'a str,
+        task: Task<'a>,
     },
     /// Say whether the file's bank can be used, and if not, why.
     Why {
@@ -105,6 +38,71 @@ pub enum Command<'a> {
     Decode {
         money: Money,
         sheet: Option<&'a str>,
+    },
+    /// Write statements, of something that can't be asked.
+    Mistaken(QueryFault),
+}
+
+/// What is to be done with the bank of a file, and how that is had.
+#[derive(Clone, Copy)]
+pub enum Task<'a> {
+    /// Make a new bank in the file.
+    Init,
+    /// Carry the bank, which an older version made, over to this version.
+    Migrate,
+    /// Work with the bank that is there.
+    With(Work<'a>),
+}
+
+/// A work with the bank that is there.
+#[derive(Clone, Copy)]
+pub enum Work<'a> {
+    /// Open the branches of a plan.
+    Load {
+        plan: &'a str,
+    },
+    /// Post the records of standard input.
+    Post,
+    /// Post so many records that the driver draws, from this seed on, over the branches of the bank.
+    Drive {
+        seed: u64,
+        count: u64,
+    },
+    /// Audit the bank.
+    Audit,
+    /// Write the statement of an account, all of it or what is asked for.
+    Statement {
+        account: Account,
+        query: Query,
+    },
+    /// Write the statement of each account that has a posting which is asked for.
+    Statements {
+        query: Query,
+    },
+    /// Replay the bank.
+    Replay,
+    /// Print the digest of so many first requests.
+    Digest {
+        requests: u64,
+    },
+    /// Write the requests after so many as records.
+    Export {
+        after: u64,
+    },
+    /// Write the requests after so many as entries of a log.
+    Log {
+        after: u64,
+    },
+    /// Write the open branches as a plan.
+    Plan,
+    /// Take the bank along the log of another one, whose entries are the standard input, by a plan.
+    Follow {
+        plan: &'a str,
+    },
+    /// Serve the bank over HTTP at this address, to so many connections, or to all that come.
+    Serve {
+        address: &'a str,
+        connections: Option<u64>,
     },
 }
 
@@ -182,68 +180,85 @@ fn command_on_file<'a>(name: &str, file: &'a str, values: &ArgMatches<'a>) -> Op
     ensures ranges { IfSome result AreInRange }
 {
     match name {
-        "init" => Some(Command::Init { file }),
-        "post" => Some(Command::Post { file }),
-        "audit" => Some(Command::Audit { file }),
-        "replay" => Some(Command::Replay { file }),
-        "plan" => Some(Command::Plan { file }),
-        "migrate" => Some(Command::Migrate { file }),
         "why" => Some(Command::Why { file }),
-        "statements" => {
-            let query = query_in(values);
-            Some(Command::Statements { file, query })
-        }
-        _ => command_with_values(name, file, values),
+        "init" => Some(Command::OnFile {
+            file,
+            task: Task::Init,
+        }),
+        "migrate" => Some(Command::OnFile {
+            file,
+            task: Task::Migrate,
+        }),
+        "statement" => statement_in(file, values),
+        "statements" => Some(statements_in(file, values)),
+        _ => match work_of(name, values) {
+            Some(work) => Some(Command::OnFile {
+                file,
+                task: Task::With(work),
+            }),
+            None => None,
+        },
     }
 }
 
-// The command that a subcommand's name, its file and its other values tell, if they tell one.
-fn command_with_values<'a>(
-    name: &str,
-    file: &'a str,
-    values: &ArgMatches<'a>,
-) -> Option<Command<'a>>
+// The statement of an account that a subcommand's file and its other values tell, if they tell one.
+fn statement_in<'a>(file: &'a str, values: &ArgMatches<'a>) -> Option<Command<'a>>
     requires { IsText (codes "file") (rows_of (found_of values.now)) file.now }
-    ensures command { IfSome result (IsCommandOf (name.now, rows_of (found_of values.now))) }
+    ensures command { IfSome result (IsCommandOf (codes "statement", rows_of (found_of values.now))) }
     ensures ranges { IfSome result AreInRange }
 {
+    let account = Account::new(number_in(values, "account")?)?;
+    match query_in(values) {
+        Ok(query) => Some(Command::OnFile {
+            file,
+            task: Task::With(Work::Statement { account, query }),
+        }),
+        Err(fault) => Some(Command::Mistaken(fault)),
+    }
+}
+
+// The statements of all accounts that a subcommand's file and its other values tell.
+fn statements_in<'a>(file: &'a str, values: &ArgMatches<'a>) -> Command<'a>
+    requires { IsText (codes "file") (rows_of (found_of values.now)) file.now }
+    ensures command { IsCommandOf (codes "statements", rows_of (found_of values.now)) result }
+    ensures ranges { AreInRange result }
+{
+    match query_in(values) {
+        Ok(query) => Command::OnFile {
+            file,
+            task: Task::With(Work::Statements { query }),
+        },
+        Err(fault) => Command::Mistaken(fault),
+    }
+}
+
+// The work that a subcommand's name and its values beside the file tell, if they tell one that is no statement.
+fn work_of<'a>(name: &str, values: &ArgMatches<'a>) -> Option<Work<'a>>
+    ensures work { IfSome result (IsWorkOf (name.now, rows_of (found_of values.now))) }
+    ensures ranges { IfSome result IsWorkInRange }
+{
     match name {
-        "load" => {
-            let plan = text_in(values, "plan")?;
-            Some(Command::Load { file, plan })
-        }
-        "drive" => drive_in(
-            file,
-            number_in(values, "seed")?,
-            number_in(values, "count")?,
-        ),
-        "statement" => {
-            let account = Account::new(number_in(values, "account")?)?;
-            let query = query_in(values);
-            Some(Command::Statement {
-                file,
-                account,
-                query,
-            })
-        }
-        "digest" => {
-            let requests = number_in(values, "requests")?;
-            Some(Command::Digest { file, requests })
-        }
-        "export" => {
-            let after = number_if_any(values, "after")?.unwrap_or(0);
-            Some(Command::Export { file, after })
-        }
-        "log" => {
-            let after = number_if_any(values, "after")?.unwrap_or(0);
-            Some(Command::Log { file, after })
-        }
-        "follow" => {
-            let plan = text_in(values, "plan")?;
-            Some(Command::Follow { file, plan })
-        }
+        "load" => Some(Work::Load {
+            plan: text_in(values, "plan")?,
+        }),
+        "post" => Some(Work::Post),
+        "drive" => drive_in(number_in(values, "seed")?, number_in(values, "count")?),
+        "audit" => Some(Work::Audit),
+        "replay" => Some(Work::Replay),
+        "digest" => Some(Work::Digest {
+            requests: number_in(values, "requests")?,
+        }),
+        "export" => Some(Work::Export {
+            after: number_if_any(values, "after")?.unwrap_or(0),
+        }),
+        "log" => Some(Work::Log {
+            after: number_if_any(values, "after")?.unwrap_or(0),
+        }),
+        "plan" => Some(Work::Plan),
+        "follow" => Some(Work::Follow {
+            plan: text_in(values, "plan")?,
+        }),
         "serve" => serve_in(
-            file,
             text_in(values, "address")?,
             number_if_any(values, "connections")?,
         ),
@@ -281,25 +296,24 @@ fn query_in(values: &ArgMatches<'_>) -> Result<Query, QueryFault>
 }
 
 // A drive of so many records from this seed on, if the count is in its range.
-fn drive_in(file: &str, seed: u64, count: u64) -> Option<Command<'_>>
-    ensures command { IfSome result (λ command. command ≡ Command.Drive file.entry seed count) }
-    ensures ranges { IfSome result AreInRange }
+fn drive_in<'a>(seed: u64, count: u64) -> Option<Work<'a>>
+    ensures work { IfSome result (λ work. work ≡ Work.Drive seed count) }
+    ensures ranges { IfSome result IsWorkInRange }
 {
     if count < 1 || count > MAX_DRIVEN {
         return None;
     }
-    Some(Command::Drive { file, seed, count })
+    Some(Work::Drive { seed, count })
 }
 
 // A counter at this address, if the number of its connections is in its range.
-fn serve_in<'a>(file: &'a str, address: &'a str, connections: Option<u64>) -> Option<Command<'a>>
-    ensures command { IfSome result (λ command. command ≡ Command.Serve file.entry address.entry connections) }
-    ensures ranges { IfSome result AreInRange }
+fn serve_in(address: &str, connections: Option<u64>) -> Option<Work<'_>>
+    ensures work { IfSome result (λ work. work ≡ Work.Serve address.entry connections) }
+    ensures ranges { IfSome result IsWorkInRange }
 {
     match connections {
         Some(count) if count < 1 || count > MAX_CONNECTIONS => None,
-        _ => Some(Command::Serve {
-            file,
+        _ => Some(Work::Serve {
             address,
             connections,
         }),
