@@ -21,7 +21,7 @@ fn run_on<S: Start>(rt: &HostRuntime, start: S, words: &[String]) -> Status {
         &mut rt.stderr(),
         &mut SystemClock::new(rt),
     );
-    tell_reason(rt, status, words, &notes);
+    tell_reason(rt, status, &notes);
     status
 }
 

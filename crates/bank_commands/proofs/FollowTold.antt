@@ -1,13 +1,11 @@
 -- How the commands of a log end, and what following one leaves of the tables of other products.
 use Rattle.std.proofs.Common.{◌≡◌, refl, subst, inl, inr, arith, ℕ, List, Option, Result, Ok, Err, Bool, true, false}
-use Rattle.std.proofs.Common.{None}
 use Rattle.std.specs.{Prelude.IfOk, Prelude.if◌then◌else◌, Prelude.nat_lt, Io.KnownBytes.Appends}
 use Rattle.std.proofs.{KnownBytes.Appends-trans, lemmas.Result.err_from_is_err_and}
-use Rattle.sqlite.specs.{Effect.Database, Held.Held, State.HasCleanDisk}
+use Rattle.sqlite.specs.{Effect.Database, State.HasCleanDisk}
 use Rattle.sqlite.proofs.StateLemmas.{survives_then}
 use Rattle.sqlite_trees.specs.declared.store.Store.{Ghosts}
 use Rattle.posting_rules.specs.{believed.Counter.Seen, declared.fault.Fault.Fault}
-use Rattle.posting_rules.specs.declared.fault.Fault.TheVariants as bank
 use Rattle.posting_core.specs.believed.EndCalls.{ReadCall}
 use Rattle.store_rows.specs.believed.Sparing.{SparesOthers}
 use Rattle.branch_loader.specs.declared.fault.PlanFault.{PlanFault}
@@ -20,10 +18,9 @@ use Rattle.bank_replays.specs.declared.fault.ReplayFault.{ReplayFault, TheVarian
 use Rattle.command_line.specs.Following.{FollowsAnswer, TellsFollowed}
 use Rattle.command_line.specs.{Lines.after_line, Lines.followed_line, Working.done_after}
 use Rattle.command_line.specs.declared.fault.CommandFault.{CommandFault}
-use Rattle.command_line.specs.declared.fault.CommandFault.TheVariants as command
 use Rattle.command_line.specs.CommandFaults.{fault_of_bank}
 use Rattle.command_line.specs.declared.status.Status.{Status, TheVariants.Done}
-use Rattle.bank_commands.specs.Following.{FollowsCounted, FollowsFound, LogsOver, PrintsFollow, ended_by_log}
+use Rattle.bank_commands.specs.Following.{FollowsCounted, FollowsCounting, PrintsFollow, ended_by_log}
 
 -- ---- a log
 
@@ -33,24 +30,10 @@ by_requests : (fewer : Bool) (fault : CommandFault)
 by_requests true fault = tt
 by_requests false fault = refl
 
-log_done : (after : ℕ) (ends : Result ℕ ReplayFault) → IfOk (ended_by_log after ends) (λ status. status ≡ Done)
+pub log_done : (after : ℕ) (ends : Result ℕ ReplayFault) → IfOk (ended_by_log after ends) (λ status. status ≡ Done)
 log_done after (Ok requests) = by_requests (nat_lt requests after) _
 log_done after (Err Write) = tt
 log_done after (Err (OfBank cause)) = tt
-
-pub logs_done : {S : Type 0} (g : Ghosts S) (conn back : Held S) (after : ℕ) (w w' : Option (List ℕ))
-    (end : Result Status CommandFault) → LogsOver g conn back after w w' None None end
-    → IfOk end (λ status. status ≡ Done)
-logs_done g conn back after w w' end (inl none, spares) = rw (err_from_is_err_and end none.0).1 tt
-logs_done g conn back after w w' end (inr works, spares) =
-    rw works.did.1.1 (log_done after works.did.1.0)
-
--- no call of a bank fails since the output did
-pub bank_not_write : {Q : Type 0} (cause : Fault) → fault_of_bank cause ≡ command.Write → Q
-bank_not_write bank.Memory is = cc is
-bank_not_write bank.Store is = cc is
-bank_not_write bank.Down is = cc is
-bank_not_write (bank.Damaged rule) is = cc is
 
 -- ---- a log that was followed: both lines, where it was to the end
 
@@ -84,7 +67,7 @@ module _ (r r' : Option (List ℕ)) (q q' : Option (List ReadCall)) (w w' : Opti
     by_counted (Err cause) stood it = rw it.0 tt
 
     pub prints_follow : (end : Result Status CommandFault) → end ≡ done_after result
-        → FollowsFound g IsNamed known r r' q q' w w' old new result → PrintsFollow w w' end
+        → FollowsCounting g IsNamed known r r' q q' w w' old new result → PrintsFollow w w' end
     prints_follow end is it = rw is (by_counted it.counted it.stood it.follows)
 
 -- ---- the tables of other products

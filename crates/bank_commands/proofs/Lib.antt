@@ -3,3 +3,4 @@ pub mod Told
 pub mod Spared
 pub mod FollowTold
 pub mod Unnamed
+pub mod Unwritten

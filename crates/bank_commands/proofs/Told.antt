@@ -6,11 +6,10 @@ use Rattle.std.specs.{Io.KnownBytes.Appends, Io.KnownBytes.Keeps, declared.net.s
 use Rattle.std.proofs.{KnownBytes.Keeps-refl, lemmas.Result.err_from_is_err_and}
 use Rattle.sqlite.specs.Held.{Held}
 use Rattle.sqlite_trees.specs.declared.store.Store.{Ghosts}
-use Rattle.posting_rules.specs.declared.{fault.Fault.Fault, open_fault.OpenFault.OpenFault}
+use Rattle.posting_rules.specs.declared.fault.Fault.{Fault}
 use Rattle.posting_rules.specs.believed.Counter.{Seen}
 use Rattle.posting_rules.specs.declared.fault.Fault.TheVariants as bank
-use Rattle.posting_rules.specs.declared.open_fault.OpenFault.TheVariants as opening
-use Rattle.posting_core.specs.{believed.Stream.Streamed, believed.EndCalls.ReadCall}
+use Rattle.posting_core.specs.{believed.Stream.Streamed, believed.EndCalls.ReadCall, EndCalls.WriteCall}
 use Rattle.posting_core.specs.declared.stream.StreamFault.{StreamFault}
 use Rattle.counter_http.specs.declared.listen_fault.ListenFault.{ListenFault}
 use Rattle.posting_core.specs.declared.stream.StreamFault.TheVariants as stream
@@ -18,20 +17,22 @@ use Rattle.branch_loader.specs.{believed.Plans.Rows, declared.fault.PlanFault.Pl
 use Rattle.branch_loader.specs.declared.loader.Loaded.{Loaded}
 use Rattle.posting_sheets.specs.declared.fault.{RepliesFault.RepliesFault, SheetFault.SheetFault}
 use Rattle.report_contents.specs.declared.audit.Audit.{Audit}
-use Rattle.report_contents.specs.declared.query.Query.{Query}
 use Rattle.bank_reports.specs.declared.fault.ReportFault.{ReportFault}
 use Rattle.bank_reports.specs.declared.fault.ReportFault.TheVariants as report
 use Rattle.bank_replays.specs.declared.{chain.Digest.Digest, difference.Replay.Replay, fault.ReplayFault.ReplayFault}
 use Rattle.bank_replays.specs.declared.difference.Replay.TheVariants as replays
 use Rattle.bank_replays.specs.declared.fault.ReplayFault.TheVariants as written
+use Rattle.bank_store.specs.believed.{Down.bank_reason, Seen.bank_seen}
 use Rattle.bank_store.specs.declared.{bank.Bank.Bank, refused.Refused.Refused}
 use Rattle.command_line.specs.{Auditing.Prints, declared.fault.CommandFault.CommandFault}
-use Rattle.command_line.specs.declared.queries.QueryFault.{QueryFault}
-use Rattle.command_line.specs.{declared.reading.Command.Command, declared.status.Status.Status, Lines.driven_line}
+use Rattle.command_line.specs.declared.reading.{Command.Command, Task.Task, Work.Work}
+use Rattle.command_line.specs.{declared.status.Status.Status, Lines.driven_line}
 use Rattle.command_line.specs.{Lines.listening_line, Lines.loaded_line, Statuses.status_of_loaded}
 use Rattle.command_line.specs.CommandFaults.{IsOfFile, fault_of_opening, fault_of_stream, status_of}
 use Rattle.command_line.specs.declared.fault.CommandFault.TheVariants as fault
 use Rattle.command_line.specs.declared.reading.Command.TheVariants as commands
+use Rattle.command_line.specs.declared.reading.Task.TheVariants as tasks
+use Rattle.command_line.specs.declared.reading.Work.TheVariants as works
 use Rattle.command_line.specs.declared.status.Status.TheVariants.{Differs, Done, Inconsistent, Input, System, Usage}
 use Rattle.load_driver.specs.believed.Drives.{Drives}
 use Rattle.load_driver.specs.declared.{drive.Driven.Driven, drive_fault.DriveFault.DriveFault}
@@ -39,13 +40,15 @@ use Rattle.counter_http.specs.Clients.{ClientsCall}
 use Rattle.counter_http.specs.Connections.{Known}
 use Rattle.command_line.specs.Translating.{ended_by_replies, ended_by_sheet}
 use Rattle.command_line.specs.Working.{DrivesOver, LoadsAnswer, LoadsOver, ServesOver, TellsDrive, TellsLoad}
-use Rattle.command_line.specs.Working.{TellsServing, done_after, ended_by_load}
-use Rattle.bank_commands.specs.Commands.{EndsAllStated, EndsPost, PrintsDrive, PrintsLoad, PrintsServe, StatesAllAsked}
-use Rattle.bank_commands.specs.Commands.{StatesAllOver, StatesAsked, StatesOver, TellsLine, ended_by, stated_by}
+use Rattle.command_line.specs.Working.{TellsServing, done_after}
+use Rattle.bank_commands.specs.Commands.{EndsAllStated, EndsPost, PrintsDrive, PrintsLoad, PrintsServe, TellsLine}
+use Rattle.bank_commands.specs.Commands.{ended_by, stated_by}
 use Rattle.bank_commands.specs.{Over.IsRefusedOver, Over.RunsOver}
-use Rattle.bank_commands.specs.Running.{LeavesClock, LeavesInput, PrintsNone, Tells}
+use Rattle.bank_commands.specs.Doing.{DoesOver, TaskLeaves, WorkLeaves, Works}
+use Rattle.bank_commands.specs.Running.{PrintsNone, TaskTells, Tells, WorkTells}
 use Rattle.bank_commands.specs.Replaying.{PrintsDigest, PrintsReplay, ended_by_writing, ended_with}
 use Rattle.bank_commands.proofs.Endings.{input_is_not_usage, system_is_not_usage}
+use Rattle.bank_commands.proofs.FollowTold.{log_done, prints_follow}
 
 -- ---- over a connection
 
@@ -58,45 +61,6 @@ refused_over Why refused back end is same why = rw is record {
   reason = refl;
   why = why;
 }
-
--- no bank is missed because the output failed
-opening_not_write : {Q : Type 0} (f : OpenFault) → fault_of_opening f ≡ fault.Write → Q
-opening_not_write opening.Store is = cc
-opening_not_write opening.NotBlank is = cc
-opening_not_write opening.Blank is = cc
-opening_not_write opening.Foreign is = cc
-opening_not_write (opening.Version n) is = cc
-opening_not_write (opening.OtherTable table) is = cc
-opening_not_write (opening.Damaged rule) is = cc
-
-pub opening_is_no_write : {Q : Type 0} (f : OpenFault) (end : Result Status CommandFault)
-    → end ≡ Err (fault_of_opening f) → IsErrOf end fault.Write → Q
-opening_is_no_write f end same is =
-    let bad : fault_of_opening f ≡ fault.Write = cc (same, is) in
-    opening_not_write f bad
-
-pub refused_not_write : {S Q : Type 0} (Why : Refused S → Type 0) (back : Held S) (end : Result Status CommandFault)
-    → IsErrAnd end (IsRefusedOver Why back) → IsErrOf end fault.Write → Q
-refused_not_write Why back end refused is =
-    let f = err_from_is_err_and end refused in
-    let same : f.0 ≡ fault.Write = cc (is, f.1) in
-    opening_not_write f.2.refused.fault (sym f.2.reason ∙ same)
-
--- and a work that is said to have failed to write did
-pub done_not_written : {Failed : Type 0} (printed : Result (Unit {0}) CommandFault)
-    → (IsErrOf printed fault.Write → Failed) → IsErrOf (done_after printed) fault.Write → Failed
-done_not_written (Ok done) failed is = cc
-done_not_written (Err f) failed is = failed (cc is)
-
-pub line_not_written : {Failed : Type 0} (printed : Result (Unit {0}) CommandFault) → OnErr printed Failed
-    → IsErrOf (done_after printed) fault.Write → Failed
-line_not_written (Ok done) failed is = cc
-line_not_written (Err f) failed is = failed
-
-pub load_not_written : {Failed : Type 0} (loaded : Result Loaded CommandFault)
-    → (IsErrOf loaded fault.Write → Failed) → IsErrOf (ended_by_load loaded) fault.Write → Failed
-load_not_written (Ok loaded) failed is = cc
-load_not_written (Err f) failed is = failed (cc is)
 
 -- a line that was printed last, or a part of it
 pub line_told : (w w' : Option (List ℕ)) (line : List ℕ) (printed : Result (Unit {0}) CommandFault)
@@ -191,19 +155,6 @@ stated_done account (Err report.NoAccount) = tt
 stated_done account (Err report.Write) = tt
 stated_done account (Err (report.Bank cause)) = tt
 
-query_done : {S : Type 0} (g : Ghosts S) (conn back : Held S) (account : ℕ) (query : Query)
-    (w w' : Option (List ℕ)) (end : Result Status CommandFault)
-    → StatesOver g conn back account query w w' None None end → IfOk end (λ status. status ≡ Done)
-query_done g conn back account query w w' end (inl none, spares) = rw (err_from_is_err_and end none.0).1 tt
-query_done g conn back account query w w' end (inr works, spares) =
-    rw works.did.1.1 (stated_done account works.did.1.0)
-
-pub states_done : {S : Type 0} (g : Ghosts S) (conn back : Held S) (account : ℕ)
-    (query : Result Query QueryFault) (w w' : Option (List ℕ)) (end : Result Status CommandFault)
-    → StatesAsked g conn back account query w w' None None end → IfOk end (λ status. status ≡ Done)
-states_done g conn back account (Ok query) w w' end states = query_done g conn back account query w w' end states
-states_done g conn back account (Err fault) w w' end states = rw states.0 tt
-
 all_stated_done : (stated : Result (Unit {0}) ReportFault) (end : Result Status CommandFault)
     → EndsAllStated stated end → IfOk end (λ status. status ≡ Done)
 all_stated_done (Ok done) end is = rw is refl
@@ -211,74 +162,79 @@ all_stated_done (Err report.NoAccount) end is = absurd is
 all_stated_done (Err report.Write) end is = rw is tt
 all_stated_done (Err (report.Bank cause)) end is = rw is tt
 
-all_done : {S : Type 0} (g : Ghosts S) (conn back : Held S) (query : Query)
-    (w w' : Option (List ℕ)) (end : Result Status CommandFault)
-    → StatesAllOver g conn back query w w' None None end → IfOk end (λ status. status ≡ Done)
-all_done g conn back query w w' end (inl none, spares) = rw (err_from_is_err_and end none.0).1 tt
-all_done g conn back query w w' end (inr works, spares) = all_stated_done works.did.1.0 end works.did.1.1
-
-pub all_states_done : {S : Type 0} (g : Ghosts S) (conn back : Held S)
-    (query : Result Query QueryFault) (w w' : Option (List ℕ)) (end : Result Status CommandFault)
-    → StatesAllAsked g conn back query w w' None None end → IfOk end (λ status. status ≡ Done)
-all_states_done g conn back (Ok query) w w' end states = all_done g conn back query w w' end states
-all_states_done g conn back (Err fault) w w' end states = rw states.0 tt
-
--- where a text was written
-pub written_done : {S : Type 0} {g : Ghosts S} (Why : Refused S → Type 0) (Did : Bank S g → Bank S g → Type 0)
-    {back : Held S} {Idle : Type 0} (end : Result Status CommandFault) → RunsOver g Why back end Idle Did
-    → ((old new : Bank S g) → Did old new
-    → (ends : Result (Unit {0}) ReplayFault) × (end ≡ ended_by_writing ends))
-    → IfOk end (λ status. status ≡ Done)
-written_done Why Did end (inl none) ends = rw (err_from_is_err_and end none.0).1 tt
-written_done Why Did end (inr works) ends =
-    let it = ends works.first works.last works.did in
-    rw it.1 (by it.0)
-  where
-    by : (ends : Result (Unit {0}) ReplayFault) → IfOk (ended_by_writing ends) (λ status. status ≡ Done)
-    by (Ok done) = refl
-    by (Err written.Write) = tt
-    by (Err (written.Bank cause)) = tt
+writing_done : (ends : Result (Unit {0}) ReplayFault) → IfOk (ended_by_writing ends) (λ status. status ≡ Done)
+writing_done (Ok done) = refl
+writing_done (Err written.Write) = tt
+writing_done (Err (written.Bank cause)) = tt
 
 -- ---- where the command wasn't begun
 
--- the command has a file
-abbrev pub HasFile : Command → Type 0
-HasFile commands.Encode = ⊥
-HasFile (commands.Decode money sheet) = ⊥
-HasFile _ = ⊤
+pub task_idle : (task : Task) (f : CommandFault) (e : Known) → TaskTells task e e (Err f)
+task_idle tasks.Init f e = inl ((f, refl), Keeps-refl e.writer)
+task_idle tasks.Migrate f e = inl ((f, refl), Keeps-refl e.writer)
+task_idle (tasks.With work) f e = inl ((f, refl), refl)
 
-pub tells_idle : (c : Command) (f : CommandFault) (r w : Option (List ℕ)) → HasFile c → Tells c r r w w (Err f)
-tells_idle (commands.Init file) f r w has = inl ((f, refl), Keeps-refl w)
-tells_idle (commands.Load file plan) f r w has = inl (Keeps-refl w)
-tells_idle (commands.Post file) f r w has = (tt, λ _. (refl, refl))
-tells_idle (commands.Drive file seed count) f r w has = inl (Keeps-refl w)
-tells_idle (commands.Audit file) f r w has = inl ((f, refl), Keeps-refl w)
-tells_idle (commands.Statement file account query) f r w has = tt
-tells_idle (commands.Statements file query) f r w has = tt
-tells_idle (commands.Replay file) f r w has = inl ((f, refl), Keeps-refl w)
-tells_idle (commands.Digest file requests) f r w has = inl ((f, refl), Keeps-refl w)
-tells_idle (commands.Export file after) f r w has = tt
-tells_idle (commands.Log file after) f r w has = tt
-tells_idle (commands.Follow file plan) f r w has = tt
-tells_idle (commands.Plan file) f r w has = tt
-tells_idle (commands.Serve file address connections) f r w has = inl (Keeps-refl w)
-tells_idle (commands.Migrate file) f r w has = inl ((f, refl), Keeps-refl w)
-tells_idle (commands.Why file) f r w has = inl ((f, refl), Keeps-refl w)
-tells_idle commands.Encode f r w has = absurd has
-tells_idle (commands.Decode money sheet) f r w has = absurd has
+work_untouched : (work : Work) (e : Known) (k : Option (List ℕ)) → WorkLeaves work e e k k
+work_untouched works.Post e k = tt
+work_untouched (works.Follow plan) e k = refl
+work_untouched (works.Drive seed count) e k = (refl, refl, refl)
+work_untouched (works.Serve address connections) e k = (refl, refl, refl)
+work_untouched other e k = ((refl, refl, refl), refl)
 
-pub input_left : (c : Command) (r : Option (List ℕ)) → LeavesInput c r r
-input_left (commands.Post file) r = tt
-input_left (commands.Follow file plan) r = tt
-input_left commands.Encode r = tt
-input_left (commands.Decode money sheet) r = tt
-input_left other r = refl
+pub task_untouched : (task : Task) (e : Known) (k : Option (List ℕ)) → TaskLeaves task e e k k
+task_untouched tasks.Init e k = ((refl, refl, refl), refl)
+task_untouched tasks.Migrate e k = ((refl, refl, refl), refl)
+task_untouched (tasks.With work) e k = work_untouched work e k
 
-pub clock_left : (c : Command) (k : Option (List ℕ)) → LeavesClock c k k
-clock_left (commands.Post file) k = tt
-clock_left (commands.Drive file seed count) k = tt
-clock_left (commands.Serve file address connections) k = tt
-clock_left other k = refl
+-- ---- what a task did with a bank is what it tells of it
+
+module _ {S P D E : Type 0} (g : Ghosts S) (IsNamed : List ℕ → P → Type 0)
+    (known : P → Option (List ℕ) × Option (List ReadCall)) (IsBound : List ℕ → D → Type 0) (ends : E → Known)
+    (calls : D → Option (List (ClientsCall E))) where
+  work_told : (work : Work) (e e' : Known) (k k' : Option (List ℕ)) (old new : Bank S g)
+      (end : Result Status CommandFault) → Works g IsNamed known IsBound ends calls work e e' k k' old new end
+      → WorkTells work e e' end
+  work_told (works.Load plan) e e' k k' old new end did =
+      prints_load e.writer e'.writer end (bank_seen g) (bank_reason g) (IsNamed plan.now) known old new did.0
+  work_told works.Post e e' k k' old new end did =
+      rw did.1 (ends_post e.reader e'.reader e.writer e'.writer k k' did.0 did.2.batches.did)
+  work_told (works.Drive seed count) e e' k k' old new end did =
+      prints_drive e.writer e'.writer end (bank_seen g) (bank_reason g) old new k k' seed count did
+  work_told works.Audit e e' k k' old new end did = (did.0, did.1)
+  work_told works.Replay e e' k k' old new end did = (did.0, did.1)
+  work_told (works.Digest requests) e e' k k' old new end did = (did.0, did.1)
+  work_told (works.Follow plan) e e' k k' old new end did =
+      prints_follow e.reader e'.reader e.reads e'.reads e.writer e'.writer S P g (IsNamed plan.now) known old new did.0 end
+      did.1 did.2
+  work_told (works.Serve address connections) e e' k k' old new end did =
+      prints_serve e.writer e'.writer end (bank_seen g) (bank_reason g) old new (IsBound address.now) ends calls k k' _ did
+  work_told (works.Statement account query) e e' k k' old new end did = rw did.1 (stated_done account did.0)
+  work_told (works.Statements query) e e' k k' old new end did = all_stated_done did.0 end did.1
+  work_told (works.Export after) e e' k k' old new end did = rw did.1 (writing_done did.0)
+  work_told (works.Log after) e e' k k' old new end did = rw did.1 (log_done after did.0)
+  work_told works.Plan e e' k k' old new end did = rw did.1 (writing_done did.0)
+
+  pub task_told : (task : Task) (conn back : Held S) (e e' : Known) (k k' : Option (List ℕ))
+      (end : Result Status CommandFault)
+      → DoesOver g IsNamed known IsBound ends calls task conn back e e' k k' end → TaskTells task e e' end
+  task_told tasks.Init conn back e e' k k' end does =
+      prints_none _ _ e.writer e'.writer end does.0 (λ _ _ did. did.2)
+  task_told tasks.Migrate conn back e e' k k' end does =
+      prints_none _ _ e.writer e'.writer end does.0 (λ _ _ did. (did.0, did.3))
+  task_told (tasks.With work) conn back e e' k k' end (inl none, spares) =
+      let f = err_from_is_err_and end none.0 in
+      inl ((f.0, f.1), none.1.0)
+  task_told (tasks.With work) conn back e e' k k' end (inr did, spares) =
+      inr (work_told work e e' k k' did.first did.last end did.did.1.0)
+
+  pub task_left : (task : Task) (conn back : Held S) (e e' : Known) (k k' : Option (List ℕ))
+      (end : Result Status CommandFault)
+      → DoesOver g IsNamed known IsBound ends calls task conn back e e' k k' end → TaskLeaves task e e' k k'
+  task_left tasks.Init conn back e e' k k' end does = does.1
+  task_left tasks.Migrate conn back e e' k k' end does = does.1
+  task_left (tasks.With work) conn back e e' k k' end (inl none, spares) =
+      rw (none.1.0, none.1.1) (work_untouched work e k)
+  task_left (tasks.With work) conn back e e' k k' end (inr did, spares) = did.did.1.1
 
 -- ---- no command ends the program as a mistake in the words
 
@@ -356,52 +312,48 @@ ended_is_not_usage by status (Ok done) free is =
     subst (λ (s : Status). s ≢ Usage) same free
 ended_is_not_usage by status (Err f) free is = not_a_fault status _ is
 
-replayed_is_not_usage : (found : Result Replay Fault) (w w' : Option (List ℕ)) (status : Status)
-    → PrintsReplay found w w' None None (Ok status) → status ≢ Usage
-replayed_is_not_usage (Ok (replays.Agrees d)) w w' status end =
+replayed_is_not_usage : (found : Result Replay Fault) (w w' : Option (List ℕ)) (t t' : Option (List WriteCall))
+    (status : Status) → PrintsReplay found w w' t t' (Ok status) → status ≢ Usage
+replayed_is_not_usage (Ok (replays.Agrees d)) w w' t t' status end =
     ended_is_not_usage Done status end.0 (done_is_not_usage Done refl) end.2
-replayed_is_not_usage (Ok (replays.Differs d)) w w' status end =
+replayed_is_not_usage (Ok (replays.Differs d)) w w' t t' status end =
     ended_is_not_usage Differs status end.0 differs_is_not_usage end.2
-replayed_is_not_usage (Err cause) w w' status end = not_a_fault status _ end.0
+replayed_is_not_usage (Err cause) w w' t t' status end = not_a_fault status _ end.0
 
 digested_is_not_usage : (requests : ℕ) (found : Result (Option Digest) Fault) (w w' : Option (List ℕ))
-    (status : Status) → PrintsDigest requests found w w' None None (Ok status) → status ≢ Usage
-digested_is_not_usage requests (Ok (Some d)) w w' status end =
+    (t t' : Option (List WriteCall)) (status : Status) → PrintsDigest requests found w w' t t' (Ok status)
+    → status ≢ Usage
+digested_is_not_usage requests (Ok (Some d)) w w' t t' status end =
     ended_is_not_usage Done status end.0 (done_is_not_usage Done refl) end.2
-digested_is_not_usage requests (Ok None) w w' status end = not_a_fault status _ end.0
-digested_is_not_usage requests (Err cause) w w' status end = not_a_fault status _ end.0
+digested_is_not_usage requests (Ok None) w w' t t' status end = not_a_fault status _ end.0
+digested_is_not_usage requests (Err cause) w w' t t' status end = not_a_fault status _ end.0
 
-pub told_is_not_usage : (c : Command) (r r' w w' : Option (List ℕ)) (status : Status)
-    → Tells c r r' w w' (Ok status) → status ≢ Usage
-told_is_not_usage (commands.Init file) r r' w w' status (inl none) = not_a_fault status _ none.0.1
-told_is_not_usage (commands.Init file) r r' w w' status (inr end) = done_is_not_usage status end.0
-told_is_not_usage (commands.Load file plan) r r' w w' status end =
+work_is_not_usage : (work : Work) (e e' : Known) (status : Status) → WorkTells work e e' (Ok status) → status ≢ Usage
+work_is_not_usage (works.Load plan) e e' status end =
     one_of_two _ Differs Done status differs_is_not_usage (done_is_not_usage Done refl) end.1.1
-told_is_not_usage (commands.Post file) r r' w w' status end = done_is_not_usage status end.0.0
-told_is_not_usage (commands.Drive file seed count) r r' w w' status end = done_is_not_usage status end.1.1
-told_is_not_usage (commands.Audit file) r r' w w' status (inl none) = not_a_fault status _ none.0.1
-told_is_not_usage (commands.Audit file) r r' w w' status (inr end) =
-    audited_is_not_usage end.0 w w' status end.1
-told_is_not_usage (commands.Statement file account query) r r' w w' status end = done_is_not_usage status end
-told_is_not_usage (commands.Statements file query) r r' w w' status end = done_is_not_usage status end
-told_is_not_usage (commands.Replay file) r r' w w' status (inl none) = not_a_fault status _ none.0.1
-told_is_not_usage (commands.Replay file) r r' w w' status (inr end) =
-    replayed_is_not_usage end.0 w w' status end.1
-told_is_not_usage (commands.Digest file requests) r r' w w' status (inl none) = not_a_fault status _ none.0.1
-told_is_not_usage (commands.Digest file requests) r r' w w' status (inr end) =
-    digested_is_not_usage requests end.0 w w' status end.1
-told_is_not_usage (commands.Export file after) r r' w w' status end = done_is_not_usage status end
-told_is_not_usage (commands.Log file after) r r' w w' status end = done_is_not_usage status end
-told_is_not_usage (commands.Follow file plan) r r' w w' status end = done_is_not_usage status end.0
-told_is_not_usage (commands.Plan file) r r' w w' status end = done_is_not_usage status end
-told_is_not_usage (commands.Serve file address connections) r r' w w' status end = done_is_not_usage status end.0
-told_is_not_usage (commands.Migrate file) r r' w w' status (inl none) = not_a_fault status _ none.0.1
-told_is_not_usage (commands.Migrate file) r r' w w' status (inr end) = done_is_not_usage status end.1.0
-told_is_not_usage (commands.Why file) r r' w w' status (inl none) = not_a_fault status _ none.0.1
-told_is_not_usage (commands.Why file) r r' w w' status (inr end) = done_is_not_usage status end.0
-told_is_not_usage commands.Encode r r' w w' status end = encoded_is_not_usage end.sheet status end.ended
-told_is_not_usage (commands.Decode money None) r r' w w' status end =
+work_is_not_usage works.Post e e' status end = done_is_not_usage status end.0.0
+work_is_not_usage (works.Drive seed count) e e' status end = done_is_not_usage status end.1.1
+work_is_not_usage works.Audit e e' status end = audited_is_not_usage end.0 _ _ status end.1
+work_is_not_usage works.Replay e e' status end = replayed_is_not_usage end.0 _ _ _ _ status end.1
+work_is_not_usage (works.Digest requests) e e' status end =
+    digested_is_not_usage requests end.0 _ _ _ _ status end.1
+work_is_not_usage (works.Follow plan) e e' status end = done_is_not_usage status end.0
+work_is_not_usage (works.Serve address connections) e e' status end = done_is_not_usage status end.0
+work_is_not_usage other e e' status end = done_is_not_usage status end
+
+pub told_is_not_usage : (c : Command) (e e' : Known) (status : Status) → Tells c e e' (Ok status) → status ≢ Usage
+told_is_not_usage (commands.OnFile file tasks.Init) e e' status (inl none) = not_a_fault status _ none.0.1
+told_is_not_usage (commands.OnFile file tasks.Init) e e' status (inr end) = done_is_not_usage status end.0
+told_is_not_usage (commands.OnFile file tasks.Migrate) e e' status (inl none) = not_a_fault status _ none.0.1
+told_is_not_usage (commands.OnFile file tasks.Migrate) e e' status (inr end) = done_is_not_usage status end.1.0
+told_is_not_usage (commands.OnFile file (tasks.With work)) e e' status (inl none) = not_a_fault status _ none.0.1
+told_is_not_usage (commands.OnFile file (tasks.With work)) e e' status (inr end) =
+    work_is_not_usage work e e' status end
+told_is_not_usage (commands.Why file) e e' status (inl none) = not_a_fault status _ none.0.1
+told_is_not_usage (commands.Why file) e e' status (inr end) = done_is_not_usage status end.0
+told_is_not_usage commands.Encode e e' status end = encoded_is_not_usage end.sheet status end.ended
+told_is_not_usage (commands.Decode money None) e e' status end = decoded_is_not_usage end.replies status end.ended
+told_is_not_usage (commands.Decode money (Some sheet)) e e' status (inl none) = not_a_fault status _ none.ended
+told_is_not_usage (commands.Decode money (Some sheet)) e e' status (inr end) =
     decoded_is_not_usage end.replies status end.ended
-told_is_not_usage (commands.Decode money (Some sheet)) r r' w w' status (inl none) = not_a_fault status _ none.ended
-told_is_not_usage (commands.Decode money (Some sheet)) r r' w w' status (inr end) =
-    decoded_is_not_usage end.replies status end.ended
+told_is_not_usage (commands.Mistaken fault) e e' status end = not_a_fault status _ end.0

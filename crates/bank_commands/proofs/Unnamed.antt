@@ -3,6 +3,7 @@ use Rattle.std.proofs.Common.{inl, inr}
 use Rattle.std.specs.Prelude.{◌⊎◌, ℕ, List, Option, None, Some, Result, Ok, Err}
 use Rattle.posting_core.specs.believed.EndCalls.{EndsWith, ReadCall}
 use Rattle.posting_core.specs.EndCalls.{HasReadFailed, WriteCall}
+use Rattle.counter_http.specs.Connections.{Known}
 use Rattle.posting_sheets.specs.Beside.{BesideFaultIsOfItsEnd, DecodesBeside}
 use Rattle.posting_sheets.specs.declared.fault.RepliesFault.{RepliesFault}
 use Rattle.posting_sheets.specs.declared.fault.RepliesFault.TheVariants as replies
@@ -50,22 +51,23 @@ decodes_unnamed result d = record {
 }
 
 -- what is said of a sheet of a name is said of any
-unnamed : (P : Type 0) (money : Money) (IsNamed : P → Type 0) (known : P → Option (List ℕ) × Option (List ReadCall))
-    (r r' w w' : Option (List ℕ)) (end : Result Status CommandFault)
-    → DecodesOver money IsNamed known r r' None None w w' None None end
-    → OpensNoSheet r r' w w' end ⊎ DecodesPostings money None None None None r r' None None w w' None None end
-unnamed P money IsNamed known r r' w w' end (inl none) = inl none
-unnamed P money IsNamed known r r' w w' end (inr d) = inr (record {
-  replies = d.3.replies;
-  decodes = decodes_unnamed d.3.replies d.3.decodes;
-  ends = ends_unnamed d.3.replies (known d.1).0 (known d.0).1 (known d.1).1 r' None None None None d.3.ends;
-  ended = d.3.ended;
-})
+module _ (P : Type 0) (money : Money) (known : P → Option (List ℕ) × Option (List ReadCall))
+    (r r' : Option (List ℕ)) (q q' : Option (List ReadCall)) (w w' : Option (List ℕ)) (t t' : Option (List WriteCall))
+    (end : Result Status CommandFault) where
+  unnamed : (IsNamed : P → Type 0) → DecodesOver money IsNamed known r r' q q' w w' t t' end
+      → OpensNoSheet r r' w w' end ⊎ DecodesPostings money None None None None r r' q q' w w' t t' end
+  unnamed IsNamed (inl none) = inl none
+  unnamed IsNamed (inr d) = inr (record {
+    replies = d.3.replies;
+    decodes = decodes_unnamed d.3.replies d.3.decodes;
+    ends = ends_unnamed d.3.replies (known d.1).0 (known d.0).1 (known d.1).1 r' q q' t t' d.3.ends;
+    ended = d.3.ended;
+  })
 
 pub tells_decode : (P : Type 0) (money : Money) (name : Option (List ℕ)) (IsNamed : List ℕ → P → Type 0)
-    (known : P → Option (List ℕ) × Option (List ReadCall)) (r r' w w' : Option (List ℕ))
-    (end : Result Status CommandFault)
-    → DecodesIn money name IsNamed known r r' None None w w' None None end → TellsDecode money name r r' w w' end
-tells_decode P money None IsNamed known r r' w w' end it = it
-tells_decode P money (Some name) IsNamed known r r' w w' end it =
-    unnamed P money (IsNamed name) known r r' w w' end it
+    (known : P → Option (List ℕ) × Option (List ReadCall)) (e e' : Known) (end : Result Status CommandFault)
+    → DecodesIn money name IsNamed known e.reader e'.reader e.reads e'.reads e.writer e'.writer e.writes e'.writes end
+    → TellsDecode money name e e' end
+tells_decode P money None IsNamed known e e' end it = it
+tells_decode P money (Some name) IsNamed known e e' end it =
+    unnamed P money known e.reader e'.reader e.reads e'.reads e.writer e'.writer e.writes e'.writes end (IsNamed name) it

@@ -1,7 +1,8 @@
--- What each command does over the connection conn, which it hands back as back, and how it ends: end is the status
--- or the fault. r and r' are the known bytes of its input before and after, w and w' those of its output, k and k' the
--- clock's known readings; what the calls of its ends are known to have returned is q and q' of the input, and t and
--- t' of the output; beside which sinks the input is known to have been read is b and b'.
+-- What each work does with the bank that is found, which is old before it and new after it, and how it ends: end is the
+-- status or the fault. r and r' are the known bytes of its input before and after, w and w' those of its output, k and k'
+-- the clock's known readings; what the calls of its ends are known to have returned is q and q' of the input, and t and
+-- t' of the output; beside which sinks the input is known to have been read is b and b'. A bank that is made or carried
+-- over comes over the connection conn, which is handed back as back.
 use Rattle.std.specs.Prelude.{◌≡◌, ◌≢◌, ◌⊎◌, ◌+◌, ℕ, List, Option, Result, Ok, Err, IfErr, IfOk, OnOk}
 use Rattle.std.specs.Io.KnownBytes.{Appends, IsAtEnd, Keeps}
 use Rattle.std.specs.declared.net.socket_addr.SocketAddr.{SocketAddr}
@@ -39,7 +40,6 @@ use Rattle.command_line.specs.Statuses.{status_of_loaded}
 use Rattle.counter_http.specs.Clients.{ClientsCall}
 use Rattle.counter_http.specs.Connections.{Known}
 use Rattle.command_line.specs.Working.{DrivesOver, LoadsOver, ServesOver}
-use Rattle.command_line.specs.declared.queries.QueryFault.{QueryFault}
 use Rattle.command_line.specs.declared.fault.CommandFault.{CommandFault}
 use Rattle.command_line.specs.declared.fault.CommandFault.TheVariants as faults
 use Rattle.command_line.specs.declared.status.Status.{Status}
@@ -74,40 +74,35 @@ Migrates g conn back w w' end = RunsOver g (IsUnmovedOver g conn) back end (w' �
 -- ---- records and branches are added
 
 -- IsNamed says of a source that it is the plan's, and known what is known of one
-abbrev pub Loads : {S P : Type 0} (g : Ghosts S) → (conn back : Held S) → (IsNamed : P → Type 0)
-    → (known : P → Option (List ℕ) × Option (List ReadCall)) → (w w' : Option (List ℕ))
+abbrev pub Loads : {S P : Type 0} (g : Ghosts S) → (IsNamed : P → Type 0)
+    → (known : P → Option (List ℕ) × Option (List ReadCall)) → (w w' : Option (List ℕ)) → (old new : Bank S g)
     → Result Status CommandFault → Type 0
-Loads g conn back IsNamed known w w' end =
-    FindsOver g conn back end (w' ≡ w)
-    (λ old new. LoadsOver (bank_seen g) (bank_reason g) IsNamed known w w' (λ other. end ≡ other) old new
-    × ((bank_seen g new).honest → (bank_seen g old).honest))
+Loads g IsNamed known w w' old new end =
+    LoadsOver (bank_seen g) (bank_reason g) IsNamed known w w' (λ other. end ≡ other) old new
+    × ((bank_seen g new).honest → (bank_seen g old).honest)
 
 -- how a stream ends the command
 abbrev pub ended_by : Result ℕ StreamFault → Result Status CommandFault
 ended_by (Ok count) = Ok Done
 ended_by (Err fault) = Err (fault_of_stream fault)
 
-abbrev pub Posts : {S : Type 0} (g : Ghosts S) → (conn back : Held S) → (r r' : Option (List ℕ))
-    → (q q' : Option (List ReadCall)) → (b b' : Option (List Beside)) → (w w' : Option (List ℕ))
-    → (t t' : Option (List WriteCall))
-    → (k k' : Option (List ℕ)) → Result Status CommandFault → Type 0
-Posts g conn back r r' q q' b b' w w' t t' k k' end =
-    FindsOver g conn back end ((r' ≡ r) × (w' ≡ w) × (k' ≡ k))
-    (λ old new. (streamed : Result ℕ StreamFault) × (end ≡ ended_by streamed)
-    × Streams r r' q q' b b' w w' t t' k k' (bank_seen g) (bank_reason g) old new streamed)
+abbrev pub Posts : {S : Type 0} (g : Ghosts S) → (r r' : Option (List ℕ)) → (q q' : Option (List ReadCall))
+    → (b b' : Option (List Beside)) → (w w' : Option (List ℕ)) → (t t' : Option (List WriteCall))
+    → (k k' : Option (List ℕ)) → (old new : Bank S g) → Result Status CommandFault → Type 0
+Posts g r r' q q' b b' w w' t t' k k' old new end =
+    (streamed : Result ℕ StreamFault) × (end ≡ ended_by streamed)
+    × Streams r r' q q' b b' w w' t t' k k' (bank_seen g) (bank_reason g) old new streamed
 
-abbrev pub DrivesBank : {S : Type 0} (g : Ghosts S) → (conn back : Held S) → (w w' k k' : Option (List ℕ))
-    → (seed count : ℕ) → Result Status CommandFault → Type 0
-DrivesBank g conn back w w' k k' seed count end =
-    FindsOver g conn back end ((w' ≡ w) × (k' ≡ k))
-    (DrivesOver (bank_seen g) (bank_reason g) k k' w w' seed count (λ other. end ≡ other))
+abbrev pub DrivesBank : {S : Type 0} (g : Ghosts S) → (w w' k k' : Option (List ℕ)) → (seed count : ℕ)
+    → (old new : Bank S g) → Result Status CommandFault → Type 0
+DrivesBank g w w' k k' seed count old new end =
+    DrivesOver (bank_seen g) (bank_reason g) k k' w w' seed count (λ other. end ≡ other) old new
 
-abbrev pub Serves : {S D E : Type 0} (g : Ghosts S) → (conn back : Held S) → (IsBound : D → Type 0) → (known : E → Known)
+abbrev pub Serves : {S D E : Type 0} (g : Ghosts S) → (IsBound : D → Type 0) → (known : E → Known)
     → (calls : D → Option (List (ClientsCall E))) → (w w' k k' : Option (List ℕ)) → (count : ℕ)
-    → Result Status CommandFault → Type 0
-Serves g conn back IsBound known calls w w' k k' count end =
-    FindsOver g conn back end ((w' ≡ w) × (k' ≡ k))
-    (ServesOver (bank_seen g) (bank_reason g) IsBound known calls k k' w w' count (λ other. end ≡ other))
+    → (old new : Bank S g) → Result Status CommandFault → Type 0
+Serves g IsBound known calls w w' k k' count old new end =
+    ServesOver (bank_seen g) (bank_reason g) IsBound known calls k k' w w' count (λ other. end ≡ other) old new
 
 -- ---- reports
 
@@ -120,11 +115,9 @@ pub record AuditsBank {S : Type 0} (g : Ghosts S) (found : Result Audit Fault) (
   pub up : fault_of new ≡ fault_of old
   pub leaves : LeavesAsFound g old new
 
-abbrev pub AuditsOver : {S : Type 0} (g : Ghosts S) → (conn back : Held S) → (w w' : Option (List ℕ))
+abbrev pub AuditsFound : {S : Type 0} (g : Ghosts S) → (w w' : Option (List ℕ)) → (old new : Bank S g)
     → Result Status CommandFault → Type 0
-AuditsOver g conn back w w' end =
-    FindsOver g conn back end (w' ≡ w)
-    (λ old new. (found : Result Audit Fault) × Prints found w w' end × AuditsBank g found old new)
+AuditsFound g w w' old new end = (found : Result Audit Fault) × Prints found w w' end × AuditsBank g found old new
 
 -- a bank was found, and nothing was done with it
 abbrev pub LooksOver : {S : Type 0} (g : Ghosts S) → (conn back : Held S) → (w w' : Option (List ℕ))
@@ -152,12 +145,11 @@ pub record StatesBank {S : Type 0} (g : Ghosts S) (account : ℕ) (query : Query
   pub frugal : stated ≢ Err (report.Bank Memory)
   pub leaves : CommitsAsFound g old new
 
-abbrev pub StatesOver : {S : Type 0} (g : Ghosts S) → (conn back : Held S) → ℕ → Query → (w w' : Option (List ℕ))
-    → (t t' : Option (List WriteCall)) → Result Status CommandFault → Type 0
-StatesOver g conn back account query w w' t t' end =
-    FindsOver g conn back end (w' ≡ w)
-    (λ old new. (stated : Result (Unit {0}) ReportFault) × (end ≡ stated_by account stated)
-    × StatesBank g account query w w' t t' stated old new)
+abbrev pub States : {S : Type 0} (g : Ghosts S) → ℕ → Query → (w w' : Option (List ℕ))
+    → (t t' : Option (List WriteCall)) → (old new : Bank S g) → Result Status CommandFault → Type 0
+States g account query w w' t t' old new end =
+    (stated : Result (Unit {0}) ReportFault) × (end ≡ stated_by account stated)
+    × StatesBank g account query w w' t t' stated old new
 
 -- how the statements of all accounts end it; none misses an account
 abbrev pub EndsAllStated : Result (Unit {0}) ReportFault → Result Status CommandFault → Type 0
@@ -178,30 +170,11 @@ pub record StatesAllOfBank {S : Type 0} (g : Ghosts S) (query : Query) (w w' : O
   pub up : (bank_seen g new).is_down → (bank_seen g old).is_down
   pub leaves : LeavesAsFound g old new
 
-abbrev pub StatesAllOver : {S : Type 0} (g : Ghosts S) → (conn back : Held S) → Query → (w w' : Option (List ℕ))
-    → (t t' : Option (List WriteCall)) → Result Status CommandFault → Type 0
-StatesAllOver g conn back query w w' t t' end =
-    FindsOver g conn back end (w' ≡ w)
-    (λ old new. (stated : Result (Unit {0}) ReportFault) × EndsAllStated stated end
-    × StatesAllOfBank g query w w' t t' stated old new)
-
--- what was asked for was stated; or it is nothing that can be asked, and nothing was done
-abbrev pub DoesAsked : {S : Type 0} → (conn back : Held S) → (w w' : Option (List ℕ)) → (States : Query → Type 0)
-    → Result Query QueryFault → Result Status CommandFault → Type 0
-DoesAsked conn back w w' States (Ok query) end = States query
-DoesAsked conn back w w' States (Err fault) end = (end ≡ Err (faults.Query fault)) × (back ≡ conn) × (w' ≡ w)
-
-abbrev pub StatesAsked : {S : Type 0} (g : Ghosts S) → (conn back : Held S) → ℕ
-    → Result Query QueryFault → (w w' : Option (List ℕ)) → (t t' : Option (List WriteCall))
-    → Result Status CommandFault → Type 0
-StatesAsked g conn back account query w w' t t' end =
-    DoesAsked conn back w w' (λ query. StatesOver g conn back account query w w' t t' end) query end
-
--- the same of all accounts
-abbrev pub StatesAllAsked : {S : Type 0} (g : Ghosts S) → (conn back : Held S) → Result Query QueryFault
-    → (w w' : Option (List ℕ)) → (t t' : Option (List WriteCall)) → Result Status CommandFault → Type 0
-StatesAllAsked g conn back query w w' t t' end =
-    DoesAsked conn back w w' (λ query. StatesAllOver g conn back query w w' t t' end) query end
+abbrev pub StatesEach : {S : Type 0} (g : Ghosts S) → Query → (w w' : Option (List ℕ))
+    → (t t' : Option (List WriteCall)) → (old new : Bank S g) → Result Status CommandFault → Type 0
+StatesEach g query w w' t t' old new end =
+    (stated : Result (Unit {0}) ReportFault) × EndsAllStated stated end
+    × StatesAllOfBank g query w w' t t' stated old new
 
 -- ---- how a command ends and what it prints, whatever bank is there
 

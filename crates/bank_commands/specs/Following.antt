@@ -1,9 +1,8 @@
--- What the commands that write a log, and that follow one, do over the connection conn, which they hand back as back,
--- and how they end: end is the status or the fault. r and r' are the known bytes of the input before and after, and w
--- and w' those of the output; what the calls of these are known to have returned is q and q', and t and t'.
+-- What the works that write a log, and that follow one, do with the bank that is found, which is old before them and new
+-- after them, and how they end: end is the status or the fault. r and r' are the known bytes of the input before and
+-- after, and w and w' those of the output; what the calls of these are known to have returned is q and q', and t and t'.
 use Rattle.std.specs.Prelude.{◌≡◌, ◌≢◌, ◌++◌, ℕ, ℤ, pos, List, [], ◌∷◌, length, Option, Result, Ok, Err, IfOk, OnOk, if◌then◌else◌, nat_lt}
 use Rattle.std.specs.Io.KnownBytes.{Appends, Keeps}
-use Rattle.sqlite.specs.Held.{Held}
 use Rattle.sqlite_trees.specs.declared.store.Store.{Ghosts}
 use Rattle.posting_rules.specs.believed.Commands.{Command}
 use Rattle.posting_rules.specs.believed.Counter.{ShowsLog}
@@ -35,7 +34,6 @@ use Rattle.command_line.specs.declared.fault.CommandFault.{CommandFault}
 use Rattle.command_line.specs.declared.fault.CommandFault.TheVariants as faults
 use Rattle.command_line.specs.declared.status.Status.{Status}
 use Rattle.command_line.specs.declared.status.Status.TheVariants.{Done}
-use Rattle.bank_commands.specs.Over.{FindsOver}
 
 -- ---- a log
 
@@ -56,12 +54,10 @@ pub record LogsBank {S : Type 0} (g : Ghosts S) (after : ℕ) (w w' : Option (Li
   pub why : TellsWhy g fault_in old new ends
   pub reads : IsOnlyRead g old new ends
 
-abbrev pub LogsOver : {S : Type 0} (g : Ghosts S) → (conn back : Held S) → ℕ → (w w' : Option (List ℕ))
-    → (t t' : Option (List WriteCall)) → Result Status CommandFault → Type 0
-LogsOver g conn back after w w' t t' end =
-    FindsOver g conn back end (w' ≡ w)
-    (λ old new. (ends : Result ℕ ReplayFault) × (end ≡ ended_by_log after ends)
-    × LogsBank g after w w' t t' ends old new)
+abbrev pub Logs : {S : Type 0} (g : Ghosts S) → ℕ → (w w' : Option (List ℕ)) → (t t' : Option (List WriteCall))
+    → (old new : Bank S g) → Result Status CommandFault → Type 0
+Logs g after w w' t t' old new end =
+    (ends : Result ℕ ReplayFault) × (end ≡ ended_by_log after ends) × LogsBank g after w w' t t' ends old new
 
 -- ---- a log is followed
 
@@ -90,7 +86,7 @@ FollowsCounted g IsNamed known r r' q q' w w' (Ok requests) old new result =
 FollowsCounted g IsNamed known r r' q q' w w' (Err cause) old new result =
     (result ≡ Err (fault_of_bank cause)) × Keeps w w' × (r' ≡ r) × (new ≡ old)
 
-pub record FollowsFound {S P : Type 0} (g : Ghosts S) (IsNamed : P → Type 0)
+pub record FollowsCounting {S P : Type 0} (g : Ghosts S) (IsNamed : P → Type 0)
     (known : P → Option (List ℕ) × Option (List ReadCall)) (r r' : Option (List ℕ))
     (q q' : Option (List ReadCall)) (w w' : Option (List ℕ)) (old new : Bank S g)
     (result : Result (Unit {0}) CommandFault) : Type 0 where
@@ -100,13 +96,13 @@ pub record FollowsFound {S P : Type 0} (g : Ghosts S) (IsNamed : P → Type 0)
   pub follows : FollowsCounted g IsNamed known r r' q q' w w' counted stood new result
 
 -- IsNamed says of a source that it is the plan's, and known what is known of one
-abbrev pub Follows : {S P : Type 0} (g : Ghosts S) → (conn back : Held S) → (IsNamed : P → Type 0)
+abbrev pub Follows : {S P : Type 0} (g : Ghosts S) → (IsNamed : P → Type 0)
     → (known : P → Option (List ℕ) × Option (List ReadCall)) → (r r' : Option (List ℕ))
-    → (q q' : Option (List ReadCall)) → (w w' : Option (List ℕ)) → Result Status CommandFault → Type 0
-Follows g conn back IsNamed known r r' q q' w w' end =
-    FindsOver g conn back end ((r' ≡ r) × (w' ≡ w))
-    (λ old new. (result : Result (Unit {0}) CommandFault) × (end ≡ done_after result)
-    × FollowsFound g IsNamed known r r' q q' w w' old new result)
+    → (q q' : Option (List ReadCall)) → (w w' : Option (List ℕ)) → (old new : Bank S g)
+    → Result Status CommandFault → Type 0
+Follows g IsNamed known r r' q q' w w' old new end =
+    (result : Result (Unit {0}) CommandFault) × (end ≡ done_after result)
+    × FollowsCounting g IsNamed known r r' q q' w w' old new result
 
 -- at Ok both lines were printed, whatever bank is there
 abbrev pub PrintsFollow : (w w' : Option (List ℕ)) → Result Status CommandFault → Type 0

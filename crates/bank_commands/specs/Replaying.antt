@@ -1,9 +1,8 @@
--- What the commands that replay a bank, and that write its requests and its branches, do over the connection conn,
--- which they hand back as back, and how they end: end is the status or the fault. w and w' are the known bytes of the
+-- What the works that replay the bank that is found, and that write its requests and its branches, do with it, and how
+-- they end: old is the bank before and new after, and end the status or the fault. w and w' are the known bytes of the
 -- output before and after, and t and t' what its calls are known to have returned.
 use Rattle.std.specs.Prelude.{◌≡◌, ◌≢◌, ℕ, List, Option, Some, None, Result, Ok, Err}
 use Rattle.std.specs.Io.KnownBytes.{Keeps}
-use Rattle.sqlite.specs.Held.{Held}
 use Rattle.sqlite_trees.specs.declared.store.Store.{Ghosts}
 use Rattle.posting_rules.specs.believed.Commands.{Command}
 use Rattle.posting_rules.specs.believed.Counter.{ShowsLog}
@@ -35,7 +34,6 @@ use Rattle.command_line.specs.declared.fault.CommandFault.{CommandFault}
 use Rattle.command_line.specs.declared.fault.CommandFault.TheVariants as faults
 use Rattle.command_line.specs.declared.status.Status.{Status}
 use Rattle.command_line.specs.declared.status.Status.TheVariants as statuses
-use Rattle.bank_commands.specs.Over.{FindsOver}
 
 -- ---- lines of what was found
 
@@ -77,11 +75,10 @@ pub record ReplaysBank {S : Type 0} (g : Ghosts S) (found : Result Replay Fault)
   pub bank : Replays (bank_seen g old) (bank_seen g new) found
   pub reads : IsOnlyRead g old new found
 
-abbrev pub ReplaysOver : {S : Type 0} (g : Ghosts S) → (conn back : Held S) → (w w' : Option (List ℕ))
-    → (t t' : Option (List WriteCall)) → Result Status CommandFault → Type 0
-ReplaysOver g conn back w w' t t' end =
-    FindsOver g conn back end (w' ≡ w)
-    (λ old new. (found : Result Replay Fault) × PrintsReplay found w w' t t' end × ReplaysBank g found old new)
+abbrev pub ReplaysFound : {S : Type 0} (g : Ghosts S) → (w w' : Option (List ℕ)) → (t t' : Option (List WriteCall))
+    → (old new : Bank S g) → Result Status CommandFault → Type 0
+ReplaysFound g w w' t t' old new end =
+    (found : Result Replay Fault) × PrintsReplay found w w' t t' end × ReplaysBank g found old new
 
 -- ---- the digest of the first so many requests
 
@@ -102,12 +99,11 @@ pub record DigestsBank {S : Type 0} (g : Ghosts S) (requests : ℕ) (found : Res
   pub frugal : found ≢ Err Memory
   pub reads : IsOnlyRead g old new found
 
-abbrev pub DigestsOver : {S : Type 0} (g : Ghosts S) → (conn back : Held S) → ℕ → (w w' : Option (List ℕ))
-    → (t t' : Option (List WriteCall)) → Result Status CommandFault → Type 0
-DigestsOver g conn back requests w w' t t' end =
-    FindsOver g conn back end (w' ≡ w)
-    (λ old new. (found : Result (Option Digest) Fault) × PrintsDigest requests found w w' t t' end
-    × DigestsBank g requests found old new)
+abbrev pub DigestsFound : {S : Type 0} (g : Ghosts S) → ℕ → (w w' : Option (List ℕ)) → (t t' : Option (List WriteCall))
+    → (old new : Bank S g) → Result Status CommandFault → Type 0
+DigestsFound g requests w w' t t' old new end =
+    (found : Result (Option Digest) Fault) × PrintsDigest requests found w w' t t' end
+    × DigestsBank g requests found old new
 
 -- ---- records, and a plan
 
@@ -128,12 +124,11 @@ pub record ExportsBank {S : Type 0} (g : Ghosts S) (after : ℕ) (w w' : Option 
   pub why : TellsWhy g fault_in old new ends
   pub reads : IsOnlyRead g old new ends
 
-abbrev pub ExportsOver : {S : Type 0} (g : Ghosts S) → (conn back : Held S) → ℕ → (w w' : Option (List ℕ))
-    → (t t' : Option (List WriteCall)) → Result Status CommandFault → Type 0
-ExportsOver g conn back after w w' t t' end =
-    FindsOver g conn back end (w' ≡ w)
-    (λ old new. (ends : Result (Unit {0}) ReplayFault) × (end ≡ ended_by_writing ends)
-    × ExportsBank g after w w' t t' ends old new)
+abbrev pub Exports : {S : Type 0} (g : Ghosts S) → ℕ → (w w' : Option (List ℕ)) → (t t' : Option (List WriteCall))
+    → (old new : Bank S g) → Result Status CommandFault → Type 0
+Exports g after w w' t t' old new end =
+    (ends : Result (Unit {0}) ReplayFault) × (end ≡ ended_by_writing ends)
+    × ExportsBank g after w w' t t' ends old new
 
 -- the branches were written as a plan, whatever rows the file has
 pub record PlansBank {S : Type 0} (g : Ghosts S) (w w' : Option (List ℕ)) (t t' : Option (List WriteCall))
@@ -147,9 +142,8 @@ pub record PlansBank {S : Type 0} (g : Ghosts S) (w w' : Option (List ℕ)) (t t
   pub why : TellsWhy g fault_in old new ends
   pub reads : IsOnlyRead g old new ends
 
-abbrev pub PlansOver : {S : Type 0} (g : Ghosts S) → (conn back : Held S) → (w w' : Option (List ℕ))
-    → (t t' : Option (List WriteCall)) → Result Status CommandFault → Type 0
-PlansOver g conn back w w' t t' end =
-    FindsOver g conn back end (w' ≡ w)
-    (λ old new. (ends : Result (Unit {0}) ReplayFault) × (end ≡ ended_by_writing ends)
-    × PlansBank g w w' t t' ends old new)
+abbrev pub WritesPlanOf : {S : Type 0} (g : Ghosts S) → (w w' : Option (List ℕ)) → (t t' : Option (List WriteCall))
+    → (old new : Bank S g) → Result Status CommandFault → Type 0
+WritesPlanOf g w w' t t' old new end =
+    (ends : Result (Unit {0}) ReplayFault) × (end ≡ ended_by_writing ends)
+    × PlansBank g w w' t t' ends old new

@@ -1,40 +1,43 @@
-//! A command over a connection, by its words.
-ghost use Rattle.std.specs.Prelude.{◌≡◌, false};
+//! A task over a connection: the one place where each work with a bank is named.
+ghost use Rattle.std.specs.Prelude.{◌≡◌, IsErrOf, false};
+ghost use Rattle.posting_core.specs.EndCalls.{HasWriteFailed};
 ghost use Rattle.counter_http.specs.Connections.{known_ends};
-ghost use Rattle.command_line.specs.Words.{AreInRange};
+ghost use Rattle.bank_store.specs.OpenBankSparing.{SparesWhileOpen};
+ghost use Rattle.bank_store.specs.believed.Seen.{connection_of};
+ghost use Rattle.command_line.specs.CommandLine.{IsTaskInRange, IsWorkInRange};
 ghost use Rattle.command_line.specs.Working.{known_source};
-ghost use Rattle.bank_commands.specs.Running.{DoesOver, LeavesClock, LeavesInput, Tells};
+ghost use Rattle.bank_commands.specs.Doing.{DoesOver, WorkLeaves, Works};
 
-use crate::ended::Ended;
-use crate::{
-    audit_over, digest_over, drive_over, export_over, follow_over, init_over, load_over, log_over,
-    migrate_over, plan_over, post_over, replay_over, serve_over, statement_over, statements_over,
-    why_over,
-};
+use crate::commands::{drive_found, init_over, load_found, post_found};
+use crate::ended::{Ended, find};
+use crate::following::{follow_found, log_found};
+use crate::migration::migrate_over;
+use crate::replaying::{digest_found, export_found, plan_found, replay_found};
+use crate::reports::{audit_found, statement_found, statements_found};
+use crate::serving::serve_found;
 use bank_replays::Watch;
+use bank_store::Bank;
 use branch_loader::FollowWatch;
-use command_line::{Command, Network, Plans, translate_replies, translate_sheet};
-use posting_core::Clock;
+use command_line::{CommandFault, Network, Plans, Status, Task, Work};
+use posting_core::{Clock, Sink, Source};
 use sqlite::{Alter, Connection};
 use sqlite_trees::store::Store;
 use std::alloc::Global;
-use std::io::{Read, Write};
 
-/// Does the command with the bank of a connection, whatever the command's file is, and hands the connection back. A
-/// command that needs no bank hands it back as it was given. It reaches plans, and sheets, by their names, the network, and who
-/// watches a replay or a log that is followed, and no file.
+/// Does the task over a connection, and hands that back. It reaches plans by their names, the network, and who watches a
+/// replay or a log that is followed, and no file.
 pub fn command_over<
     S: Alter + Drop,
     P: Plans,
     N: Network,
     V: Watch + FollowWatch + Drop,
-    R: Read,
-    W: Write,
+    R: Source,
+    W: Sink,
     K: Clock,
 >(
     alloc: Global,
     conn: Connection<S>,
-    command: &Command<'_>,
+    task: &Task<'_>,
     plans: &P,
     network: &N,
     watch: V,
@@ -43,56 +46,127 @@ pub fn command_over<
     clock: &mut K,
 ) -> Ended<S>
     requires mode { conn.in_transaction ≡ false }
-    requires range { AreInRange command.now }
-    ensures does { DoesOver S.Store conn result.conn (P.is_named plans.now)
-        (known_source P.Plan.remaining P.Plan.calls) (N.is_bound network.now)
-        (known_ends N.Clients.Reader.remaining N.Clients.Reader.calls N.Clients.Reader.beside N.Clients.Writer.contents
-        N.Clients.Writer.calls) N.Clients.calls (R.remaining input.old) (R.remaining input.new)
-        (W.contents output.old) (W.contents output.new) (K.readings clock.old) (K.readings clock.new)
-        command.now result.end }
-    ensures tells { Tells command.now (R.remaining input.old) (R.remaining input.new)
-        (W.contents output.old) (W.contents output.new) result.end }
-    ensures input { LeavesInput command.now (R.remaining input.old) (R.remaining input.new) }
-    ensures clock { LeavesClock command.now (K.readings clock.old) (K.readings clock.new) }
+    requires range { IsTaskInRange task.now }
+    ensures does { DoesOver S.Store (P.is_named plans.now) (known_source P.Plan.remaining P.Plan.calls)
+        (N.is_bound network.now) (known_ends N.Clients.Reader.remaining N.Clients.Reader.calls N.Clients.Reader.beside
+        N.Clients.Writer.contents N.Clients.Writer.calls) N.Clients.calls
+        task.now conn result.conn (known_ends R.remaining R.calls R.beside W.contents W.calls (input.old, output.old))
+        (known_ends R.remaining R.calls R.beside W.contents W.calls (input.new, output.new))
+        (K.readings clock.old) (K.readings clock.new)
+        result.end }
+    ensures unprinted { IsErrOf result.end CommandFault.Write
+        → HasWriteFailed (W.calls output.old) (W.calls output.new) }
     ensures idle { result.conn.in_transaction ≡ false }
 {
-    match *command {
-        Command::Init { .. } => init_over(alloc, conn, output),
-        Command::Load { plan, .. } => load_over(alloc, conn, plans, plan, output),
-        Command::Post { .. } => post_over(alloc, conn, input, output, clock),
-        Command::Drive { seed, count, .. } => {
-            drive_over(alloc, conn, seed, count, output, clock)
-        }
-        Command::Audit { .. } => audit_over(alloc, conn, output),
-        Command::Statement { account, query, .. } => {
-            statement_over(alloc, conn, account, query, output)
-        }
-        Command::Statements { query, .. } => statements_over(alloc, conn, query, output),
-        Command::Replay { .. } => replay_over(alloc, conn, output, watch),
-        Command::Digest { requests, .. } => digest_over(alloc, conn, requests, output),
-        Command::Export { after, .. } => export_over(alloc, conn, after, output),
-        Command::Log { after, .. } => log_over(alloc, conn, after, output),
-        Command::Plan { .. } => plan_over(alloc, conn, output),
-        Command::Follow { plan, .. } => {
-            follow_over(alloc, conn, plans, plan, input, output, watch)
-        }
-        Command::Serve {
+    match task {
+        Task::Init => init_over(alloc, conn, output),
+        Task::Migrate => migrate_over(alloc, conn, output),
+        Task::With(work) => work_over(
+            alloc, conn, work, plans, network, watch, input, output, clock,
+        ),
+    }
+}
+
+// Works with the bank that is found.
+fn work_over<
+    S: Alter + Drop,
+    P: Plans,
+    N: Network,
+    V: Watch + FollowWatch + Drop,
+    R: Source,
+    W: Sink,
+    K: Clock,
+>(
+    alloc: Global,
+    conn: Connection<S>,
+    work: &Work<'_>,
+    plans: &P,
+    network: &N,
+    watch: V,
+    input: &mut R,
+    output: &mut W,
+    clock: &mut K,
+) -> Ended<S>
+    requires mode { conn.in_transaction ≡ false }
+    requires range { IsWorkInRange work.now }
+    ensures does { DoesOver S.Store (P.is_named plans.now) (known_source P.Plan.remaining P.Plan.calls)
+        (N.is_bound network.now) (known_ends N.Clients.Reader.remaining N.Clients.Reader.calls N.Clients.Reader.beside
+        N.Clients.Writer.contents N.Clients.Writer.calls) N.Clients.calls
+        (Task.With work.now) conn result.conn (known_ends R.remaining R.calls R.beside W.contents W.calls (input.old, output.old))
+        (known_ends R.remaining R.calls R.beside W.contents W.calls (input.new, output.new))
+        (K.readings clock.old) (K.readings clock.new)
+        result.end }
+    ensures unprinted { IsErrOf result.end CommandFault.Write
+        → HasWriteFailed (W.calls output.old) (W.calls output.new) }
+    ensures idle { result.conn.in_transaction ≡ false }
+{
+    let mut bank = match find(alloc, conn) {
+        Ok(bank) => bank,
+        Err(ended) => return ended,
+    };
+    let end = work_found(
+        alloc, &mut bank, work, plans, network, watch, input, output, clock,
+    );
+    Ended {
+        end,
+        conn: bank.release(),
+    }
+}
+
+// Works with a bank.
+fn work_found<
+    S: Alter + Drop,
+    P: Plans,
+    N: Network,
+    V: Watch + FollowWatch + Drop,
+    R: Source,
+    W: Sink,
+    K: Clock,
+>(
+    alloc: Global,
+    bank: &mut Bank<S>,
+    work: &Work<'_>,
+    plans: &P,
+    network: &N,
+    watch: V,
+    input: &mut R,
+    output: &mut W,
+    clock: &mut K,
+) -> Result<Status, CommandFault>
+    requires { IsWorkInRange work.now }
+    ensures does { Works S.Store (P.is_named plans.now) (known_source P.Plan.remaining P.Plan.calls)
+        (N.is_bound network.now) (known_ends N.Clients.Reader.remaining N.Clients.Reader.calls N.Clients.Reader.beside
+        N.Clients.Writer.contents N.Clients.Writer.calls) N.Clients.calls
+        work.now (known_ends R.remaining R.calls R.beside W.contents W.calls (input.old, output.old))
+        (known_ends R.remaining R.calls R.beside W.contents W.calls (input.new, output.new))
+        (K.readings clock.old) (K.readings clock.new)
+        bank.old bank.new result }
+    ensures leaves { WorkLeaves work.now (known_ends R.remaining R.calls R.beside W.contents W.calls (input.old, output.old))
+        (known_ends R.remaining R.calls R.beside W.contents W.calls (input.new, output.new))
+        (K.readings clock.old) (K.readings clock.new) }
+    ensures unprinted { IsErrOf result CommandFault.Write
+        → HasWriteFailed (W.calls output.old) (W.calls output.new) }
+    ensures spares { SparesWhileOpen S.Store (connection_of bank.old) (connection_of bank.new) }
+{
+    match *work {
+        Work::Load { plan } => load_found(alloc, bank, plans, plan, output),
+        Work::Post => post_found(bank, input, output, clock),
+        Work::Drive { seed, count } => drive_found(alloc, bank, seed, count, output, clock),
+        Work::Audit => audit_found(bank, output),
+        Work::Statement { account, query } => statement_found(bank, account, query, output),
+        Work::Statements { query } => statements_found(bank, query, output),
+        Work::Replay => replay_found(alloc, bank, output, watch),
+        Work::Digest { requests } => digest_found(alloc, bank, requests, output),
+        Work::Export { after } => export_found(bank, after, output),
+        Work::Log { after } => log_found(bank, after, output),
+        Work::Plan => plan_found(bank, output),
+        Work::Follow { plan } => follow_found(alloc, bank, plans, plan, input, output, watch),
+        Work::Serve {
             address,
             connections,
-            ..
         } => {
             let most = connections.unwrap_or(u64::MAX);
-            serve_over(alloc, conn, network, address, most, output, clock)
+            serve_found(alloc, bank, network, address, most, output, clock)
         }
-        Command::Migrate { .. } => migrate_over(alloc, conn, output),
-        Command::Why { .. } => why_over(alloc, conn, output),
-        Command::Encode => Ended {
-            end: translate_sheet(alloc, input, output),
-            conn,
-        },
-        Command::Decode { money, sheet } => Ended {
-            end: translate_replies(alloc, money, plans, sheet, input, output),
-            conn,
-        },
     }
 }

@@ -1,13 +1,14 @@
-//! The commands that make a bank over a connection, and that open branches of it and post to it.
+//! The command that makes a bank over a connection, and the works that open branches of one and post to it.
 ghost use Rattle.std.specs.Prelude.{◌≡◌, ◌≤◌, Result, IsErrOf, false};
 ghost use Rattle.posting_core.specs.EndCalls.{HasWriteFailed};
+ghost use Rattle.bank_store.specs.OpenBankSparing.{SparesWhileOpen};
+ghost use Rattle.bank_store.specs.believed.Seen.{connection_of};
 ghost use Rattle.load_driver.specs.declared.drive.TheConstants.{MAX_DRIVEN};
 ghost use Rattle.command_line.specs.Working.{done_after, ended_by_load, known_source};
-ghost use Rattle.bank_commands.specs.Commands.{DrivesBank, EndsPost, Inits, Loads, Posts, PrintsDrive};
-ghost use Rattle.bank_commands.specs.Commands.{PrintsLoad, ended_by};
+ghost use Rattle.bank_commands.specs.Commands.{DrivesBank, Inits, Loads, Posts, ended_by};
 
-use crate::ended::{Ended, find, refuse};
-use bank_store::create;
+use crate::ended::{Ended, refuse};
+use bank_store::{Bank, create};
 use branch_loader::Loaded;
 use command_line::{CommandFault, Plans, Status, drive_into, load_into, print_created};
 use load_driver::MAX_DRIVEN;
@@ -39,90 +40,60 @@ pub fn init_over<S: Alter + Drop, W: Sink>(
     }
 }
 
-/// Opens the branches of the plan of a name in the bank that is found, and prints how many got each answer.
-pub fn load_over<S: Alter + Drop, P: Plans, W: Sink>(
+/// Opens the branches of the plan of a name in the bank that was found, and prints how many got each answer.
+pub fn load_found<S: Alter + Drop, P: Plans, W: Sink>(
     alloc: Global,
-    conn: Connection<S>,
+    bank: &mut Bank<S>,
     plans: &P,
     plan: &str,
     output: &mut W,
-) -> Ended<S>
-    requires { conn.in_transaction ≡ false }
-    ensures loads { Loads S.Store conn result.conn (P.is_named plans.now plan.now)
-        (known_source P.Plan.remaining P.Plan.calls) (W.contents output.old) (W.contents output.new) result.end }
-    ensures prints { PrintsLoad (W.contents output.old) (W.contents output.new) result.end }
-    ensures unprinted { IsErrOf result.end CommandFault.Write
+) -> Result<Status, CommandFault>
+    ensures loads { Loads S.Store (P.is_named plans.now plan.now) (known_source P.Plan.remaining P.Plan.calls)
+        (W.contents output.old) (W.contents output.new) bank.old bank.new result }
+    ensures unprinted { IsErrOf result CommandFault.Write
         → HasWriteFailed (W.calls output.old) (W.calls output.new) }
-    ensures idle { result.conn.in_transaction ≡ false }
+    ensures spares { SparesWhileOpen S.Store (connection_of bank.old) (connection_of bank.new) }
 {
-    let mut bank = match find(alloc, conn) {
-        Ok(bank) => bank,
-        Err(ended) => return ended,
-    };
-    let end = loaded(load_into(alloc, plans, plan, &mut bank, output));
-    Ended {
-        end,
-        conn: bank.release(),
-    }
+    loaded(load_into(alloc, plans, plan, bank, output))
 }
 
-/// Posts the records of the input to the bank that is found, and writes their replies.
-pub fn post_over<S: Alter + Drop, R: Source, W: Sink, K: Clock>(
-    alloc: Global,
-    conn: Connection<S>,
+/// Posts the records of the input to the bank that was found, and writes their replies.
+pub fn post_found<S: Alter + Drop, R: Source, W: Sink, K: Clock>(
+    bank: &mut Bank<S>,
     input: &mut R,
     output: &mut W,
     clock: &mut K,
-) -> Ended<S>
-    requires { conn.in_transaction ≡ false }
-    ensures posts { Posts S.Store conn result.conn (R.remaining input.old) (R.remaining input.new)
-        (R.calls input.old) (R.calls input.new) (R.beside input.old) (R.beside input.new)
-        (W.contents output.old) (W.contents output.new)
-        (W.calls output.old) (W.calls output.new) (K.readings clock.old) (K.readings clock.new) result.end }
-    ensures ends { EndsPost (R.remaining input.old) (R.remaining input.new) (W.contents output.old)
-        (W.contents output.new) result.end }
-    ensures idle { result.conn.in_transaction ≡ false }
+) -> Result<Status, CommandFault>
+    ensures posts { Posts S.Store (R.remaining input.old) (R.remaining input.new) (R.calls input.old)
+        (R.calls input.new) (R.beside input.old) (R.beside input.new) (W.contents output.old) (W.contents output.new)
+        (W.calls output.old) (W.calls output.new) (K.readings clock.old) (K.readings clock.new)
+        bank.old bank.new result }
+    ensures unprinted { IsErrOf result CommandFault.Write
+        → HasWriteFailed (W.calls output.old) (W.calls output.new) }
+    ensures spares { SparesWhileOpen S.Store (connection_of bank.old) (connection_of bank.new) }
 {
-    let mut bank = match find(alloc, conn) {
-        Ok(bank) => bank,
-        Err(ended) => return ended,
-    };
-    let end = posted(post_stream(input, output, clock, &mut bank));
-    Ended {
-        end,
-        conn: bank.release(),
-    }
+    posted(post_stream(input, output, clock, bank))
 }
 
-/// Posts the first `count` records of a seed over the open branches of the bank that is found, and prints how many
+/// Posts the first `count` records of a seed over the open branches of the bank that was found, and prints how many
 /// were posted.
-pub fn drive_over<S: Alter + Drop, W: Sink, K: Clock>(
+pub(crate) fn drive_found<S: Alter + Drop, W: Sink, K: Clock>(
     alloc: Global,
-    conn: Connection<S>,
+    bank: &mut Bank<S>,
     seed: u64,
     count: u64,
     output: &mut W,
     clock: &mut K,
-) -> Ended<S>
-    requires mode { conn.in_transaction ≡ false }
+) -> Result<Status, CommandFault>
     requires some { 1 ≤ count }
     requires few { count ≤ MAX_DRIVEN }
-    ensures drives { DrivesBank S.Store conn result.conn (W.contents output.old) (W.contents output.new)
-        (K.readings clock.old) (K.readings clock.new) seed count result.end }
-    ensures prints { PrintsDrive (W.contents output.old) (W.contents output.new) count result.end }
-    ensures unprinted { IsErrOf result.end CommandFault.Write
+    ensures drives { DrivesBank S.Store (W.contents output.old) (W.contents output.new) (K.readings clock.old)
+        (K.readings clock.new) seed count bank.old bank.new result }
+    ensures unprinted { IsErrOf result CommandFault.Write
         → HasWriteFailed (W.calls output.old) (W.calls output.new) }
-    ensures idle { result.conn.in_transaction ≡ false }
+    ensures spares { SparesWhileOpen S.Store (connection_of bank.old) (connection_of bank.new) }
 {
-    let mut bank = match find(alloc, conn) {
-        Ok(bank) => bank,
-        Err(ended) => return ended,
-    };
-    let end = done(drive_into(alloc, &mut bank, seed, count, output, clock));
-    Ended {
-        end,
-        conn: bank.release(),
-    }
+    done(drive_into(alloc, bank, seed, count, output, clock))
 }
 
 /// How the program ends after a work that has no status of its own.

@@ -19,7 +19,7 @@ pub struct Ended<S: Alter + Drop> {
 }
 
 /// The bank that a connection's file has, or the end of a command that finds none.
-pub(crate) fn find<S: Alter + Drop>(alloc: Global, conn: Connection<S>) -> Result<Bank<S>, Ended<S>>
+pub fn find<S: Alter + Drop>(alloc: Global, conn: Connection<S>) -> Result<Bank<S>, Ended<S>>
     requires { conn.in_transaction ≡ false }
     ensures found { IfOk result (IsFoundOver S.Store conn) }
     ensures missed { IfErr result

@@ -1,10 +1,12 @@
 //! A command over the files of a bank. **Not verified, review by hand**: no clause ties a connection to the path that it
 //! was opened at, and none can name a closed file, so that the contract says only how a command ends and what it prints. All that is done with the bank is done by [`command_over`].
 ghost use Rattle.std.specs.Prelude.{◌≡◌, false, IfSome, IsTrue};
+ghost use Rattle.counter_http.specs.Connections.{known_ends};
 ghost use Rattle.command_line.specs.Lines.{usable_line};
-ghost use Rattle.command_line.specs.Words.{AreInRange};
+ghost use Rattle.command_line.specs.CommandLine.{AreInRange, IsTaskInRange};
 ghost use Rattle.bank_commands.specs.Commands.{TellsLine};
-ghost use Rattle.bank_commands.specs.Running.{LeavesClock, LeavesInput, PrintsNone, Tells};
+ghost use Rattle.bank_commands.specs.Doing.{TaskLeaves};
+ghost use Rattle.bank_commands.specs.Running.{Leaves, PrintsNone, TaskTells, Tells};
 
 use crate::command::command_over;
 use crate::ended::Ended;
@@ -15,33 +17,41 @@ use crate::progress::Progress;
 use crate::reasons::look_into;
 use crate::reports::why_over;
 use bank_files::{open, open_over};
-use command_line::{Command, CommandFault, Plans, Status, translate_replies, translate_sheet};
-use posting_core::{Clock, SystemClock};
+use command_line::{
+    Command, CommandFault, Plans, Status, Task, translate_replies, translate_sheet,
+};
+use posting_core::{Clock, Sink, Source, SystemClock};
 use sqlite::{Connection, Error, ErrorCode, FileFrom, FileStore, Files, Start};
 use sqlite_disk::Disk;
 use std::alloc::Global;
 use std::cell::Cell;
 use std::fs::{self, File};
-use std::io::{IsTerminal, Read, Write};
+use std::io::{IsTerminal, Read};
 use std::time::Instant;
 
-/// The machine that a run is on, with its files, its network and its memory. Only this file reaches them.
+/// The machine that a run is on, with its files, its network and its memory, and the notes of the run. Only this file reaches
+/// them.
 #[derive(Drop)]
-pub struct Machine<'r, S> {
+pub struct Machine<'r, 'w, S> {
     rt: &'r HostRuntime,
     start: S,
-    notes: &'r Notes,
+    notes: &'r Notes<'w>,
 }
 
-impl<'r, S: Start> Machine<'r, S> {
+impl<'r, 'w, S: Start> Machine<'r, 'w, S> {
     /// The machine of a program, of whose files `start` says what is known, and the notes of its run.
-    pub fn new(rt: &'r HostRuntime, start: S, notes: &'r Notes) -> Machine<'r, S> {
+    pub fn new(rt: &'r HostRuntime, start: S, notes: &'r Notes<'w>) -> Machine<'r, 'w, S> {
         Machine { rt, start, notes }
     }
 
     /// Its memory.
     pub(crate) fn alloc(&self) -> Global {
         self.rt.alloc()
+    }
+
+    /// Notes what is to be done, for the line that says why it wasn't.
+    pub(crate) fn note(&self, command: &Command<'w>) {
+        self.notes.note_command(command);
     }
 }
 
@@ -68,46 +78,57 @@ impl Plans for PlanFiles<'_> {
     }
 }
 
-/// Does the command with the bank of its file, if it has one: all commands but `init` are to find a bank there.
-pub(crate) fn command_in<S: Start, R: Read, W: Write, K: Clock>(
-    machine: Machine<'_, S>,
+/// Does the command, with the bank of its file if it has one.
+pub(crate) fn command_in<S: Start, R: Source, W: Sink, K: Clock>(
+    machine: Machine<'_, '_, S>,
     command: &Command<'_>,
     input: &mut R,
     output: &mut W,
     clock: &mut K,
 ) -> Result<Status, CommandFault>
     requires { AreInRange command.now }
-    ensures tells { Tells command.now (R.remaining input.old) (R.remaining input.new) (W.contents output.old)
-        (W.contents output.new) result }
-    ensures input { LeavesInput command.now (R.remaining input.old) (R.remaining input.new) }
-    ensures clock { LeavesClock command.now (K.readings clock.old) (K.readings clock.new) }
+    ensures tells { Tells command.now (known_ends R.remaining R.calls R.beside W.contents W.calls (input.old, output.old))
+        (known_ends R.remaining R.calls R.beside W.contents W.calls (input.new, output.new)) result }
+    ensures leaves { Leaves command.now
+        (known_ends R.remaining R.calls R.beside W.contents W.calls (input.old, output.old))
+        (known_ends R.remaining R.calls R.beside W.contents W.calls (input.new, output.new))
+        (K.readings clock.old) (K.readings clock.new) }
 {
-    let Machine { rt, start, notes } = machine;
-    let (file, finds_bank) = match *command {
-        Command::Encode => return notes.of_sheet(translate_sheet(rt.alloc(), input, output)),
+    let (rt, notes) = (machine.rt, machine.notes);
+    match command {
+        Command::OnFile { file, task } => {
+            notes.of_end(task_in(machine, file, task, input, output, clock))
+        }
+        Command::Why { file } => notes.of_end(why_in(rt, file, output)),
+        Command::Encode => notes.of_sheet(translate_sheet(rt.alloc(), input, output)),
         Command::Decode { money, sheet } => {
             let files = PlanFiles::new(rt);
-            let end = translate_replies(rt.alloc(), money, &files, sheet, input, output);
-            return notes.of_sheet(end);
+            let end = translate_replies(rt.alloc(), *money, &files, *sheet, input, output);
+            notes.of_sheet(end)
         }
-        Command::Why { file } => return notes.of_end(why_in(rt, file, output)),
-        Command::Init { file } => (file, false),
-        Command::Load { file, .. }
-        | Command::Post { file }
-        | Command::Drive { file, .. }
-        | Command::Follow { file, .. }
-        | Command::Serve { file, .. }
-        | Command::Migrate { file } => (file, true),
-        Command::Audit { file }
-        | Command::Statement { file, .. }
-        | Command::Statements { file, .. }
-        | Command::Replay { file }
-        | Command::Digest { file, .. }
-        | Command::Export { file, .. }
-        | Command::Log { file, .. }
-        | Command::Plan { file } => (file, true),
-    };
-    if finds_bank {
+        Command::Mistaken(fault) => Err(CommandFault::Query(*fault)),
+    }
+}
+
+// Does the task with the bank of a file: all but `init` are to find one there.
+fn task_in<S: Start, R: Source, W: Sink, K: Clock>(
+    machine: Machine<'_, '_, S>,
+    file: &str,
+    task: &Task<'_>,
+    input: &mut R,
+    output: &mut W,
+    clock: &mut K,
+) -> Result<Status, CommandFault>
+    requires { IsTaskInRange task.now }
+    ensures tells { TaskTells task.now (known_ends R.remaining R.calls R.beside W.contents W.calls (input.old, output.old))
+        (known_ends R.remaining R.calls R.beside W.contents W.calls (input.new, output.new)) result }
+    ensures leaves { TaskLeaves task.now
+        (known_ends R.remaining R.calls R.beside W.contents W.calls (input.old, output.old))
+        (known_ends R.remaining R.calls R.beside W.contents W.calls (input.new, output.new))
+        (K.readings clock.old) (K.readings clock.new) }
+{
+    let Machine { rt, start, notes } = machine;
+    if !matches!(task, Task::Init) {
         look_for(rt, file)?;
     }
     spare_others(rt, file)?;
@@ -115,12 +136,12 @@ pub(crate) fn command_in<S: Start, R: Read, W: Write, K: Clock>(
     let Some(mut conn) = opened(rt, file, start, &notes.is_full) else {
         return Err(CommandFault::Store);
     };
-    tell_opened(rt, command, file, &mut conn, begun);
+    tell_opened(rt, task, file, &mut conn, begun);
     let watch = Progress::new(rt.stderr(), rt.stderr().is_terminal(), SystemClock::new(rt));
     let Ended { end, conn } = command_over(
         rt.alloc(),
         conn,
-        command,
+        task,
         &PlanFiles::new(rt),
         &HostNetwork::new(rt),
         watch,
@@ -129,7 +150,7 @@ pub(crate) fn command_in<S: Start, R: Read, W: Write, K: Clock>(
         clock,
     );
     close(conn, &notes.is_full);
-    notes.of_end(end)
+    end
 }
 
 // The connection to a file; none where it can't be opened, with a note if the disk is full.
@@ -161,7 +182,7 @@ fn close<S: Start>(conn: Connection<FileStore<FileFrom<S>>>, is_full: &Cell<bool
 }
 
 // Says whether the file's bank can be used, and changes no file.
-fn why_in<W: Write>(rt: &HostRuntime, file: &str, output: &mut W) -> Result<Status, CommandFault>
+fn why_in<W: Sink>(rt: &HostRuntime, file: &str, output: &mut W) -> Result<Status, CommandFault>
     ensures { PrintsNone (W.contents output.old) (W.contents output.new) result
         (TellsLine (W.contents output.old) (W.contents output.new) usable_line result) }
 {
@@ -173,7 +194,7 @@ fn why_in<W: Write>(rt: &HostRuntime, file: &str, output: &mut W) -> Result<Stat
 }
 
 // Says whether the bank in files can be used. That they lie on any disk keeps the proof short.
-fn why_at<D: Disk + Drop, W: Write>(
+fn why_at<D: Disk + Drop, W: Sink>(
     alloc: Global,
     files: Files<D>,
     output: &mut W,

@@ -1,14 +1,8 @@
-//! The commands of the program, each a function from a connection to a connection, over any store: [`init_over`]
-//! makes a bank, [`load_over`] opens its branches, [`post_over`] posts to it, [`drive_over`] posts what the driver
-//! draws, [`serve_over`] posts what comes over HTTP, [`audit_over`] says whether the books agree (TPC-B clause 2),
-//! [`statement_over`] writes the postings of an account, [`statements_over`] those of all, [`replay_over`] says whether the
-//! tables are what the rules give,
-//! [`digest_over`] prints the digest of the first requests, [`export_over`] writes the requests as records, [`log_over`]
-//! as entries of a log and [`plan_over`] the branches as a plan, [`follow_over`] takes a bank along the log of another
-//! one, [`migrate_over`] carries over a bank of an older version, and [`why_over`] says that a bank can be used.
-//! Each but `init_over` finds the bank that is there. Each hands the connection back, also where there is no bank.
-//! `encode` and `decode` have no function here: they need no bank, and are `translate_sheet` and `translate_replies` of
-//! `command_line`.
+//! The commands of the program, over any store. [`command_over`] takes what is to be done, and a connection that it
+//! hands back, also where there is no bank: [`init_over`] makes one, [`migrate_over`] carries one of an older version
+//! over, and all else works with the bank that [`find`] gives. Each such work is a function over that bank, such as
+//! [`post_found`]; `src/command` is the list of them, and `specs/Doing` that of what they do. [`why_over`] says that a
+//! bank can be used. `encode` and `decode` need no bank, and are functions of `command_line`.
 //!
 //! The function `first_commands` of `bank_trials`, which its script runs, makes a bank, opens the branches of
 //! a plan and posts the records of an input:
@@ -16,7 +10,7 @@
 //! ```rust
 //! ghost use Rattle.std.specs.Prelude.{◌≡◌, false};
 //!
-//! use bank_commands::{Ended, init_over, load_over, post_over};
+//! use bank_commands::{Ended, find, init_over, load_found, post_found};
 //! use command_line::Plans;
 //! use posting_core::Clock;
 //! use sqlite::{Alter, Connection};
@@ -35,8 +29,18 @@
 //!     requires { conn.in_transaction ≡ false }
 //! {
 //!     let made = init_over(alloc, conn, output);
-//!     let loaded = load_over(alloc, made.conn, plans, plan, output);
-//!     post_over(alloc, loaded.conn, input, output, clock)
+//!     let mut bank = match find(alloc, made.conn) {
+//!         Ok(bank) => bank,
+//!         Err(ended) => return ended,
+//!     };
+//!     let end = match load_found(alloc, &mut bank, plans, plan, output) {
+//!         Ok(_) => post_found(&mut bank, input, output, clock),
+//!         end => end,
+//!     };
+//!     Ended {
+//!         end,
+//!         conn: bank.release(),
+//!     }
 //! }
 //! ```
 //!
@@ -52,9 +56,9 @@
 //! `Unknown` is all that a program knows of what its files hold, and supposes that a torn write leaves each byte old or
 //! new; `Wary` of `sqlite` in its place doesn't suppose it, and syncs twice a commit.
 //!
-//! Read next: `specs/Over`, what becomes of the connection; `specs/Commands`, what each command does to the bank that
-//! it finds there; the crate `command_line`, what it does with any bank; [`command_over`] and [`run`], which call
-//! them by the words of the command line.
+//! Read next: `specs/Over`, what becomes of the connection; `specs/Commands`, what each work does to the bank that is
+//! found there; the crate `command_line`, what it does with any bank; [`command_over`] and [`run`], which call them by the
+//! words of the command line.
 #![tactic(auto)]
 
 mod command;
@@ -74,14 +78,13 @@ mod running;
 mod serving;
 
 pub use command::command_over;
-pub use commands::{drive_over, init_over, load_over, post_over};
-pub use ended::Ended;
+pub use commands::{init_over, load_found, post_found};
+pub use ended::{Ended, find};
 pub use files::{Machine, PlanFiles};
-pub use following::{follow_over, log_over};
 pub use migration::migrate_over;
 pub use notes::Notes;
 pub use reasons::tell_reason;
-pub use replaying::{digest_over, export_over, plan_over, replay_over};
-pub use reports::{audit_over, statement_over, statements_over, why_over};
+pub use replaying::replay_found;
+pub use reports::why_over;
 pub use running::{run, words_of};
-pub use serving::serve_over;
+pub use serving::serve_found;

@@ -2,28 +2,53 @@
 //! has no clause.
 ghost use Rattle.std.specs.Prelude.{◌≡◌};
 
-use command_line::{CommandFault, Status};
+use command_line::{Command, CommandFault, Status, Task, Work};
 use posting_sheets::{BadRow, Column, FieldStart, SheetFault};
 use std::cell::Cell;
 use std::{fmt, str};
 
-/// What a run has met that its line doesn't tell: that a write found no room, what stands in a row that was refused, and
-/// the fault of its command.
+/// What a run has met that its line doesn't tell: the file and the address that its words name, and whether they ask why;
+/// that a write found no room, what stands in a row that was refused, and the fault of its command.
 #[derive(Drop)]
-pub struct Notes {
+pub struct Notes<'w> {
+    pub(crate) file: Cell<Option<&'w str>>,
+    pub(crate) address: Cell<Option<&'w str>>,
+    pub(crate) asks_why: Cell<bool>,
     pub(crate) is_full: Cell<bool>,
     pub(crate) refused: Cell<Option<BadRow>>,
     pub(crate) fault: Cell<Option<CommandFault>>,
 }
 
-impl Notes {
+impl<'w> Notes<'w> {
     /// Of a run that hasn't begun.
     #[must_use]
-    pub fn new() -> Notes {
+    pub fn new() -> Notes<'w> {
         Notes {
+            file: Cell::new(None),
+            address: Cell::new(None),
+            asks_why: Cell::new(false),
             is_full: Cell::new(false),
             refused: Cell::new(None),
             fault: Cell::new(None),
+        }
+    }
+
+    // What the words ask for.
+    pub(crate) fn note_command(&self, command: &Command<'w>) {
+        match *command {
+            Command::OnFile { file, .. } => self.file.set(Some(file)),
+            Command::Why { file } => {
+                self.file.set(Some(file));
+                self.asks_why.set(true);
+            }
+            _ => {}
+        }
+        if let Command::OnFile {
+            task: Task::With(Work::Serve { address, .. }),
+            ..
+        } = *command
+        {
+            self.address.set(Some(address));
         }
     }
 

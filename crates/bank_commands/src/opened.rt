@@ -2,7 +2,7 @@
 ghost use Rattle.std.specs.Prelude.{◌≡◌, false};
 
 use crate::reasons::is_asked;
-use command_line::Command;
+use command_line::{Task, Work};
 use sqlite::{Alter, Connection, Error};
 use sqlite_trees::store::Store;
 use std::io::Write;
@@ -12,7 +12,7 @@ use std::time::Instant;
 /// anybody asks for more than faults.
 pub(crate) fn tell_opened<S: Alter + Drop>(
     rt: &HostRuntime,
-    command: &Command<'_>,
+    task: &Task<'_>,
     file: &str,
     conn: &mut Connection<S>,
     begun: Option<Instant>,
@@ -20,7 +20,7 @@ pub(crate) fn tell_opened<S: Alter + Drop>(
     requires { conn.old.in_transaction ≡ false }
     ensures { conn.new.in_transaction ≡ false }
 {
-    if !matches!(command, Command::Serve { .. }) || !is_asked(rt) {
+    if !matches!(task, Task::With(Work::Serve { .. })) || !is_asked(rt) {
         return;
     }
     let Some(begun) = begun else {

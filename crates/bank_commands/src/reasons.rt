@@ -6,7 +6,7 @@ ghost use Rattle.sqlite_disk.specs.Memory.{memory_is_usable};
 
 use crate::notes::{Notes, found_in};
 use bank_files::open_over;
-use command_line::{Command, CommandFault, Status, read_words};
+use command_line::{CommandFault, Status};
 use posting_sheets::BadRow;
 use sqlite::{Error, Files, Unknown};
 use sqlite_disk::{Disk, Memory};
@@ -84,32 +84,29 @@ impl fmt::Display for Reason {
 /// or by `BANK_WHY` in the environment. If a row of a sheet was refused, it says what stands there; after a store fault,
 /// what is wrong with the command's file; after damage or a fault of the network, what to look at. `why` says it of its
 /// file in any case.
-pub fn tell_reason(rt: &HostRuntime, status: Status, words: &[String], notes: &Notes) {
+pub fn tell_reason(rt: &HostRuntime, status: Status, notes: &Notes<'_>) {
     if let Some(bad) = notes.refused.get() {
         tell_row(rt, &bad);
     }
     if status == Status::System {
-        tell_fault(rt, words, notes);
+        tell_fault(rt, notes);
     }
 }
 
-fn tell_fault(rt: &HostRuntime, words: &[String], notes: &Notes) {
-    let Ok(command) = read_words(rt.alloc(), words) else {
-        return;
-    };
-    if !matches!(command, Command::Why { .. }) && !is_asked(rt) {
+fn tell_fault(rt: &HostRuntime, notes: &Notes<'_>) {
+    if !notes.asks_why.get() && !is_asked(rt) {
         return;
     }
     match notes.fault.get() {
-        Some(CommandFault::Network) => tell_address(rt, &command),
-        Some(CommandFault::Damaged(_)) => tell_damage(rt, &command),
+        Some(CommandFault::Network) => tell_address(rt, notes),
+        Some(CommandFault::Damaged(_)) => tell_damage(rt, notes),
         Some(CommandFault::Memory | CommandFault::Read | CommandFault::Write) => {}
-        _ => tell_file(rt, &command, notes.is_full.get()),
+        _ => tell_file(rt, notes),
     }
 }
 
-fn tell_address(rt: &HostRuntime, command: &Command<'_>) {
-    if let Command::Serve { address, .. } = *command {
+fn tell_address(rt: &HostRuntime, notes: &Notes<'_>) {
+    if let Some(address) = notes.address.get() {
         let _ = writeln!(
             rt.stderr(),
             "bank: {address}: it is in use, isn't this machine's, or its port needs rights"
@@ -117,8 +114,8 @@ fn tell_address(rt: &HostRuntime, command: &Command<'_>) {
     }
 }
 
-fn tell_damage(rt: &HostRuntime, command: &Command<'_>) {
-    if let Some(file) = file_of(command) {
+fn tell_damage(rt: &HostRuntime, notes: &Notes<'_>) {
+    if let Some(file) = notes.file.get() {
         let _ = writeln!(
             rt.stderr(),
             "bank: {file}: its rows were changed by another hand: replay a copy, or restore a backup"
@@ -135,12 +132,12 @@ fn tell_row(rt: &HostRuntime, bad: &BadRow) {
     }
 }
 
-fn tell_file(rt: &HostRuntime, command: &Command<'_>, is_full: bool) {
-    let Some(file) = file_of(command) else {
+fn tell_file(rt: &HostRuntime, notes: &Notes<'_>) {
+    let Some(file) = notes.file.get() else {
         return;
     };
     let mut faults = rt.stderr();
-    let _ = match reason_of(rt, file, is_full) {
+    let _ = match reason_of(rt, file, notes.is_full.get()) {
         None => writeln!(faults, "bank: {file}: it can be opened now"),
         Some(reason) => writeln!(faults, "bank: {file}: {reason}"),
     };
@@ -149,28 +146,6 @@ fn tell_file(rt: &HostRuntime, command: &Command<'_>, is_full: bool) {
 /// Whether more than a fault's line is wanted on standard error.
 pub(crate) fn is_asked(rt: &HostRuntime) -> bool {
     rt.stderr().is_terminal() || env::var(rt, "BANK_WHY").is_ok()
-}
-
-fn file_of<'a>(command: &Command<'a>) -> Option<&'a str> {
-    match *command {
-        Command::Encode | Command::Decode { .. } => None,
-        Command::Init { file }
-        | Command::Load { file, .. }
-        | Command::Post { file }
-        | Command::Drive { file, .. }
-        | Command::Follow { file, .. }
-        | Command::Serve { file, .. }
-        | Command::Migrate { file } => Some(file),
-        Command::Audit { file }
-        | Command::Statement { file, .. }
-        | Command::Statements { file, .. }
-        | Command::Replay { file }
-        | Command::Digest { file, .. }
-        | Command::Export { file, .. }
-        | Command::Log { file, .. }
-        | Command::Plan { file }
-        | Command::Why { file } => Some(file),
-    }
 }
 
 fn reason_of(rt: &HostRuntime, file: &str, is_full: bool) -> Option<Reason> {

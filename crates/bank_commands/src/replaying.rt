@@ -1,106 +1,79 @@
-//! The commands that replay a bank, and that write what its requests and its branches come to.
-ghost use Rattle.std.specs.Prelude.{◌≡◌, false};
-ghost use Rattle.bank_commands.specs.Replaying.{DigestsOver, ExportsOver, PlansOver, PrintsDigest, PrintsReplay};
-ghost use Rattle.bank_commands.specs.Replaying.{ReplaysOver, ended_by_writing, ended_with};
+//! The works that replay a bank, and that write what its requests and its branches come to.
+ghost use Rattle.std.specs.Prelude.{◌≡◌, IsErrOf};
+ghost use Rattle.posting_core.specs.EndCalls.{HasWriteFailed};
+ghost use Rattle.bank_store.specs.OpenBankSparing.{SparesWhileOpen};
+ghost use Rattle.bank_store.specs.believed.Seen.{connection_of};
+ghost use Rattle.bank_commands.specs.Replaying.{DigestsFound, Exports, PrintsDigest, PrintsReplay, ReplaysFound};
+ghost use Rattle.bank_commands.specs.Replaying.{WritesPlanOf, ended_by_writing, ended_with};
 
-use crate::ended::{Ended, find};
 use bank_replays::{Digest, Replay, ReplayFault, Watch, digest, export, replay, write_plan};
+use bank_store::Bank;
 use command_line::{CommandFault, Status, print_agreeing, print_differing, print_digest};
 use posting_core::{Fault, Sink};
-use sqlite::{Alter, Connection};
+use sqlite::Alter;
 use sqlite_trees::store::Store;
 use std::alloc::Global;
 
-/// Replays the bank that is found, and prints the digests of its requests and of its plan, or the first difference.
+/// Replays the bank that was found, and prints the digests of its requests and of its plan, or the first difference.
 /// `watch` is told how far it is.
-pub fn replay_over<S: Alter + Drop, W: Sink, P: Watch + Drop>(
+pub fn replay_found<S: Alter + Drop, W: Sink, P: Watch + Drop>(
     alloc: Global,
-    conn: Connection<S>,
+    bank: &mut Bank<S>,
     output: &mut W,
     watch: P,
-) -> Ended<S>
-    requires { conn.in_transaction ≡ false }
-    ensures replays { ReplaysOver S.Store conn result.conn (W.contents output.old) (W.contents output.new)
-        (W.calls output.old) (W.calls output.new) result.end }
-    ensures idle { result.conn.in_transaction ≡ false }
+) -> Result<Status, CommandFault>
+    ensures replays { ReplaysFound S.Store (W.contents output.old) (W.contents output.new)
+        (W.calls output.old) (W.calls output.new) bank.old bank.new result }
+    ensures unprinted { IsErrOf result CommandFault.Write
+        → HasWriteFailed (W.calls output.old) (W.calls output.new) }
+    ensures spares { SparesWhileOpen S.Store (connection_of bank.old) (connection_of bank.new) }
 {
-    let mut bank = match find(alloc, conn) {
-        Ok(bank) => bank,
-        Err(ended) => return ended,
-    };
-    let end = print_replay(alloc, replay(&mut bank, watch), output);
-    Ended {
-        end,
-        conn: bank.release(),
-    }
+    print_replay(alloc, replay(bank, watch), output)
 }
 
-/// Prints the digest of the first so many requests of the bank that is found.
-pub fn digest_over<S: Alter + Drop, W: Sink>(
+/// Prints the digest of the first so many requests of the bank that was found.
+pub(crate) fn digest_found<S: Alter + Drop, W: Sink>(
     alloc: Global,
-    conn: Connection<S>,
+    bank: &mut Bank<S>,
     requests: u64,
     output: &mut W,
-) -> Ended<S>
-    requires { conn.in_transaction ≡ false }
-    ensures digests { DigestsOver S.Store conn result.conn requests (W.contents output.old) (W.contents output.new)
-        (W.calls output.old) (W.calls output.new) result.end }
-    ensures idle { result.conn.in_transaction ≡ false }
+) -> Result<Status, CommandFault>
+    ensures digests { DigestsFound S.Store requests (W.contents output.old) (W.contents output.new)
+        (W.calls output.old) (W.calls output.new) bank.old bank.new result }
+    ensures unprinted { IsErrOf result CommandFault.Write
+        → HasWriteFailed (W.calls output.old) (W.calls output.new) }
+    ensures spares { SparesWhileOpen S.Store (connection_of bank.old) (connection_of bank.new) }
 {
-    let mut bank = match find(alloc, conn) {
-        Ok(bank) => bank,
-        Err(ended) => return ended,
-    };
-    let end = print_first(alloc, requests, digest(&mut bank, requests), output);
-    Ended {
-        end,
-        conn: bank.release(),
-    }
+    print_first(alloc, requests, digest(bank, requests), output)
 }
 
-/// Writes the requests after the first so many of the bank that is found as records.
-pub fn export_over<S: Alter + Drop, W: Sink>(
-    alloc: Global,
-    conn: Connection<S>,
+/// Writes the requests after the first so many of the bank that was found as records.
+pub(crate) fn export_found<S: Alter + Drop, W: Sink>(
+    bank: &mut Bank<S>,
     after: u64,
     output: &mut W,
-) -> Ended<S>
-    requires { conn.in_transaction ≡ false }
-    ensures exports { ExportsOver S.Store conn result.conn after (W.contents output.old) (W.contents output.new)
-        (W.calls output.old) (W.calls output.new) result.end }
-    ensures idle { result.conn.in_transaction ≡ false }
+) -> Result<Status, CommandFault>
+    ensures exports { Exports S.Store after (W.contents output.old) (W.contents output.new)
+        (W.calls output.old) (W.calls output.new) bank.old bank.new result }
+    ensures unprinted { IsErrOf result CommandFault.Write
+        → HasWriteFailed (W.calls output.old) (W.calls output.new) }
+    ensures spares { SparesWhileOpen S.Store (connection_of bank.old) (connection_of bank.new) }
 {
-    let mut bank = match find(alloc, conn) {
-        Ok(bank) => bank,
-        Err(ended) => return ended,
-    };
-    let end = written(export(&mut bank, after, output));
-    Ended {
-        end,
-        conn: bank.release(),
-    }
+    written(export(bank, after, output))
 }
 
-/// Writes the open branches of the bank that is found as a plan.
-pub fn plan_over<S: Alter + Drop, W: Sink>(
-    alloc: Global,
-    conn: Connection<S>,
+/// Writes the open branches of the bank that was found as a plan.
+pub(crate) fn plan_found<S: Alter + Drop, W: Sink>(
+    bank: &mut Bank<S>,
     output: &mut W,
-) -> Ended<S>
-    requires { conn.in_transaction ≡ false }
-    ensures plans { PlansOver S.Store conn result.conn (W.contents output.old) (W.contents output.new)
-        (W.calls output.old) (W.calls output.new) result.end }
-    ensures idle { result.conn.in_transaction ≡ false }
+) -> Result<Status, CommandFault>
+    ensures plans { WritesPlanOf S.Store (W.contents output.old) (W.contents output.new)
+        (W.calls output.old) (W.calls output.new) bank.old bank.new result }
+    ensures unprinted { IsErrOf result CommandFault.Write
+        → HasWriteFailed (W.calls output.old) (W.calls output.new) }
+    ensures spares { SparesWhileOpen S.Store (connection_of bank.old) (connection_of bank.new) }
 {
-    let mut bank = match find(alloc, conn) {
-        Ok(bank) => bank,
-        Err(ended) => return ended,
-    };
-    let end = written(write_plan(&mut bank, output));
-    Ended {
-        end,
-        conn: bank.release(),
-    }
+    written(write_plan(bank, output))
 }
 
 // Prints what a replay found.

@@ -1,133 +1,64 @@
-//! The commands that audit a bank, that write the statement of an account or of all, and that say that a bank can be used.
+//! The works that audit a bank and that write the statement of an account or of all, and the command that says that a bank
+//! can be used.
 ghost use Rattle.std.specs.Prelude.{◌≡◌, ◌≢◌, Err, IsErrOf, false};
 ghost use Rattle.posting_core.specs.EndCalls.{HasWriteFailed};
-ghost use Rattle.bank_commands.specs.Commands.{AuditsOver, EndsAllStated, LooksOver, StatesAllAsked, StatesAllOver};
-ghost use Rattle.bank_commands.specs.Commands.{StatesAsked, StatesOver, stated_by};
+ghost use Rattle.bank_store.specs.OpenBankSparing.{SparesWhileOpen};
+ghost use Rattle.bank_store.specs.believed.Seen.{connection_of};
+ghost use Rattle.bank_commands.specs.Commands.{AuditsFound, EndsAllStated, LooksOver, States, StatesEach, stated_by};
 
 use crate::commands::done;
 use crate::ended::{Ended, find};
 use bank_reports::{Query, ReportFault, audit, write_selected, write_statements};
-use command_line::{CommandFault, QueryFault, Status, print_audit, print_usable};
+use bank_store::Bank;
+use command_line::{CommandFault, Status, print_audit, print_usable};
 use message_records::Account;
 use posting_core::Sink;
 use sqlite::{Alter, Connection};
 use sqlite_trees::store::Store;
 use std::alloc::Global;
 
-/// Audits the bank that is found, and prints what was found in it.
-pub fn audit_over<S: Alter + Drop, W: Sink>(
-    alloc: Global,
-    conn: Connection<S>,
+/// Audits the bank that was found, and prints what was found in it.
+pub(crate) fn audit_found<S: Alter + Drop, W: Sink>(
+    bank: &mut Bank<S>,
     output: &mut W,
-) -> Ended<S>
-    requires { conn.in_transaction ≡ false }
-    ensures audits { AuditsOver S.Store conn result.conn (W.contents output.old) (W.contents output.new)
-        result.end }
-    ensures unprinted { IsErrOf result.end CommandFault.Write
+) -> Result<Status, CommandFault>
+    ensures audits { AuditsFound S.Store (W.contents output.old) (W.contents output.new) bank.old bank.new result }
+    ensures unprinted { IsErrOf result CommandFault.Write
         → HasWriteFailed (W.calls output.old) (W.calls output.new) }
-    ensures idle { result.conn.in_transaction ≡ false }
+    ensures spares { SparesWhileOpen S.Store (connection_of bank.old) (connection_of bank.new) }
 {
-    let mut bank = match find(alloc, conn) {
-        Ok(bank) => bank,
-        Err(ended) => return ended,
-    };
-    let end = print_audit(audit(&mut bank), output);
-    Ended {
-        end,
-        conn: bank.release(),
-    }
+    print_audit(audit(bank), output)
 }
 
-/// Writes the statement of an account of the bank that is found, all of it or what is asked for. Where that is
-/// nothing that can be asked, it looks for no bank.
-pub fn statement_over<S: Alter + Drop, W: Sink>(
-    alloc: Global,
-    conn: Connection<S>,
-    account: Account,
-    query: Result<Query, QueryFault>,
-    output: &mut W,
-) -> Ended<S>
-    requires { conn.in_transaction ≡ false }
-    ensures states { StatesAsked S.Store conn result.conn account query (W.contents output.old)
-        (W.contents output.new) (W.calls output.old) (W.calls output.new) result.end }
-    ensures idle { result.conn.in_transaction ≡ false }
-{
-    match query {
-        Ok(query) => query_over(alloc, conn, account, query, output),
-        Err(fault) => Ended {
-            end: Err(CommandFault::Query(fault)),
-            conn,
-        },
-    }
-}
-
-// The same of what can be asked.
-fn query_over<S: Alter + Drop, W: Sink>(
-    alloc: Global,
-    conn: Connection<S>,
+/// Writes the statement of an account of the bank that was found, all of it or what is asked for.
+pub(crate) fn statement_found<S: Alter + Drop, W: Sink>(
+    bank: &mut Bank<S>,
     account: Account,
     query: Query,
     output: &mut W,
-) -> Ended<S>
-    requires { conn.in_transaction ≡ false }
-    ensures states { StatesOver S.Store conn result.conn account query (W.contents output.old)
-        (W.contents output.new) (W.calls output.old) (W.calls output.new) result.end }
-    ensures idle { result.conn.in_transaction ≡ false }
+) -> Result<Status, CommandFault>
+    ensures states { States S.Store account query (W.contents output.old) (W.contents output.new)
+        (W.calls output.old) (W.calls output.new) bank.old bank.new result }
+    ensures unprinted { IsErrOf result CommandFault.Write
+        → HasWriteFailed (W.calls output.old) (W.calls output.new) }
+    ensures spares { SparesWhileOpen S.Store (connection_of bank.old) (connection_of bank.new) }
 {
-    let mut bank = match find(alloc, conn) {
-        Ok(bank) => bank,
-        Err(ended) => return ended,
-    };
-    let end = stated(account, write_selected(&mut bank, account, query, output));
-    Ended {
-        end,
-        conn: bank.release(),
-    }
+    stated(account, write_selected(bank, account, query, output))
 }
 
-/// Writes the statements of all accounts of the bank that is found that have a posting which is asked for. Where that is
-/// nothing that can be asked, it looks for no bank.
-pub fn statements_over<S: Alter + Drop, W: Sink>(
-    alloc: Global,
-    conn: Connection<S>,
-    query: Result<Query, QueryFault>,
-    output: &mut W,
-) -> Ended<S>
-    requires { conn.in_transaction ≡ false }
-    ensures states { StatesAllAsked S.Store conn result.conn query (W.contents output.old)
-        (W.contents output.new) (W.calls output.old) (W.calls output.new) result.end }
-    ensures idle { result.conn.in_transaction ≡ false }
-{
-    match query {
-        Ok(query) => all_over(alloc, conn, query, output),
-        Err(fault) => Ended {
-            end: Err(CommandFault::Query(fault)),
-            conn,
-        },
-    }
-}
-
-// The same of what can be asked.
-fn all_over<S: Alter + Drop, W: Sink>(
-    alloc: Global,
-    conn: Connection<S>,
+/// Writes the statements of all accounts of the bank that was found that have a posting which is asked for.
+pub(crate) fn statements_found<S: Alter + Drop, W: Sink>(
+    bank: &mut Bank<S>,
     query: Query,
     output: &mut W,
-) -> Ended<S>
-    requires { conn.in_transaction ≡ false }
-    ensures states { StatesAllOver S.Store conn result.conn query (W.contents output.old)
-        (W.contents output.new) (W.calls output.old) (W.calls output.new) result.end }
-    ensures idle { result.conn.in_transaction ≡ false }
+) -> Result<Status, CommandFault>
+    ensures states { StatesEach S.Store query (W.contents output.old) (W.contents output.new)
+        (W.calls output.old) (W.calls output.new) bank.old bank.new result }
+    ensures unprinted { IsErrOf result CommandFault.Write
+        → HasWriteFailed (W.calls output.old) (W.calls output.new) }
+    ensures spares { SparesWhileOpen S.Store (connection_of bank.old) (connection_of bank.new) }
 {
-    let mut bank = match find(alloc, conn) {
-        Ok(bank) => bank,
-        Err(ended) => return ended,
-    };
-    let end = all_stated(write_statements(&mut bank, query, output));
-    Ended {
-        end,
-        conn: bank.release(),
-    }
+    all_stated(write_statements(bank, query, output))
 }
 
 /// Prints that the bank can be used, where one is found.

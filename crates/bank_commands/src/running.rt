@@ -24,7 +24,7 @@
 //!         &mut rt.stderr(),
 //!         &mut SystemClock::new(rt),
 //!     );
-//!     tell_reason(rt, status, words, &notes);
+//!     tell_reason(rt, status, &notes);
 //!     status
 //! }
 //!
@@ -44,7 +44,7 @@ ghost use Rattle.std.specs.Io.KnownBytes.{Keeps};
 ghost use Rattle.clap.specs.Words.{fault_of};
 ghost use Rattle.command_line.specs.CommandLine.{bank_app};
 ghost use Rattle.command_line.specs.Words.{AsksForHelp};
-ghost use Rattle.bank_commands.specs.Running.{AreRefused, AreTaken, Runs};
+ghost use Rattle.bank_commands.specs.Running.{AreRefused, AreTaken, Runs, by_bytes};
 
 use crate::files::{Machine, command_in};
 use command_line::{Status, explain, prompt, read_words, tell};
@@ -62,9 +62,9 @@ pub fn words_of<R: Env + AllocGlobal>(rt: &R) -> io::Result<Vec<String>> {
 
 /// Does what the words say, and gives the status that the program ends with. A fault is reported on `faults`, and so
 /// is what a command waits for that reads the input, where that is typed at a terminal.
-pub fn run<S: Start, T: AsStr, R: Read, W: Write, E: Write, K: Clock>(
-    machine: Machine<'_, S>,
-    words: &[T],
+pub fn run<'w, S: Start, T: AsStr, R: Read, W: Write, E: Write, K: Clock>(
+    machine: Machine<'_, 'w, S>,
+    words: &'w [T],
     input: &mut R,
     typed: bool,
     output: &mut W,
@@ -82,15 +82,16 @@ pub fn run<S: Start, T: AsStr, R: Read, W: Write, E: Write, K: Clock>(
     ensures taken { AreTaken (map T.text words.entry.now) → result ≢ Status.Usage }
     // Words that clap takes have the command done that is read from them; what it does is said of its connection, by
     // `command_over`.
-    ensures runs { AreTaken (map T.text words.entry.now)
-        → Runs (map T.text words.entry.now) typed (R.remaining input.old) (R.remaining input.new)
-        (W.contents output.old) (W.contents output.new) (E.contents faults.old) (E.contents faults.new)
+    ensures runs { AreTaken (map T.text words.entry.now) → Runs (map T.text words.entry.now) typed
+        (by_bytes (R.remaining input.old) (W.contents output.old))
+        (by_bytes (R.remaining input.new) (W.contents output.new)) (E.contents faults.old) (E.contents faults.new)
         (K.readings clock.old) (K.readings clock.new) result }
 {
     let command = match read_words(machine.alloc(), words) {
         Ok(command) => command,
         Err(error) => return explain(&error, output, faults),
     };
+    machine.note(&command);
     prompt(&command, typed, faults);
     match command_in(machine, &command, input, output, clock) {
         Ok(status) => status,

@@ -1,7 +1,7 @@
 //! Clients of a bank that is served on a port of loopback.
 ghost use Rattle.std.specs.Prelude.{◌≡◌, false};
 
-use bank_commands::{Ended, serve_over};
+use bank_commands::{Ended, find, serve_found};
 use command_line::Network;
 use counter_http::{ServeWatch, TcpClients};
 use posting_core::StoredClock;
@@ -109,13 +109,21 @@ pub fn serve_clients<S: Alter + Drop>(
     let alloc = clients.alloc();
     let mut clock = StoredClock::new(Vec::new(alloc));
     let count = clients.messages.len() as u64;
-    serve_over(
+    let mut bank = match find(alloc, conn) {
+        Ok(bank) => bank,
+        Err(ended) => return ended,
+    };
+    let end = serve_found(
         alloc,
-        conn,
+        &mut bank,
         clients,
         "127.0.0.1:0",
         count,
         output,
         &mut clock,
-    )
+    );
+    Ended {
+        end,
+        conn: bank.release(),
+    }
 }

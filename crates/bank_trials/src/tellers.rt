@@ -3,7 +3,7 @@ ghost use Rattle.std.specs.Prelude.{◌≡◌, false};
 
 use crate::loopback::{Clients, serve_clients, taken};
 use anyhow::{Context, Result, ensure};
-use bank_commands::{Ended, replay_over};
+use bank_commands::{Ended, find, replay_found};
 use bank_replays::Unwatched;
 use sqlite::{Alter, Connection, FileStore};
 use sqlite_disk::Disk;
@@ -52,6 +52,21 @@ fn are_answered(rt: &HostRuntime, streams: &[TcpStream]) -> Result<()> {
     Ok(())
 }
 
+// Replays the bank of a connection.
+fn replay<S: Alter + Drop>(alloc: Global, conn: Connection<S>, output: &mut Vec<u8>) -> Ended<S>
+    requires { conn.in_transaction ≡ false }
+{
+    let mut bank = match find(alloc, conn) {
+        Ok(bank) => bank,
+        Err(ended) => return ended,
+    };
+    let end = replay_found(alloc, &mut bank, output, Unwatched);
+    Ended {
+        end,
+        conn: bank.release(),
+    }
+}
+
 // Serves the tellers by the bank of a connection, and replays it.
 fn serve<S: Alter + Drop>(
     tellers: &Clients<'_>,
@@ -62,7 +77,7 @@ fn serve<S: Alter + Drop>(
 {
     let served = serve_clients(tellers, conn, output);
     match served.end {
-        Ok(_) => replay_over(tellers.alloc(), served.conn, output, Unwatched),
+        Ok(_) => replay(tellers.alloc(), served.conn, output),
         Err(_) => served,
     }
 }

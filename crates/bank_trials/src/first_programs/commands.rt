@@ -1,7 +1,7 @@
 //! The first program of `bank_commands`.
 ghost use Rattle.std.specs.Prelude.{◌≡◌, false};
 
-use bank_commands::{Ended, init_over, load_over, post_over};
+use bank_commands::{Ended, find, init_over, load_found, post_found};
 use command_line::Plans;
 use posting_core::Clock;
 use sqlite::{Alter, Connection};
@@ -20,6 +20,16 @@ pub fn first_commands<S: Alter + Drop, P: Plans, R: Read, W: Write, K: Clock>(
     requires { conn.in_transaction ≡ false }
 {
     let made = init_over(alloc, conn, output);
-    let loaded = load_over(alloc, made.conn, plans, plan, output);
-    post_over(alloc, loaded.conn, input, output, clock)
+    let mut bank = match find(alloc, made.conn) {
+        Ok(bank) => bank,
+        Err(ended) => return ended,
+    };
+    let end = match load_found(alloc, &mut bank, plans, plan, output) {
+        Ok(_) => post_found(&mut bank, input, output, clock),
+        end => end,
+    };
+    Ended {
+        end,
+        conn: bank.release(),
+    }
 }

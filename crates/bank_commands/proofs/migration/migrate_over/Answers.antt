@@ -1,6 +1,7 @@
 -- What `migrate` says, and what was printed after it.
 use Rattle.std.proofs.Common.{inl, inr, refl}
-use Rattle.bank_commands.proofs.Told.{line_not_written, line_told, opening_is_no_write, refused_over}
+use Rattle.bank_commands.proofs.Told.{line_told, refused_over}
+use Rattle.bank_commands.proofs.Unwritten.{line_not_written, opening_is_no_write}
 use Rattle.bank_commands.proofs.migration.migrate_over.Goals as goal
 
 pub returns-in-Err : goal.returns-in-Err

@@ -3,7 +3,7 @@ use Rattle.std.proofs.Common.{refl}
 use Rattle.bank_store.specs.believed.Seen.{connection_of}
 use Rattle.bank_store.proofs.Spared.{idle_spares}
 use Rattle.bank_commands.proofs.{Spared.done_over, Spared.none_over}
-use Rattle.bank_commands.proofs.Told.{line_not_written, line_told, refused_not_write}
+use Rattle.bank_commands.proofs.{Told.line_told, Unwritten.line_not_written, Unwritten.refused_not_write}
 use Rattle.bank_commands.proofs.reports.why_over.Goals as goal
 
 pub returns-in-Err : goal.returns-in-Err

@@ -27,9 +27,8 @@ returns-in-Err g c =
           let memory = taken_memory words kind says.taken says.fault takes in
           inr (
             memory_ends kind c.explain.result memory shown.status,
-            refl,
+            ((refl, refl, refl), refl),
             mistake_keeps kind _ _ (memory_is_no_request kind memory) shown.silent,
-            refl,
           );
     }
 
@@ -45,14 +44,13 @@ returns-in-Ok-command_in g c =
       silent = λ refused. absurd (refused.some says.fault);
       unread = λ some. absurd (some says.fault);
       help = λ asks. absurd (says.help asks);
-      taken = λ takes. told_is_not_usage c.in-Ok.command _ _ _ _ c.in-Ok-command_in.status did.tells;
+      taken = λ takes. told_is_not_usage c.in-Ok.command _ _ c.in-Ok-command_in.status did.tells;
       runs = λ takes. inl record {
         command = c.in-Ok.command;
         read = says.command;
         end = Ok c.in-Ok-command_in.status;
         tells = did.tells;
-        input = did.input;
-        clock = did.clock;
+        leaves = did.leaves;
         ends = refl;
         said = in_part _ _ _ _ _ c.prompt.ensures;
       };
@@ -72,8 +70,7 @@ returns-in-Err-command_in g c =
         read = says.command;
         end = Err c.in-Err-command_in.fault;
         tells = c.in-Err-command_in.ensures.tells;
-        input = c.in-Err-command_in.ensures.input;
-        clock = c.in-Err-command_in.ensures.clock;
+        leaves = c.in-Err-command_in.ensures.leaves;
         ends = c.tell.ensures.status;
         said = (_, in_part _ _ _ _ _ c.prompt.ensures, c.tell.ensures.said);
       };
