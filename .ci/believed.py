@@ -269,7 +269,9 @@ def listed(found):
 def page():
     promise, rust, kit, said = counts(PROMISE)
     calls, _, _, said_calls = counts(CALLS)
-    claims, _, _, said_claims = counts(CLAIMS)
+    claims = counts(CLAIMS)[0]
+    # in hundreds, so that the page stands where a command has one definition more
+    said_claims = f"some {round(len(claims), -2):,} definitions, {round(sum(it.lines for it in claims), -2):,} lines"
     listed_names = len({(library_of(path), name) for path, name in kit})
     return "\n".join([
         "# What must be believed",
