@@ -1,18 +1,16 @@
 -- Rows that were added one after another.
-use Rattle.std.proofs.Common.{◌≡◌, ◌≤◌, ◌<◌, ◌⊎◌, ◌+◌, ◌++◌, ℕ, List, [], ◌∷◌, length, map, Ok, Err, refl, sym, ap}
-use Rattle.std.proofs.Common.{◌∙◌, append_assoc, append-nil, inl, inr, arith}
+use Rattle.std.proofs.Common.{◌≡◌, ◌≤◌, ◌<◌, ◌⊎◌, ◌+◌, ◌++◌, ℕ, List, [], ◌∷◌, length, map, Err, refl, sym, ap}
+use Rattle.std.proofs.Common.{◌∙◌, append_assoc, append-nil, inl, inr, arith, subst}
 use Rattle.std.specs.Prelude.{ℤ, pos, ◌+ℤ◌, ◌≤ℤ◌, ◌<ℤ◌}
 use Rattle.std.proofs.lemmas.{Int.ints, List.length-append, List.map-append}
-use Rattle.sqlite.specs.{Effect.Database, State.State, State.HasCleanDisk, State.Survives}
+use Rattle.sqlite.specs.Effect.{Database}
 use Rattle.posting_rules.specs.declared.fault.{Fault.Fault, Rule.Rule}
 use Rattle.posting_rules.specs.declared.fault.Fault.TheVariants as faults
-use Rattle.bank_store.specs.{Walking.Steps, Walks.IsStill, Walks.IsUntouchedIfOpen}
+use Rattle.bank_store.specs.Walking.{Steps}
 use Rattle.report_contents.specs.{Beside.AuditRows, declared.limits.TheConstants.MAX_ROWS}
-use Rattle.bank_reports.specs.Adding.{AddsToSums, HasSums, IsPassed}
+use Rattle.bank_reports.specs.Adding.{AddsToSums, HasSums}
 use Rattle.bank_reports.specs.{declared.sums.Sums.Sums}
 use Rattle.walked_rows.specs.Broken.{HasBroken}
-use Rattle.bank_store.specs.Failures.{SaysOf}
-use Rattle.bank_store.proofs.StepsKeep.{quiet_then, still_then, still_undone, undone_then}
 
 -- ---- the rows
 
@@ -25,10 +23,9 @@ pub record IsGathered {R X : Type 0} (item : R → X) (HasItems : Database → L
   pub are : Clean → (items : List X) → HasItems db items → map item given ++ coming items ≡ all items
   pub added : AddsToSums with_rows old new given
 
-module _ {R X : Type 0} (item : R → X) (HasItems : Database → List X → Type 0)
-    (with_rows : AuditRows → List R → AuditRows) (db : Database)
-    (Clean Later : Type 0) (old mid : Sums) (all coming : List X → List X) (count : ℕ)
-    (before : Later → Clean)
+module _ {R X : Type 0} {item : R → X} {HasItems : Database → List X → Type 0}
+    {with_rows : AuditRows → List R → AuditRows} {db : Database} {Clean Later : Type 0} {old mid : Sums}
+    {all coming : List X → List X} {count : ℕ} (before : Later → Clean)
     (it : IsGathered item HasItems with_rows db Clean old mid all coming count) where
   -- one more
   pub one_more_row : (new : Sums) (left : List X → List X) (r : R)
@@ -67,16 +64,12 @@ module _ {R X : Type 0} (item : R → X) (HasItems : Database → List X → Typ
   )
 
   -- what a step that failed says of all of them
-  pub failed_row : (Breaks : Rule → X → Type 0) (Failed : Type 0) → Later → (items : List X)
-      → HasItems db items → (left : List X)
+  pub damaged_row : (Breaks : Rule → X → Type 0) → Later → (items : List X) → HasItems db items → (left : List X)
       → (fault : Fault) → Steps {R = R} item Breaks (coming items) left (Err fault)
-      → (fault ≡ faults.Store → Failed)
-      → SaysOf (λ rule. HasBroken (Breaks rule) (all items)) Failed fault
-  failed_row Breaks Failed late items there left faults.Memory step failed = step
-  failed_row Breaks Failed late items there left faults.Store step failed = failed refl
-  failed_row Breaks Failed late items there left faults.Down step failed = tt
-  failed_row Breaks Failed late items there left (faults.Damaged rule) step failed =
-      broken_row (Breaks rule) late items there step.0 step.1 step.2 step.3
+      → (rule : Rule) → fault ≡ faults.Damaged rule → HasBroken (Breaks rule) (all items)
+  damaged_row Breaks late items there left fault step rule is =
+      let it = subst (λ f. Steps {R = R} item Breaks (coming items) left (Err f)) is step in
+      broken_row (Breaks rule) late items there it.0 it.1 it.2 it.3
 
 -- ---- how many there are
 
@@ -113,27 +106,3 @@ module _ (Comes Later : ℤ → Type 0) (count : ℕ) (key : ℤ) (it : IsAlong 
         after = inr (omega (arith, ints, low, is));
         few = omega (arith, low, within);
       }
-
--- ---- what a pass leaves
-
-module _ (old mid new : State) (survived : Survives old mid (λ _. ⊥))
-    (still : HasCleanDisk mid → IsStill old mid) (survives : Survives mid new (λ _. ⊥)) where
-  before : HasCleanDisk new → HasCleanDisk mid
-  before clean = omega (arith, survives.clean, clean)
-
-  -- a step more
-  pub passed_ok : (HasCleanDisk new → IsStill mid new) → IsPassed old new (Ok tt)
-  passed_ok same = record {
-    survives = quiet_then old mid new survived survives;
-    still = λ clean. still_then old mid new (still (before clean)) (same clean);
-    undone = λ clean. still_undone old new (still_then old mid new (still (before clean)) (same clean));
-  }
-
-  -- a step that failed
-  pub passed_err : (fault : Fault) → (HasCleanDisk new → IsUntouchedIfOpen mid new)
-      → IsPassed old new (Err fault)
-  passed_err fault undone = record {
-    survives = quiet_then old mid new survived survives;
-    still = λ clean. tt;
-    undone = λ clean. undone_then old mid new (still (before clean)) (undone clean);
-  }

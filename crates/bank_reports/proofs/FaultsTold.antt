@@ -1,12 +1,18 @@
 -- What is told of a bank with a fault.
 use Rattle.std.proofs.Common.{◌≡◌, ◌∙◌, refl, sym, ℕ, List, Option, Result, Err}
+use Rattle.sqlite_trees.specs.declared.store.Store.{Ghosts}
 use Rattle.posting_rules.specs.declared.fault.Fault.{Fault, TheVariants.Memory, TheVariants.Down, TheVariants.Damaged}
+use Rattle.posting_rules.specs.declared.fault.Fault.{TheVariants.Store}
 use Rattle.posting_rules.specs.declared.fault.Rule.{Rule}
 use Rattle.posting_rules.specs.{believed.Commands.Command, believed.Counter.Seen, believed.Counter.ShowsLog}
 use Rattle.report_contents.proofs.Written.{nothing_written, on_err_any}
 use Rattle.report_contents.specs.declared.audit.Audit.{Audit}
-use Rattle.bank_reports.specs.declared.fault.ReportFault.{ReportFault, TheVariants.Bank}
-use Rattle.bank_reports.specs.{Audits.Audits, Audits.HasAudited, StatedLines.statement_after, Postings.HasAnswered}
+use Rattle.bank_store.specs.believed.Seen.{connection_of, database_of}
+use Rattle.bank_store.specs.{Failures.HasFailedToRead, declared.bank.Bank.Bank}
+use Rattle.bank_reports.specs.declared.fault.ReportFault.{ReportFault}
+use Rattle.bank_reports.specs.declared.fault.ReportFault.TheVariants.{Bank as OfBank}
+use Rattle.bank_reports.specs.{Audits.Audits, Audits.AuditsFile, Audits.HasAudited, StatedLines.statement_after}
+use Rattle.bank_reports.specs.{Files.FileRows, Files.HasBrokenRow, Files.HasFile, Postings.HasAnswered}
 use Rattle.bank_reports.specs.{AllStatements.StatesAll, Statements.StatesSelected}
 use Rattle.report_contents.specs.declared.query.Query.{Query}
 use Rattle.bank_store.specs.Leaving.{TakesNone}
@@ -17,11 +23,17 @@ abbrev pub NeverSound : Seen → Seen → Fault → Type 0
 NeverSound old new fault = (rule : Rule) → fault ≡ Damaged rule → new.honest → (log : List Command)
     → ShowsLog old log → ⊥
 
-down_not_damaged : (fault : Fault) (rule : Rule) → fault ≡ Down → fault ≡ Damaged rule → ⊥
+pub down_not_damaged : (fault : Fault) (rule : Rule) → fault ≡ Down → fault ≡ Damaged rule → ⊥
 down_not_damaged fault rule down damaged = cc
 
-memory_not_damaged : (fault : Fault) (rule : Rule) → fault ≡ Memory → fault ≡ Damaged rule → ⊥
+pub memory_not_damaged : (fault : Fault) (rule : Rule) → fault ≡ Memory → fault ≡ Damaged rule → ⊥
 memory_not_damaged fault rule memory damaged = cc
+
+pub down_is_no_store : (fault : Fault) → fault ≡ Down → fault ≡ Store → ⊥
+down_is_no_store fault down store = cc
+
+pub memory_is_no_store : (fault : Fault) → fault ≡ Memory → fault ≡ Store → ⊥
+memory_is_no_store fault memory store = cc
 
 pub down_is_sound : (old new : Seen) → NeverSound old new Down
 down_is_sound old new rule is clean log s = down_not_damaged Down rule refl is
@@ -43,10 +55,22 @@ unaudited old new end fault is sound takes = record {
   takes = takes;
 }
 
+pub unaudited_file : {S : Type 0} {g : Ghosts S} {old new : Bank S g} {end : Result Audit Fault} (fault : Fault)
+    → end ≡ Err fault
+    → ((rule : Rule) → fault ≡ Damaged rule → (f : FileRows) → HasFile (database_of g old) f → HasBrokenRow rule f)
+    → (fault ≡ Store → (f : FileRows) → HasFile (database_of g old) f
+    → HasFailedToRead g (connection_of old) (connection_of new)) → AuditsFile g old new end
+unaudited_file fault is damaged store = record {
+  numbers = λ f has. rw is tt;
+  consistent = λ t has. rw is tt;
+  damaged = λ rule told. damaged rule (error_is fault (Damaged rule) (sym is ∙ told));
+  store = λ told. store (error_is fault Store (sym is ∙ told));
+}
+
 -- ---- statements of which nothing was written
 
 pub unstated_all : (old new : Seen) (query : Query) (w : Option (List ℕ)) (end : Result (Unit {0}) ReportFault)
-    (fault : Fault) → end ≡ Err (Bank fault)
+    (fault : Fault) → end ≡ Err (OfBank fault)
     → NeverSound old new fault → TakesNone old new (HasAnswered end) → StatesAll old new query w w end
 unstated_all old new query w end fault is sound takes = record {
   text = rw is tt;
@@ -58,7 +82,7 @@ unstated_all old new query w end fault is sound takes = record {
 }
 
 pub unstated : (old new : Seen) (account : ℕ) (query : Query) (w : Option (List ℕ)) (end : Result (Unit {0}) ReportFault)
-    (fault : Fault) → end ≡ Err (Bank fault)
+    (fault : Fault) → end ≡ Err (OfBank fault)
     → NeverSound old new fault → TakesNone old new (HasAnswered end) → StatesSelected old new account query w w end
 unstated old new account query w end fault is sound takes = record {
   text = rw is tt;

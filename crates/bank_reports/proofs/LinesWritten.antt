@@ -13,7 +13,7 @@ use Rattle.report_contents.proofs.Joined.{text_of-append}
 use Rattle.report_contents.proofs.Written.{first_part, same_all, same_part, then_part}
 use Rattle.bank_reports.specs.declared.fault.ReportFault.{ReportFault}
 use Rattle.bank_reports.specs.declared.fault.ReportFault.TheVariants.{Bank, Write}
-use Rattle.bank_reports.specs.Parts.{WritesAbove, WritesAccount, WritesLines}
+use Rattle.bank_reports.specs.Parts.{WritesAccount, WritesLines}
 use Rattle.bank_reports.specs.Postings.{WritesLine, form_lines, sum_of}
 use Rattle.bank_reports.proofs.Further.{text_more}
 use Rattle.bank_reports.proofs.Lined.{sum_of-snoc}
@@ -66,11 +66,9 @@ module _ (query : Query) (account : ℕ) (rows : List StatedPosting) (old : Opti
   abbrev lines : List ℕ
   lines = text_of (form_lines form rows)
 
-  pub above_end : (new : Option (List ℕ)) (fault : ReportFault) → WritesAbove above old new (Err fault)
-      → WritesAccount query account rows old new (Err fault)
-  above_end new Write part =
-      first_part old new (above ++ lines) (last_of form) (first_part old new above lines part)
-  above_end new other never = absurd never
+  pub above_end : (new : Option (List ℕ)) → AppendsPart old new above
+      → AppendsPart old new (account_text query account rows)
+  above_end new part = first_part old new (above ++ lines) (last_of form) (first_part old new above lines part)
 
   module _ (mid : Option (List ℕ)) (wrote : Appends old mid above) where
     pub account_end : (new : Option (List ℕ)) (fault : ReportFault) → WritesLines form rows mid new (Err fault)

@@ -1,17 +1,18 @@
 -- What is told of the rows that are to come of a bank that was lent is told of all rows of the bank.
 use Rattle.std.proofs.Common.{ℕ, ℤ, Bool, Option, None, List, map, Result, Ok, sym, subst, ◌∙◌}
 use Rattle.std.specs.Borrow.{GName}
-use Rattle.std.specs.Prelude.{◌≡◌, IfErr, IfOk}
+use Rattle.std.specs.Prelude.{◌≡◌, IfOk}
 use Rattle.std.proofs.lemmas.Result.{IfOk-weaker}
-use Rattle.sqlite.specs.{Effect.Database, Held.Held}
+use Rattle.sqlite.specs.Effect.{Database}
 use Rattle.sqlite_trees.specs.declared.store.Store.{Ghosts}
 use Rattle.posting_rules.specs.declared.fault.{Fault.Fault, Rule.Rule}
 use Rattle.report_contents.specs.Beside.{AuditRows}
-use Rattle.bank_store.specs.{believed.Seen.connection_of, believed.Seen.database_of, declared.bank.Bank.Bank}
+use Rattle.bank_store.specs.{believed.Seen.database_of, declared.bank.Bank.Bank}
 use Rattle.bank_store.specs.{declared.walks.Walk.Walk, Walking.BeginsWalk, Walking.items_to_come, Walking.lent}
-use Rattle.bank_reports.specs.{Adding.AddsToSums, declared.sums.Sums.Sums}
 use Rattle.walked_rows.specs.Broken.{HasBroken}
-use Rattle.bank_store.specs.Failures.{HasFailedToRead, SaysOf}
+use Rattle.bank_reports.specs.{Adding.AddsToSums, declared.sums.Sums.Sums}
+use Rattle.bank_reports.specs.Leaving.{ReadsRows, ReadsTable, as_report}
+use Rattle.bank_reports.proofs.BankReads.{reads_among, reads_lent}
 
 -- the bank as it was before, and the walk that it was lent to
 module _ {S R X : Type 0} {g : Ghosts S} {key : X → ℤ} {item : R → X} {is_given : Option ℕ → X → Bool}
@@ -25,21 +26,11 @@ module _ {S R X : Type 0} {g : Ghosts S} {key : X → ℤ} {item : R → X} {is_
   there all = subst (λ bank. HasItems (database_of g bank) all) (sym begins.same)
 
   -- at the end of the loan and after it
-  pub told_of_all : (Breaks : Rule → X → Type 0) {Clean Later : Type 0} {last new : Held S}
-      → (Clean → (all : List X) → HasItems (database_of g (lent walk)) all
-      → IfErr r (SaysOf (λ rule. HasBroken (Breaks rule) (to_come all))
-      (HasFailedToRead g (connection_of (lent walk)) last)))
-      → last ≡ new → (Later → Clean) → Later → (all : List X) → HasItems (database_of g old) all
-      → IfErr r (SaysOf (λ rule. HasBroken (Breaks rule) all) (HasFailedToRead g (connection_of old) new))
-  told_of_all Breaks {last = last} {new = new} answers two before late all has =
-      subst (λ conn. IfErr r (SaysOf (λ rule. HasBroken (Breaks rule) all)
-      (HasFailedToRead g (connection_of old) conn))) two
-      (subst (λ bank. IfErr r (SaysOf (λ rule. HasBroken (Breaks rule) all)
-      (HasFailedToRead g (connection_of bank) last)))
-      begins.same
-      (subst (λ xs. IfErr r (SaysOf (λ rule. HasBroken (Breaks rule) xs)
-      (HasFailedToRead g (connection_of (lent walk)) last)))
-      (begins.all all has) (answers (before late) all (there all has))))
+  pub table_read : (Breaks : Rule → X → Type 0) {last new : Bank S g}
+      → ReadsRows g HasItems (λ all rule. HasBroken (Breaks rule) (to_come all)) ⊥ (lent walk) last (as_report r)
+      → last ≡ new → ReadsTable g HasItems Breaks old new (as_report r)
+  table_read Breaks reads ended = reads_among (reads_lent begins.same reads ended) _ _
+      (λ all has. (all, has, λ rule h. subst (λ xs. HasBroken (Breaks rule) xs) (begins.all all has) h))
 
   pub added_of_all : (with_rows : AuditRows → List R → AuditRows) (from to : Sums) {Clean Later : Type 0}
       → IfOk r (λ _. (given : List R) × AddsToSums with_rows from to given

@@ -1,12 +1,14 @@
 -- How a report ends: never in two ways, and what the refusal that ended it says.
-use Rattle.std.proofs.Common.{◌≡◌, ℕ, zero, suc, Bool, true, false, List, [], take, Ok, Err, Result, refl, subst}
+use Rattle.std.proofs.Common.{◌≡◌, ℕ, zero, suc, Bool, true, false, List, [], take, Option, Ok, Err, Result, refl, subst}
 use Rattle.std.specs.Prelude.{OnErr, OnOk}
 use Rattle.posting_rules.specs.{declared.fault.Fault.Fault, declared.fault.Rule.Rule, believed.Commands.Command}
 use Rattle.posting_rules.specs.{believed.Runs.followed_by, believed.Tables.AreTablesOf}
 use Rattle.posting_rules.specs.declared.fault.Fault.TheVariants.{Memory, Store, Down, Damaged}
 use Rattle.posting_rules.specs.believed.Counter.{Seen, ShowsLog, StandsAt, Refuses, LeavesOnly}
 use Rattle.posting_rules.proofs.Remaining.{leaves_still}
-use Rattle.bank_reports.specs.{declared.fault.ReportFault.ReportFault, Postings.HasAnswered, Postings.HasWritten}
+use Rattle.posting_core.specs.EndCalls.{WriteCall}
+use Rattle.bank_reports.specs.{declared.fault.ReportFault.ReportFault, Leaving.TellsDown, Postings.HasAnswered}
+use Rattle.bank_reports.specs.{Postings.HasWritten, Statements.LeavesWriter}
 use Rattle.bank_reports.specs.declared.fault.ReportFault.TheVariants.{NoAccount, Write, Bank}
 
 pub of_ok : {E P : Type 0} (r : Result (Unit {0}) E) → (r ≡ Ok tt → P) → OnOk r P
@@ -21,12 +23,34 @@ of_err (Err e) f = f e refl
 pub tested_up : (tested is_down : Bool) → tested ≡ is_down → tested ≡ false → is_down ≡ true → ⊥
 tested_up tested is_down same up down = cc
 
+pub was_down_tells : {was_down answered nothing_done : Type 0} → was_down → answered → nothing_done
+    → TellsDown was_down answered nothing_done
+was_down_tells was is idle = record { down = λ down. is; tried = λ told. was; idle = λ told. idle }
+
+pub was_up_tells : {was_down answered nothing_done : Type 0} → (was_down → ⊥) → (answered → was_down)
+    → TellsDown was_down answered nothing_done
+was_up_tells up tried = record {
+  down = λ down. absurd (up down);
+  tried = tried;
+  idle = λ is. absurd (up (tried is));
+}
+
 -- a report that the bank's fault ended wasn't ended by anything else
 pub not_missing : (r : Result (Unit {0}) ReportFault) (e : Fault) → r ≡ Err (Bank e) → r ≡ Err NoAccount → ⊥
 not_missing r e is none = cc
 
 pub not_write : (r : Result (Unit {0}) ReportFault) (e : Fault) → r ≡ Err (Bank e) → r ≡ Err Write → ⊥
 not_write r e is write = cc
+
+-- nothing was written
+pub unwritten : {W : Type 0} {calls : W → Option (List WriteCall)} {writer : W} {refused : Type 0}
+    {end : Result (Unit {0}) ReportFault} (fault : Fault) → end ≡ Err (Bank fault)
+    → LeavesWriter calls writer writer refused end
+unwritten fault is = record {
+  silent = λ none. refl;
+  flushed = rw is tt;
+  failed = λ write. absurd (not_write _ fault is write);
+}
 
 pub not_both : (r : Result (Unit {0}) ReportFault) → r ≡ Err Write → r ≡ Err NoAccount → ⊥
 not_both r write none = cc

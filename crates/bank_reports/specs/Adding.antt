@@ -1,7 +1,5 @@
--- What an audit has added up, and what a pass over the rows of a table leaves.
-use Rattle.std.specs.Prelude.{List, [], map, Option, Result, OnOk}
-use Rattle.sqlite.specs.State.{State, HasCleanDisk, Survives}
-use Rattle.posting_rules.specs.declared.fault.Fault.{Fault}
+-- What an audit has added up of the rows of five tables.
+use Rattle.std.specs.Prelude.{List, [], map, Option}
 use Rattle.walked_rows.specs.declared.accounts.StoredAccount.{StoredAccount}
 use Rattle.walked_rows.specs.declared.branches.StoredBranch.{StoredBranch}
 use Rattle.walked_rows.specs.declared.tellers.StoredTeller.{StoredTeller}
@@ -11,10 +9,9 @@ use Rattle.walked_rows.specs.declared.joined.Joined.{Joined}
 use Rattle.report_contents.specs.Added.{IsSum, HasBeside, HasBranches, HasTellers}
 use Rattle.report_contents.specs.Audit.{account_balance}
 use Rattle.report_contents.specs.Beside.{AuditRows}
-use Rattle.bank_store.specs.Walks.{IsStill, IsUntouchedIfOpen}
 use Rattle.bank_reports.specs.declared.sums.Sums.{Sums}
 
--- these rows were added
+-- the sums are those of these rows
 pub record HasSums (s : Sums) (rows : AuditRows) : Type 0 where
   pub tellers : HasTellers s.tellers rows.tellers
   pub branches : HasBranches s.branches rows.tellers rows.branches
@@ -23,7 +20,7 @@ pub record HasSums (s : Sums) (rows : AuditRows) : Type 0 where
 
 -- ---- one kind of row, beside the others
 
--- these tellers, before any branch is compared with them
+-- the rows with these tellers, before any branch is compared with them
 abbrev pub with_tellers : AuditRows → List StoredTeller → AuditRows
 with_tellers rows tellers = record rows { tellers = tellers; branches = [] }
 
@@ -37,11 +34,11 @@ with_accounts rows accounts = record rows { accounts = accounts }
 abbrev pub both : {R O : Type 0} → Joined R O → R × Option O
 both j = (j.stored, j.beside)
 
--- each with the posting of its ordinal
+-- the rows with these requests, each with the posting of its ordinal
 abbrev pub with_requests : AuditRows → List (Joined StoredRequest StoredPosting) → AuditRows
 with_requests rows asked = record rows { requests = map both asked }
 
--- each with the request of its ordinal
+-- the rows with these postings, each with the request of its ordinal
 abbrev pub with_history : AuditRows → List (Joined StoredPosting StoredRequest) → AuditRows
 with_history rows posted = record rows { history = map both posted }
 
@@ -50,12 +47,3 @@ abbrev pub AddsToSums : {R : Type 0} → (AuditRows → List R → AuditRows) �
     → Type 0
 AddsToSums with_rows old new given = (rows : AuditRows) → HasSums old (with_rows rows [])
     → HasSums new (with_rows rows given)
-
--- ---- what a pass leaves of a connection
-
--- A crash leaves what it could leave before. At Ok the connection sees what it saw, and at a fault too, as
--- long as the store is open.
-pub record IsPassed (old new : State) (result : Result (Unit {0}) Fault) : Type 0 where
-  pub survives : Survives old new (λ _. ⊥)
-  pub still : HasCleanDisk new → OnOk result (IsStill old new)
-  pub undone : HasCleanDisk new → IsUntouchedIfOpen old new

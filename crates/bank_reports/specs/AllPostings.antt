@@ -46,7 +46,7 @@ EndsUngathered gathered rest old new result =
 
 -- ---- statements of what was gathered
 
--- All statements were written, or a prefix of them; or those up to the posting whose running balance is out of its
+-- All statements of what was gathered were written, or a prefix of them; or those up to the posting whose running balance is out of its
 -- limits; or memory was refused, and nothing was.
 abbrev pub WritesGathered : Query → List StatedPosting → Option (List ℕ) → Option (List ℕ)
     → Result (Unit {0}) ReportFault → Type 0

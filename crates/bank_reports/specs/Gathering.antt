@@ -10,14 +10,14 @@ use Rattle.bank_reports.specs.declared.fault.ReportFault.TheVariants.{Bank}
 use Rattle.bank_reports.specs.declared.gathering.Gathered.{Gathered}
 use Rattle.bank_reports.specs.AllPostings.{IsNoAccount, IsOfAccount}
 
--- each was kept, and nothing was written
+-- the postings given were kept, and nothing was written
 pub record HasGathered (first : Gathered) (old : Option (List ℕ)) (given : List StatedPosting) (now : Gathered)
     (new : Option (List ℕ)) : Type 0 where
   pub rows : now.rows.items ≡ given
   pub numbers : All IsOfAccount given
   pub silent : new ≡ old
 
--- the next isn't of an account, or memory was refused; and nothing was written
+-- the next posting isn't of an account, or memory was refused; and nothing was written
 pub record RefusesRow (first : Gathered) (old : Option (List ℕ)) (given : List StatedPosting) (row : StatedPosting)
     (fault : ReportFault) (new : Option (List ℕ)) : Type 0 where
   pub why : ((fault ≡ Bank (Damaged Value)) × IsNoAccount row.posting.account) ⊎ (fault ≡ Bank Memory)

@@ -16,12 +16,6 @@ use Rattle.bank_reports.specs.declared.fault.ReportFault.{ReportFault}
 use Rattle.bank_reports.specs.declared.fault.ReportFault.TheVariants.{Write, Bank}
 use Rattle.bank_reports.specs.Postings.{delta_of, form_lines, sum_of}
 
--- all of a text was written, or a prefix of it
-abbrev pub WritesAbove : List ℕ → Option (List ℕ) → Option (List ℕ) → Result (Unit {0}) ReportFault → Type 0
-WritesAbove text old new (Ok done) = Appends old new text
-WritesAbove text old new (Err Write) = AppendsPart old new text
-WritesAbove text old new (Err other) = ⊥
-
 -- of these postings, the text of those before one whose running balance is out of its limits was written
 pub record StopsBefore (text : List StatedPosting → List ℕ) (rows : List StatedPosting) (old new : Option (List ℕ))
     : Type 0 where
@@ -45,7 +39,7 @@ abbrev pub WritesLines : Form → List StatedPosting → Option (List ℕ) → O
     → Result (Unit {0}) ReportFault → Type 0
 WritesLines form rows = WritesUpTo (text_of (form_lines form rows)) (λ given. text_of (form_lines form given)) rows
 
--- the statement of an account that has these postings
+-- the statement of an account that has these postings was written, or a prefix of it; or that up to such a posting
 abbrev pub WritesAccount : Query → ℕ → List StatedPosting → Option (List ℕ) → Option (List ℕ)
     → Result (Unit {0}) ReportFault → Type 0
 WritesAccount query account rows =
@@ -62,7 +56,7 @@ WritesListed query account rows old new result =
 abbrev pub parts_text : Query → List StatedPosting → List ℕ → List ℕ
 parts_text query rows accounts = flat_map (λ a. account_text query a (postings_of a rows)) accounts
 
--- those of all accounts, or a prefix of them; or those up to a posting whose running balance is out of its limits
+-- the statements of all accounts were written, or a prefix of them; or those up to a posting whose running balance is out of its limits
 abbrev pub WritesParts : Query → List StatedPosting → Option (List ℕ) → Option (List ℕ)
     → Result (Unit {0}) ReportFault → Type 0
 WritesParts query rows old new (Ok done) =

@@ -137,15 +137,15 @@ abbrev pub WritesSelected : ℕ → ℤ → Query → List Pair → Option (List
 WritesSelected account balance query all old new result =
     WritesLaid account balance query.selection query.layout query.selection.range all old new result
 
--- so the account's rows of history are written, of these, each with its reference, and then the balance that
--- its own row has; or what is asked for of them is
+-- Of these rows of history the account's are written, each with its reference, and then the balance that its own row
+-- has; or what is asked for of them is.
 abbrev pub StatesRows : Database → ℕ → Query → List Pair → Option (List ℕ) → Option (List ℕ)
     → Result (Unit {0}) ReportFault → Type 0
 StatesRows db account query rows old new result =
     (balance : ℤ) × IsStoredBalance db account (Some balance)
     × WritesSelected account balance query (filter (is_stated_of (Some account)) rows) old new result
 
--- all was written, or the writer failed
+-- a report wrote all, or the writer failed
 abbrev pub HasWritten : Result (Unit {0}) ReportFault → Type 0
 HasWritten (Ok done) = ⊤
 HasWritten (Err Write) = ⊤

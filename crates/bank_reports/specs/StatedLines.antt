@@ -17,7 +17,7 @@ stated_of ordinal e = record {
   reference = e.request.reference;
 }
 
--- it was posted to this account
+-- a decided request was posted to this account
 abbrev pub is_posted_to : ℕ → DecidedRequest → Bool
 is_posted_to a e = is_posted e && (e.request.account == a)
 
@@ -33,7 +33,7 @@ postings_that test (e ∷ es) =
 abbrev pub postings_to : ℕ → List DecidedRequest → List StatedPosting
 postings_to a es = postings_that (is_posted_to a) es
 
--- all postings
+-- the postings to all accounts
 abbrev pub all_postings : List DecidedRequest → List StatedPosting
 all_postings es = postings_that is_posted es
 

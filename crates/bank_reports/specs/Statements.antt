@@ -50,7 +50,7 @@ pub record StatesSelected (old new : Seen) (account : ℕ) (query : Query) (w w'
       → ShowsLog old log → ⊥
   pub takes : TakesNone old new (HasAnswered end)
 
--- all of it was
+-- the whole statement of an account of a bank was written
 abbrev pub States : Seen → Seen → ℕ → Option (List ℕ) → Option (List ℕ) → Result (Unit {0}) ReportFault → Type 0
 States old new account w w' end = StatesSelected old new account whole_query w w' end
 
@@ -74,7 +74,7 @@ pub record StatesFileSelected {S : Type 0} (g : Ghosts S) (old new : Bank S g) (
       → HasPairs (database_of g old) history_table reference_table rows
       → HasFailedToRead g (connection_of old) (connection_of new)
 
--- all of it was
+-- the whole statement of an account of a file was written
 abbrev pub StatesFile : {S : Type 0} (g : Ghosts S) (old new : Bank S g) → ℕ → Option (List ℕ) → Option (List ℕ)
     → Result (Unit {0}) ReportFault → Type 0
 StatesFile g old new account w w' end = StatesFileSelected g old new account whole_query w w' end

@@ -14,7 +14,7 @@ use Rattle.bank_reports.specs.Postings.{WhyRead, WritesLine, form_lines, sum_of}
 
 -- ---- sums
 
--- each was added, and nothing was written
+-- the postings given were added, and nothing was written
 pub record HasAdded (first : RangeSums) (old : Option (List ℕ)) (given : List StatedPosting) (now : RangeSums)
     (new : Option (List ℕ)) : Type 0 where
   pub summed : HasSummed first.range now given
@@ -26,7 +26,7 @@ never_refused first old given row fault new = ⊥
 
 -- ---- lines
 
--- the line of each was written, and this is the balance after them
+-- the lines of the postings given were written, and this is the balance after them
 pub record HasLined (first : Lines) (old : Option (List ℕ)) (given : List StatedPosting) (now : Lines)
     (new : Option (List ℕ)) : Type 0 where
   pub form : now.form ≡ first.form
@@ -42,14 +42,14 @@ pub record RefusesLine (first : Lines) (old : Option (List ℕ)) (given : List S
 
 -- ---- any visitor, by what it has and what it refused
 
--- all that are left weren't read, and this is why
+-- the rest of the rows weren't read, and this is why
 pub record EndsReading {V : Type 0} (Visited : Option (List ℕ) → List StatedPosting → V → Option (List ℕ) → Type 0)
     (old new : Option (List ℕ)) (now : V) (given : List StatedPosting) (rest : List Pair)
     (result : Result (Unit {0}) ReportFault) : Type 0 where
   pub visited : Visited old given now new
   pub why : WhyRead given rest result
 
--- the first that is left was refused
+-- the first of the rest was refused by the visitor
 pub record EndsRefused
     (Refused : Option (List ℕ) → List StatedPosting → StatedPosting → ReportFault → Option (List ℕ) → Type 0)
     (old new : Option (List ℕ)) (given : List StatedPosting) (rest : List Pair)

@@ -1,14 +1,11 @@
 //! Rows of a walk that are added up.
-ghost use Rattle.std.specs.Prelude.{◌≡◌, ◌≢◌, [], List, Err, IfErr, IfOk, map};
+ghost use Rattle.std.specs.Prelude.{◌≡◌, [], List, IfOk, map};
 ghost use Rattle.sqlite.specs.State.{HasCleanDisk};
-ghost use Rattle.posting_rules.specs.declared.fault.Fault.TheVariants.{Down, Memory};
 ghost use Rattle.report_contents.specs.Beside.{AuditRows};
 ghost use Rattle.walked_rows.specs.Rows.{LEAST};
-ghost use Rattle.bank_store.specs.believed.Seen.{connection_of};
-ghost use Rattle.bank_store.specs.Seen.{fault_of};
 ghost use Rattle.bank_store.specs.Walking.{ComesFrom, HasToldFault, items_to_come, lent, lent_state, loan_of};
-ghost use Rattle.bank_reports.specs.Adding.{AddsToSums, HasSums, IsPassed};
-ghost use Rattle.bank_store.specs.Failures.{HasFailedToRead, SaysOf};
+ghost use Rattle.bank_reports.specs.Adding.{AddsToSums, HasSums};
+ghost use Rattle.bank_reports.specs.Leaving.{ReadsRows, as_report};
 ghost use Rattle.walked_rows.specs.Broken.{HasBroken};
 
 use crate::sums::{Summed, Sums};
@@ -30,15 +27,9 @@ pub(crate) fn add_rows<S: Alter, R: Summed>(
         → R.WalkedRow.HasItems (lent_state S.Store walk.old).now all
         → map R.WalkedRow.item given
         ≡ items_to_come R.WalkedRow.key R.WalkedRow.item R.WalkedRow.is_given all walk.old)) }
-    ensures answers { HasCleanDisk (lent_state S.Store walk.new) → (all : List R.WalkedRow.Item)
-        → R.WalkedRow.HasItems (lent_state S.Store walk.old).now all → let coming =
-        items_to_come R.WalkedRow.key R.WalkedRow.item R.WalkedRow.is_given all walk.old
-        in IfErr result (SaysOf (λ rule. HasBroken (R.WalkedRow.Breaks rule) coming)
-        (HasFailedToRead S.Store (connection_of (lent walk.old)) (connection_of (lent walk.new)))) }
-    ensures frugal { result ≢ Err Memory }
-    ensures tried { result ≢ Err Down }
-    ensures passed { IsPassed (lent_state S.Store walk.old) (lent_state S.Store walk.new) result }
-    ensures up { fault_of (lent walk.new) ≡ fault_of (lent walk.old) }
+    ensures reads { ReadsRows S.Store R.WalkedRow.HasItems (λ all rule. HasBroken (R.WalkedRow.Breaks rule)
+        (items_to_come R.WalkedRow.key R.WalkedRow.item R.WalkedRow.is_given all walk.old)) ⊥ (lent walk.old)
+        (lent walk.new) (as_report result) }
 {
     'rows: for _ in 0..u64::MAX {
         let Some(row) = walk.next()? else {

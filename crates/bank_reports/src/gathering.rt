@@ -13,7 +13,7 @@ use posting_rules::{Fault, Rule};
 use std::alloc::Global;
 use walked_rows::StatedPosting;
 
-/// The postings that were visited.
+/// The postings that were visited so far.
 #[derive(Drop)]
 pub(crate) struct Gathered {
     rows: Vec<StatedPosting>,
@@ -31,7 +31,7 @@ fn is_of_account(row: &StatedPosting) -> bool
 }
 
 impl Gathered {
-    /// None.
+    /// No posting is gathered yet.
     pub(crate) fn none(alloc: Global) -> Gathered
         ensures { result.rows.items ≡ [] }
     {
@@ -40,7 +40,7 @@ impl Gathered {
         }
     }
 
-    /// All of them by their accounts, those of each in the order in which they were visited.
+    /// The gathered postings by their accounts, those of each in the order in which they were visited.
     pub(crate) fn by_account(self) -> Result<Vec<StatedPosting>, Fault>
         requires { All IsOfAccount self.rows.items }
         ensures sorted { IfOk result (λ rows. IsByAccount self.rows.items rows.items) }
@@ -52,7 +52,7 @@ impl Gathered {
     }
 }
 
-/// It keeps each, and writes nothing.
+/// Each posting is kept, and nothing is written.
 impl Visitor for Gathered {
     ghost use Rattle.std.specs.Prelude.{⊤};
     ghost use Rattle.bank_reports.specs.Gathering.{HasGathered, RefusesRow};

@@ -3,7 +3,8 @@
 //! [`audit`] reads every row of the bank once and returns the numbers that TPC-B clause 2 compares.
 //! [`write_statement`] writes the postings of an account by their ordinals, each with the balance after it
 //! and the reference of its request; [`write_selected`] those of a range of time or of a reference, in columns or as
-//! CSV; [`write_statements`] those of each account that has one, by rising accounts. All take the rows as the file has them, damaged or not, and change none. The function `first_reports` of
+//! CSV; [`write_statements`] those of each account that has one, by rising accounts. All take the rows as the file has
+//! them, damaged or not, and change none. The function `first_reports` of
 //! `store_tests`, which a test runs, writes the statement of account 1 and the audit, and returns whether
 //! the books agree:
 //!

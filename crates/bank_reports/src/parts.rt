@@ -1,21 +1,21 @@
 //! The statements of accounts whose postings are gathered, one after another.
-ghost use Rattle.std.specs.Prelude.{◌≡◌, ◌++◌, All, Err, OnOk};
+ghost use Rattle.std.specs.Prelude.{◌≡◌, All, Err, OnErr, OnOk};
 ghost use Rattle.std.specs.List.Sorted.{IsNonDecreasingBy};
 ghost use Rattle.posting_core.specs.believed.EndCalls.{EndsWith};
 ghost use Rattle.posting_core.specs.EndCalls.{HasMore, HasWriteFailed, IsFlush};
 ghost use Rattle.report_contents.specs.AllStatements.{above_in};
-ghost use Rattle.report_contents.specs.StatementText.{heading_of, names_of};
 ghost use Rattle.bank_reports.specs.declared.fault.ReportFault.TheVariants.{Write};
 ghost use Rattle.bank_reports.specs.AllPostings.{IsOfAccount, WritesGathered};
 ghost use Rattle.bank_reports.specs.Gathering.{account_of};
-ghost use Rattle.bank_reports.specs.Parts.{WritesAbove, WritesAccount, WritesLines, WritesListed, WritesParts};
+ghost use Rattle.bank_reports.specs.Parts.{WritesAccount, WritesLines, WritesListed, WritesParts};
+ghost use Rattle.bank_reports.specs.Postings.{WritesText};
 
 use crate::fault::ReportFault;
 use crate::gathering::Gathered;
-use crate::lines::write_line;
+use crate::lines::{write_heading, write_line};
 use message_records::{Account, Cents};
 use posting_core::Sink;
-use report_contents::{Form, Layout, Query, put, put_last};
+use report_contents::{Form, Layout, Query, WriteFault, put, put_last};
 use walked_rows::StatedPosting;
 
 // Writes the lines of postings in a form.
@@ -36,29 +36,17 @@ fn write_each<W: Sink>(
     Ok(())
 }
 
-// Writes the heading of an account, and what stands below it.
-fn write_heading<W: Sink>(form: &Form, account: Account, writer: &mut W) -> Result<(), ReportFault>
-    ensures written { WritesAbove (heading_of form.now account ++ names_of form.now) (W.contents writer.old)
-        (W.contents writer.new) result }
-    ensures more { OnOk result (HasMore (W.calls writer.old) (W.calls writer.new)) }
-    ensures failed { result ≡ Err Write → HasWriteFailed (W.calls writer.old) (W.calls writer.new) }
-{
-    put(writer, form.heading(account).as_str())?;
-    put(writer, form.names().as_str())?;
-    Ok(())
-}
-
 // Writes what stands above the lines of an account.
 fn write_above<W: Sink>(
     layout: Layout,
     form: &Form,
     account: Account,
     writer: &mut W,
-) -> Result<(), ReportFault>
-    ensures written { WritesAbove (above_in layout form.now account) (W.contents writer.old) (W.contents writer.new)
+) -> Result<(), WriteFault>
+    ensures written { WritesText (above_in layout form.now account) (W.contents writer.old) (W.contents writer.new)
         result }
     ensures more { OnOk result (HasMore (W.calls writer.old) (W.calls writer.new)) }
-    ensures failed { result ≡ Err Write → HasWriteFailed (W.calls writer.old) (W.calls writer.new) }
+    ensures failed { OnErr result (HasWriteFailed (W.calls writer.old) (W.calls writer.new)) }
 {
     match layout {
         Layout::Sheet { .. } => Ok(()),

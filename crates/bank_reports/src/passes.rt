@@ -1,13 +1,10 @@
 //! A pass over all rows of a kind.
-ghost use Rattle.std.specs.Prelude.{◌≡◌, ◌≢◌, [], List, Err, IfErr, IfOk, map};
+ghost use Rattle.std.specs.Prelude.{◌≡◌, [], List, IfOk, map};
 ghost use Rattle.sqlite.specs.State.{HasCleanDisk};
-ghost use Rattle.posting_rules.specs.declared.fault.Fault.TheVariants.{Down, Memory};
 ghost use Rattle.report_contents.specs.Beside.{AuditRows};
-ghost use Rattle.bank_store.specs.believed.Seen.{bank_seen, connection_of, database_of, file_of};
-ghost use Rattle.bank_store.specs.Seen.{fault_of};
-ghost use Rattle.bank_reports.specs.Adding.{AddsToSums, HasSums, IsPassed};
-ghost use Rattle.bank_store.specs.Failures.{HasFailedToRead, SaysOf};
-ghost use Rattle.walked_rows.specs.Broken.{HasBroken};
+ghost use Rattle.bank_store.specs.believed.Seen.{database_of, file_of};
+ghost use Rattle.bank_reports.specs.Adding.{AddsToSums, HasSums};
+ghost use Rattle.bank_reports.specs.Leaving.{ReadsTable, as_report};
 
 use crate::gathered::add_rows;
 use crate::sums::{Summed, Sums};
@@ -26,14 +23,7 @@ pub(crate) fn add_each<S: Alter, R: Summed>(
         × (HasCleanDisk (file_of bank.new) → (all : List R.WalkedRow.Item)
         → R.WalkedRow.HasItems (database_of S.Store bank.old) all
         → map R.WalkedRow.item given ≡ all)) }
-    ensures answers { HasCleanDisk (file_of bank.new) → (all : List R.WalkedRow.Item)
-        → R.WalkedRow.HasItems (database_of S.Store bank.old) all
-        → IfErr result (SaysOf (λ rule. HasBroken (R.WalkedRow.Breaks rule) all)
-        (HasFailedToRead S.Store (connection_of bank.old) (connection_of bank.new))) }
-    ensures frugal { result ≢ Err Memory }
-    ensures tried { result ≡ Err Down → (bank_seen S.Store bank.old).is_down }
-    ensures passed { IsPassed (file_of bank.old) (file_of bank.new) result }
-    ensures up { fault_of bank.new ≡ fault_of bank.old }
+    ensures reads { ReadsTable S.Store R.WalkedRow.HasItems R.WalkedRow.Breaks bank.old bank.new (as_report result) }
 {
     let mut walk = each_row::<S, R>(bank)?;
     add_rows(&mut walk, sums)

@@ -3,15 +3,14 @@ ghost use Rattle.std.specs.Prelude.{◌≡◌, [], List, Err, OnOk};
 ghost use Rattle.std.specs.Borrow.{sem, RestsIfErr};
 ghost use Rattle.sqlite.specs.State.{HasCleanDisk};
 ghost use Rattle.posting_core.specs.EndCalls.{HasMore, HasWriteFailed};
-ghost use Rattle.store_rows.specs.believed.BankTables.{history as history_table, reference as reference_table};
-ghost use Rattle.walked_rows.specs.Pairs.{HasPairs, Pair, pair_key};
+ghost use Rattle.walked_rows.specs.Pairs.{Pair, pair_key};
 ghost use Rattle.walked_rows.specs.Stored.{is_stated_of, stated_pair};
 ghost use Rattle.bank_store.specs.believed.Seen.{database_of, file_of};
 ghost use Rattle.bank_store.specs.Walking.{BeginsWalk, HasToldFault, given_of, lent, lent_state, loan_of};
 ghost use Rattle.bank_store.specs.Walking.{postings_to_come};
 ghost use Rattle.bank_store.specs.contracts.bank.Bank.{the_row};
 ghost use Rattle.bank_reports.specs.declared.fault.ReportFault.TheVariants.{Write};
-ghost use Rattle.bank_reports.specs.Leaving.{ReadsRows};
+ghost use Rattle.bank_reports.specs.Leaving.{HasStated, ReadsPostings};
 ghost use Rattle.bank_reports.specs.Visitors.{EndsVisits, VisitsPostings};
 
 use crate::fault::ReportFault;
@@ -33,12 +32,12 @@ fn visit_rows<S: Alter, V: Visitor, W: Sink>(
     requires none { V.Visited visitor.old (W.contents writer.old) [] visitor.old (W.contents writer.old) }
     ensures same_reference { loan_of walk.new ≡ loan_of walk.old }
     ensures answers { HasCleanDisk (lent_state S.Store walk.new) → (rows : List Pair)
-        → HasPairs (lent_state S.Store walk.old).now history_table reference_table rows
+        → HasStated (lent_state S.Store walk.old).now rows
         → VisitsPostings V.Visited V.Refused visitor.old visitor.new (postings_to_come rows walk.old) (W.contents writer.old)
         (W.contents writer.new) result }
     ensures ends { EndsVisits (V.Visited visitor.old) (V.Refused visitor.old) (W.contents writer.old) visitor.new
         (W.contents writer.new) result }
-    ensures reads { ReadsRows S.Store V.TakesMemory (lent walk.old) (lent walk.new) result }
+    ensures reads { ReadsPostings S.Store V.TakesMemory (lent walk.old) (lent walk.new) result }
     ensures more { OnOk result (HasMore (W.calls writer.old) (W.calls writer.new)) }
     ensures failed { result ≡ Err Write → HasWriteFailed (W.calls writer.old) (W.calls writer.new) }
 {
@@ -59,7 +58,7 @@ fn begin<S: Alter>(
     ensures* refused { sem 𝓛 (RestsIfErr (the_row S.row S.Store) bank.entry loan_of result
         (λ last. last ≡ bank.old)) }
     ensures begins { BeginsWalk S.Store pair_key stated_pair is_stated_of
-        (λ db pairs. HasPairs db history_table reference_table pairs) of bank.entry.ghost_name bank.old result }
+        HasStated of bank.entry.ghost_name bank.old result }
 {
     match of {
         None => each_row(bank),
@@ -76,12 +75,12 @@ pub(crate) fn visit_postings<S: Alter, V: Visitor, W: Sink>(
 ) -> Result<(), ReportFault>
     requires none { V.Visited visitor.old (W.contents writer.old) [] visitor.old (W.contents writer.old) }
     ensures answers { HasCleanDisk (file_of bank.new) → (rows : List Pair)
-        → HasPairs (database_of S.Store bank.old) history_table reference_table rows
+        → HasStated (database_of S.Store bank.old) rows
         → VisitsPostings V.Visited V.Refused visitor.old visitor.new (given_of is_stated_of of rows)
         (W.contents writer.old) (W.contents writer.new) result }
     ensures ends { EndsVisits (V.Visited visitor.old) (V.Refused visitor.old) (W.contents writer.old) visitor.new
         (W.contents writer.new) result }
-    ensures reads { ReadsRows S.Store V.TakesMemory bank.old bank.new result }
+    ensures reads { ReadsPostings S.Store V.TakesMemory bank.old bank.new result }
     ensures more { OnOk result (HasMore (W.calls writer.old) (W.calls writer.new)) }
     ensures failed { result ≡ Err Write → HasWriteFailed (W.calls writer.old) (W.calls writer.new) }
 {

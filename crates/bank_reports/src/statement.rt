@@ -4,25 +4,25 @@ ghost use Rattle.sqlite.specs.State.{HasCleanDisk};
 ghost use Rattle.posting_rules.specs.declared.fault.Fault.TheVariants.{Down, Memory};
 ghost use Rattle.posting_core.specs.believed.EndCalls.{EndsWith};
 ghost use Rattle.posting_core.specs.EndCalls.{HasWriteFailed, IsFlush};
-ghost use Rattle.store_rows.specs.believed.BankTables.{history as history_table, reference as reference_table};
-ghost use Rattle.walked_rows.specs.Pairs.{HasPairs, Pair};
+ghost use Rattle.walked_rows.specs.Pairs.{Pair};
 ghost use Rattle.walked_rows.specs.Stored.{is_stated_of};
 ghost use Rattle.bank_store.specs.believed.Seen.{bank_seen, database_of, file_of};
 ghost use Rattle.bank_reports.specs.declared.fault.ReportFault.TheVariants.{Bank as OfBank, NoAccount, Write};
-ghost use Rattle.bank_reports.specs.Leaving.{ReadsRows, TellsDown};
+ghost use Rattle.bank_reports.specs.Leaving.{HasStated, ReadsPostings, TellsDown};
 ghost use Rattle.bank_store.specs.Leaving.{CommitsAsFound};
 ghost use Rattle.bank_reports.specs.Postings.{WritesSelected, WritesPart, WritesStatement};
 ghost use Rattle.bank_reports.specs.Statements.{LeavesWriter, RefusesBalance, States, StatesSelected, StatesFile};
 ghost use Rattle.bank_reports.specs.Statements.{StatesFileSelected};
 
 use crate::fault::ReportFault;
+use crate::lines::write_heading;
 use crate::postings::visit_postings;
 use crate::visitors::Lines;
 use bank_store::Bank;
 use message_records::{Account, Cents};
 use posting_core::Sink;
 use posting_rules::{Counter, Fault};
-use report_contents::{Form, Layout, Query, Range, RangeSums, Selection, Style, put, put_last};
+use report_contents::{Form, Layout, Query, Range, RangeSums, Selection, Style, put_last};
 use sqlite::Alter;
 
 // Writes the statement of an account in a form.
@@ -33,15 +33,14 @@ fn write_lines<S: Alter, W: Sink>(
     writer: &mut W,
 ) -> Result<(), ReportFault>
     ensures answers { HasCleanDisk (file_of bank.new) → (rows : List Pair)
-        → HasPairs (database_of S.Store bank.old) history_table reference_table rows
+        → HasStated (database_of S.Store bank.old) rows
         → WritesStatement account form.now (filter (is_stated_of (Some account)) rows) (W.contents writer.old)
         (W.contents writer.new) result }
-    ensures reads { ReadsRows S.Store ⊥ bank.old bank.new result }
+    ensures reads { ReadsPostings S.Store ⊥ bank.old bank.new result }
     ensures flushed { OnOk result (EndsWith IsFlush (W.calls writer.old) (W.calls writer.new)) }
     ensures failed { result ≡ Err Write → HasWriteFailed (W.calls writer.old) (W.calls writer.new) }
 {
-    put(writer, form.heading(account).as_str())?;
-    put(writer, form.names().as_str())?;
+    write_heading(form, account, writer)?;
     let mut lines = Lines::none(form);
     visit_postings(bank, Some(account), &mut lines, writer)?;
     put_last(writer, form.closing().as_str())?;
@@ -57,10 +56,10 @@ fn write_part<S: Alter, W: Sink>(
     writer: &mut W,
 ) -> Result<(), ReportFault>
     ensures answers { HasCleanDisk (file_of bank.new) → (rows : List Pair)
-        → HasPairs (database_of S.Store bank.old) history_table reference_table rows
+        → HasStated (database_of S.Store bank.old) rows
         → WritesPart account selection range (filter (is_stated_of (Some account)) rows) (W.contents writer.old)
         (W.contents writer.new) result }
-    ensures reads { ReadsRows S.Store ⊥ bank.old bank.new result }
+    ensures reads { ReadsPostings S.Store ⊥ bank.old bank.new result }
     ensures flushed { OnOk result (EndsWith IsFlush (W.calls writer.old) (W.calls writer.new)) }
     ensures failed { result ≡ Err Write → HasWriteFailed (W.calls writer.old) (W.calls writer.new) }
 {
@@ -79,10 +78,10 @@ fn write_open<S: Alter, W: Sink>(
     writer: &mut W,
 ) -> Result<(), ReportFault>
     ensures answers { HasCleanDisk (file_of bank.new) → (rows : List Pair)
-        → HasPairs (database_of S.Store bank.old) history_table reference_table rows
+        → HasStated (database_of S.Store bank.old) rows
         → WritesSelected account balance query (filter (is_stated_of (Some account)) rows) (W.contents writer.old)
         (W.contents writer.new) result }
-    ensures reads { ReadsRows S.Store ⊥ bank.old bank.new result }
+    ensures reads { ReadsPostings S.Store ⊥ bank.old bank.new result }
     ensures flushed { OnOk result (EndsWith IsFlush (W.calls writer.old) (W.calls writer.new)) }
     ensures failed { result ≡ Err Write → HasWriteFailed (W.calls writer.old) (W.calls writer.new) }
 {

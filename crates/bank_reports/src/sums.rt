@@ -48,27 +48,27 @@ impl Sums {
 
 /// A row that an audit adds up.
 pub(crate) trait Summed: WalkedRow {
-    /// These rows of its kind, beside the others.
+    /// The rows of an audit, with these as the rows of this kind.
     ghost with_rows: { AuditRows → List Self → AuditRows };
 
-    /// How many rows of its kind there can be.
+    /// How many rows of this kind there can be.
     ghost most: { ℕ };
 
-    /// Its key.
+    /// The key of the row.
     fn number(&self) -> u64
         ensures key { Self.key (Self.item self.now) ≡ pos result }
         ensures least { 1 ≤ result }
         ensures most { result ≤ most }
         ensures within { result ≤ MAX_ROWS };
 
-    /// Adds it to the sums.
+    /// Adds the row to the sums.
     fn add_to(self, sums: &mut Sums)
         requires { (rows : AuditRows) × (given : List Self) × HasSums sums.old (with_rows rows given)
             × (length given < most) }
         ensures { (rows : AuditRows) (given : List Self) → HasSums sums.old (with_rows rows given)
             → HasSums sums.new (with_rows rows (given ++ self ∷ [])) };
 
-    /// There is room for a walk over rows of its kind.
+    /// There is room for a walk over rows of this kind.
     ghost few_bytes: { TakesFewBytes Self.row };
 }
 

@@ -16,17 +16,17 @@ use walked_rows::StatedPosting;
 
 /// What is done with the postings of an account, one after another. It may write of each.
 pub(crate) trait Visitor {
-    /// From a first state on, and from such known bytes of the writer, it visited these postings; now both are so.
+    /// From a first state on, and from such known bytes of the writer, these postings were visited; now both are so.
     ghost Visited: { Self → Option (List ℕ) → List StatedPosting → Self → Option (List ℕ) → Type 0 };
 
-    /// After such visits it refused the next posting, for this fault; now the writer's known bytes are so.
+    /// After such visits the next posting was refused, for this fault; now the writer's known bytes are so.
     ghost Refused: { Self → Option (List ℕ) → List StatedPosting → StatedPosting → ReportFault
         → Option (List ℕ) → Type 0 };
 
-    /// Whether it takes memory.
+    /// Whether a visit takes memory.
     ghost TakesMemory: { Type 0 } = { ⊥ };
 
-    /// Visits one more.
+    /// Visits one more posting.
     fn visit<W: Sink>(&mut self, row: &StatedPosting, writer: &mut W) -> Result<(), ReportFault>
         requires { (first : Self) × (bytes : Option (List ℕ)) × (given : List StatedPosting)
             × Visited first bytes given self.old (W.contents writer.old) × (length given < 2 ^ 64 - 1) }
@@ -39,7 +39,7 @@ pub(crate) trait Visitor {
         ensures failed { result ≡ Err Write → HasWriteFailed (W.calls writer.old) (W.calls writer.new) };
 }
 
-/// It adds each to the sums of its range, and writes nothing.
+/// Each posting is added to the sums of a range, and nothing is written.
 impl Visitor for RangeSums {
     ghost use Rattle.bank_reports.specs.Visitors.{HasAdded, never_refused};
 
@@ -57,12 +57,12 @@ impl Visitor for RangeSums {
 #[derive(Drop)]
 pub(crate) struct Lines {
     form: Form,
-    /// The balance after them.
+    /// The balance after the lines so far.
     pub(crate) balance: Cents,
 }
 
 impl Lines {
-    /// No line. An account opens at zero.
+    /// No line is written yet. An account opens at zero.
     pub(crate) fn none(form: &Form) -> Lines
         ensures form { result.form ≡ form.now }
         ensures balance { result.balance ≡ pos 0 }
@@ -74,7 +74,7 @@ impl Lines {
     }
 }
 
-/// It writes the line of each.
+/// The line of each posting is written.
 impl Visitor for Lines {
     ghost use Rattle.bank_reports.specs.Visitors.{HasLined, RefusesLine};
 

@@ -1,18 +1,21 @@
 -- The audit of a file, and of one that shows a log.
-use Rattle.std.proofs.Common.{◌≡◌, Result, Ok, Err, refl, sym, ap, subst, ◌∙◌}
-use Rattle.std.specs.Prelude.{◌↔◌, IsSome, IsTrue}
+use Rattle.std.proofs.Common.{◌≡◌, Err, refl, sym, ap, subst, ◌∙◌}
+use Rattle.std.specs.Prelude.{◌↔◌, IsTrue}
 use Rattle.sqlite.specs.{State.HasCleanDisk, Held.state}
 use Rattle.posting_rules.specs.{believed.Laws.IsConsistent, declared.fault.Fault.Fault}
-use Rattle.posting_rules.specs.declared.fault.Fault.TheVariants.{Damaged, Down, Memory, Store}
-use Rattle.posting_rules.specs.declared.fault.Rule.{Rule as Broken}
+use Rattle.posting_rules.specs.declared.fault.Fault.TheVariants.{Down, Memory}
 use Rattle.posting_rules.proofs.Undamaged.{undamaged}
 use Rattle.report_contents.specs.{Audit.audit_of, Audit.is_sound, Beside.rows_of, Consistency.IsSoundFile}
 use Rattle.report_contents.specs.Stored.{StoredTables, stored}
 use Rattle.report_contents.proofs.{OfRows.rows_tell, Telling.tells}
-use Rattle.bank_store.specs.believed.Seen.{bank_seen, database_of}
-use Rattle.bank_reports.specs.Files.{HasFile, rows_in}
-use Rattle.bank_reports.proofs.FaultsTold.{down_is_sound, memory_is_sound, unaudited}
-use Rattle.bank_reports.proofs.{Further.error_is, OncePosted.posted_once, Read.one_file, ReportEnds.not_ok, ReportEnds.tested_up}
+use Rattle.bank_store.specs.believed.Seen.{bank_seen, database_of, file_of}
+use Rattle.bank_reports.specs.declared.fault.ReportFault.TheVariants.{Bank}
+use Rattle.bank_reports.specs.{Files.HasFile, Files.rows_in, Leaving.as_report}
+use Rattle.bank_reports.proofs.BankReads.{was_down}
+use Rattle.bank_reports.proofs.FaultsTold.{down_is_no_store, down_is_sound, down_not_damaged, memory_is_no_store}
+use Rattle.bank_reports.proofs.FaultsTold.{memory_is_sound, memory_not_damaged, unaudited, unaudited_file}
+use Rattle.bank_reports.proofs.{Further.error_is, OncePosted.posted_once, Read.one_file, ReportEnds.not_ok}
+use Rattle.bank_reports.proofs.ReportEnds.{tested_up, was_down_tells, was_up_tells}
 use Rattle.bank_reports.proofs.{audits.audit.Given.Over}
 use Rattle.bank_reports.proofs.LogFiles.{balanced, has_file, has_ordinals, not_damaged, tells_in_file}
 use Rattle.bank_store.proofs.AsFound.{idle_as_found, untouched_as_found}
@@ -20,33 +23,19 @@ use Rattle.bank_store.proofs.ReadsLeave.{idle_takes, reads_take_none}
 use Rattle.bank_reports.proofs.Refused.{err_is}
 use Rattle.bank_reports.proofs.audits.audit.Goals as goal
 
--- what is told with one fault is told with no other
-down_only : {A : Type 0} (r : Result A Fault) → r ≡ Err Down
-    → (r ≡ Err Memory → ⊥) × (r ≡ Err Store → ⊥) × ((broken : Broken) → r ≡ Err (Damaged broken) → ⊥)
-down_only r is = (λ other. cc, λ other. cc, λ broken other. cc)
-
-memory_only : {A : Type 0} (r : Result A Fault) → r ≡ Err Memory
-    → (r ≡ Err Down → ⊥) × (r ≡ Err Store → ⊥) × ((broken : Broken) → r ≡ Err (Damaged broken) → ⊥)
-memory_only r is = (λ other. cc, λ other. cc, λ broken other. cc)
+-- an error that a report has
+as_told : {e f : Fault} → e ≡ f → as_report (Err e) ≡ Err (Bank f)
+as_told same = ap (λ (fault : Fault). as_report (Err fault)) same
 
 pub returns-then-is_down : goal.returns-then-is_down
 returns-then-is_down g c =
     let seen = bank_seen g.S.Store c.args.bank.now in
-    let only = down_only _ refl in
     record {
       bank = unaudited seen seen _ Down refl (down_is_sound seen seen) (idle_takes seen _);
-      file = λ clean. record {
-        numbers = λ f has. tt;
-        consistent = λ t has. tt;
-        damaged = λ broken is. absurd (only.2 broken is);
-        store = λ is. absurd (only.1 is);
-      };
+      file = λ clean. unaudited_file Down refl (λ rule is. absurd (down_not_damaged Down rule refl is))
+          (λ is. absurd (down_is_no_store Down refl is));
       memory = λ is. refl;
-      down = record {
-        down = λ down. refl;
-        tried = λ is. sym c.is_down.ensures ∙ c.if-is_down.true;
-        idle = λ is. refl;
-      };
+      down = was_down_tells (sym c.is_down.ensures ∙ c.if-is_down.true) refl refl;
       up = refl;
       leaves = idle_as_found g.S.Store c.args.bank.now;
     }
@@ -57,64 +46,41 @@ pub returns-in_err-sums : goal.returns-in_err-sums
 returns-in_err-sums g c =
     let seen = bank_seen g.S.Store c.args.bank.now in
     let same : c.from_residual.result ≡ Err Memory = err_is _ c.from_residual.ensures.1 in
-    let only = memory_only _ same in
     record {
       bank = unaudited seen seen _ Memory same (memory_is_sound seen seen) (idle_takes seen _);
-      file = λ clean. record {
-        numbers = λ f has. rw same tt;
-        consistent = λ t has. rw same tt;
-        damaged = λ broken is. absurd (only.2 broken is);
-        store = λ is. absurd (only.1 is);
-      };
+      file = λ clean. unaudited_file Memory same (λ rule is. absurd (memory_not_damaged Memory rule refl is))
+          (λ is. absurd (memory_is_no_store Memory refl is));
       memory = λ is. refl;
-      down = record {
-        down = λ down. absurd (tested_up _ _ c.is_down.ensures c.if-is_down.false down);
-        tried = λ is. absurd (only.0 is);
-        idle = λ is. absurd (only.0 is);
-      };
+      down = was_up_tells (tested_up _ _ c.is_down.ensures c.if-is_down.false)
+          (λ is. absurd (let e = error_is Memory Down (sym same ∙ is) in cc));
       up = refl;
       leaves = idle_as_found g.S.Store c.args.bank.now;
     }
 
 -- ---- where a pass ended it
 
-refusal : (g : Over) (c : goal.After-drop-sums-in_err-add_all g)
-    → c.from_residual-in_err-add_all.result ≡ Err c.in_err-add_all.field-0.0
-refusal g c = err_is _ c.from_residual-in_err-add_all.ensures.1
-
 pub returns-in_err-add_all : goal.returns-in_err-add_all
 returns-in_err-add_all g c =
-    let old = state g.S.Store c.args.bank.now.conn in
-    let new = state g.S.Store c.add_all.new.bank.conn in
+    let old = bank_seen g.S.Store c.args.bank.now in
+    let new = bank_seen g.S.Store c.add_all.new.bank in
     let fault = c.in_err-add_all.field-0.0 in
-    let says = c.in_err-add_all.ensures in
-    let same = refusal g c in
-    let up = subst (λ cause. IsSome cause) says.up in
+    let reads = c.in_err-add_all.ensures.reads in
+    let same : c.from_residual-in_err-add_all.result ≡ Err fault = err_is _ c.from_residual-in_err-add_all.ensures.1 in
     record {
-      bank = unaudited (bank_seen g.S.Store c.args.bank.now) (bank_seen g.S.Store c.add_all.new.bank) _ fault
-          same
+      bank = unaudited old new _ fault same
           (λ broken is clean log s.
           let has = has_file (database_of g.S.Store c.args.bank.now) s.tables s.are in
           not_damaged s.tables log s.commands s.shows broken
-          (rw is at (says.answers clean (rows_in (stored s.tables)) has)))
-          (reads_take_none old new _ _ _ (λ yes. absurd (rw same at yes)) says.passed.survives up);
-      file = λ clean. record {
-        numbers = λ f has. rw same tt;
-        consistent = λ t has. rw same tt;
-        damaged = λ broken is f has.
-            rw (error_is fault (Damaged broken) (sym same ∙ is)) at (says.answers clean f has);
-        store = λ is f has. rw (error_is fault Store (sym same ∙ is)) at (says.answers clean f has);
-      };
-      memory = λ is. absurd (says.frugal (ap Err (error_is _ _ (sym same ∙ is))));
-      down = record {
-        down = λ down. absurd (tested_up _ _ c.is_down.ensures c.if-is_down.false down);
-        tried = λ is. says.tried (ap Err (error_is _ _ (sym same ∙ is)));
-        idle = λ is.
-            absurd (tested_up _ _ c.is_down.ensures c.if-is_down.false
-            (says.tried (ap Err (error_is _ _ (sym same ∙ is)))));
-      };
-      up = says.up;
-      leaves = untouched_as_found g.S.Store c.args.bank.now c.add_all.new.bank says.passed.undone says.passed.survives;
+          (reads.damage broken (as_told is) clean (rows_in (stored s.tables)) has))
+          (reads_take_none (file_of c.args.bank.now) (file_of c.add_all.new.bank) _ _ _ (λ yes. absurd (rw same at yes))
+          reads.survives (was_down reads));
+      file = λ clean. unaudited_file fault same (λ broken is. reads.damage broken (as_told is) clean)
+          (λ is. reads.store (as_told is) clean);
+      memory = λ is. absurd (reads.frugal (as_told (error_is _ _ (sym same ∙ is))));
+      down = was_up_tells (tested_up _ _ c.is_down.ensures c.if-is_down.false)
+          (λ is. reads.tried (as_told (error_is _ _ (sym same ∙ is))));
+      up = reads.up;
+      leaves = untouched_as_found g.S.Store c.args.bank.now c.add_all.new.bank reads.undone reads.survives;
     }
 
 -- ---- where all was added up
@@ -133,8 +99,6 @@ returns g c =
     let new = state g.S.Store c.add_all.new.bank.conn in
     let db = database_of g.S.Store c.args.bank.now in
     let says = c.in_ok-add_all.ensures in
-    let all : c.add_all.result ≡ Ok tt = c.in_ok-add_all.was in
-    let up = subst (λ cause. IsSome cause) says.up in
     record {
       bank = record {
         tables = λ clean t shown. audited g c clean (stored t) (has_file db t shown);
@@ -147,8 +111,8 @@ returns g c =
             ap is_sound (audited g c clean (stored s.tables) (has_file db s.tables s.are))
             ∙ balanced s.tables log s.shows;
         sound = λ broken is clean log s. not_ok _ _ _ refl is;
-        takes = reads_take_none old new _ _ _ (λ yes. rw all at c.add_all.ensures.passed.still)
-            says.passed.survives up;
+        takes = reads_take_none old new _ _ _ (λ yes clean. says.reads.still clean tt) says.reads.survives
+            (was_down says.reads);
       };
       file = λ clean. record {
         numbers = λ f has.
@@ -161,11 +125,7 @@ returns g c =
         store = λ is. absurd (not_ok _ _ _ refl is);
       };
       memory = λ is. absurd (not_ok _ _ _ refl is);
-      down = record {
-        down = λ down. absurd (tested_up _ _ c.is_down.ensures c.if-is_down.false down);
-        tried = λ is. absurd (not_ok _ _ _ refl is);
-        idle = λ is. absurd (not_ok _ _ _ refl is);
-      };
-      up = says.up;
-      leaves = untouched_as_found g.S.Store c.args.bank.now c.add_all.new.bank says.passed.undone says.passed.survives;
+      down = was_up_tells (tested_up _ _ c.is_down.ensures c.if-is_down.false) (λ is. absurd (not_ok _ _ _ refl is));
+      up = says.reads.up;
+      leaves = untouched_as_found g.S.Store c.args.bank.now c.add_all.new.bank says.reads.undone says.reads.survives;
     }

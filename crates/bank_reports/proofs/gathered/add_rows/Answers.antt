@@ -1,122 +1,68 @@
 -- One more row, and what ends the walk.
 use Rattle.std.proofs.Common.{rules, ◌≡◌, ◌<◌, ℕ, [], inl, Err, refl, sym, ap, ◌∙◌, arith, subst}
-use Rattle.sqlite.specs.{State.HasCleanDisk, Held.state}
-use Rattle.bank_transactions.proofs.Blamed.{comes}
+use Rattle.sqlite.specs.{Effect.Database, State.HasCleanDisk}
 use Rattle.bank_store.specs.Walking.{ComesFrom, items_to_come}
+use Rattle.bank_store.specs.believed.Seen.{file_of}
+use Rattle.bank_store.proofs.ReadsLeave.{clean_before}
 use Rattle.walked_rows.specs.Rows.{LEAST}
-use Rattle.bank_reports.proofs.AddedRows.{all_given, along_more, failed_row, one_more_row}
-use Rattle.bank_reports.proofs.AddedRows.{passed_err, passed_ok, room_for}
-use Rattle.bank_store.proofs.StepsKeep.{still_then, quiet_then}
-use Rattle.bank_reports.proofs.{Further.error_is, ReportEnds.not_ok, gathered.add_rows.Given.Over}
+use Rattle.bank_reports.proofs.AddedRows.{all_given, along_more, damaged_row, one_more_row, room_for}
+use Rattle.bank_reports.proofs.BankReads.{has_before, reads_failed, reads_nothing, reads_still, reads_then}
 use Rattle.bank_reports.proofs.gathered.add_rows.Goals as goal
 
 pub rows-init : goal.rows-init
 rows-init g c = record {
   reference = refl;
-  survives = search rules;
-  up = refl;
   fresh = c.requires.fresh;
-  still = λ clean. (refl, refl, refl, refl);
+  reads = reads_nothing c.args.walk.now.bank.now;
   gathered = record { given = []; many = refl; are = λ clean items has. refl; added = λ rows none. none };
   along = record { next = LEAST; comes = c.requires.rises; after = inl refl; few = omega arith };
 }
 
 -- ---- a step that failed
 
-refusal : (g : Over) (c : goal.After-from_residual g) → c.from_residual.result ≡ Err c.in_err-row.field-0.0
-refusal g c = search rules
-
-pub returns-in_err-row-clause-same_reference : goal.returns-in_err-row-clause-same_reference
-returns-in_err-row-clause-same_reference g c = c.next.ensures.bank.same_reference ∙ c.rows.invariant.reference
-
-pub returns-in_err-row-clause-added : goal.returns-in_err-row-clause-added
-returns-in_err-row-clause-added g c = rw (refusal g c) tt
-
-pub returns-in_err-row-clause-frugal : goal.returns-in_err-row-clause-frugal
-returns-in_err-row-clause-frugal g c is =
-    c.in_err-row.ensures.frugal (ap Err (error_is _ _ (sym (refusal g c) ∙ is)))
-
-pub returns-in_err-row-clause-tried : goal.returns-in_err-row-clause-tried
-returns-in_err-row-clause-tried g c is =
-    c.rows.invariant.fresh
-    (c.next.ensures.stage.down.1 (rw (c.in_err-row.was, error_is _ _ (sym (refusal g c) ∙ is)) refl)).0
-
-pub returns-in_err-row-clause-up : goal.returns-in_err-row-clause-up
-returns-in_err-row-clause-up g c = c.next.ensures.bank.up ∙ c.rows.invariant.up
-
-pub returns-in_err-row-clause-answers : goal.returns-in_err-row-clause-answers
-returns-in_err-row-clause-answers g c clean all has =
-    let old = state g.S.Store c.args.walk.now.bank.now.conn in
-    let mid = state g.S.Store c.rows.walk.bank.now.conn in
-    let late : HasCleanDisk (state g.S.Store c.next.new.self.bank.now.conn) = clean in
-    let before : HasCleanDisk mid = omega (arith, c.next.ensures.bank.survives.clean, late) in
-    let same = refusal g c in
-    let there = subst (λ db. g.R.WalkedRow.HasItems db all) (sym (c.rows.invariant.still before).0) has in
-    rw same (failed_row g.R.WalkedRow.item g.R.WalkedRow.HasItems g.R.Summed.with_rows old.now
-    (HasCleanDisk mid) (HasCleanDisk mid)
-    c.args.sums.now c.rows.sums
-    (λ all. items_to_come g.R.WalkedRow.key g.R.WalkedRow.item g.R.WalkedRow.is_given all c.args.walk.now)
-    (λ all. items_to_come g.R.WalkedRow.key g.R.WalkedRow.item g.R.WalkedRow.is_given all c.rows.walk)
-    c.rows.counter (λ b. b)
-    c.rows.invariant.gathered
-    g.R.WalkedRow.Breaks _ before all has _ c.in_err-row.field-0.0
-    (c.in_err-row.ensures.answers late all there)
-    (λ is. record {
-      at = c.rows.walk.bank.now.conn;
-      before = comes c.rows.invariant.survives;
-      failed = c.in_err-row.ensures.store late all there (ap Err is);
-    }))
-
-pub returns-in_err-row-clause-passed : goal.returns-in_err-row-clause-passed
-returns-in_err-row-clause-passed g c =
-    rw (refusal g c) (passed_err (state g.S.Store c.args.walk.now.bank.now.conn)
-    (state g.S.Store c.rows.walk.bank.now.conn) (state g.S.Store c.next.new.self.bank.now.conn)
-    c.rows.invariant.survives c.rows.invariant.still c.next.ensures.bank.survives c.in_err-row.field-0.0
-    c.next.ensures.bank.undone)
+pub returns-in_err-row : goal.returns-in_err-row
+returns-in_err-row g c =
+    let mid = c.rows.walk.bank.now in
+    let new = c.next.new.self.bank.now in
+    let it = c.rows.invariant in
+    let step = c.next.ensures.bank in
+    let fault = c.in_err-row.field-0.0 in
+    let same : c.from_residual.result ≡ Err fault = search rules in
+    record {
+      same_reference = step.same_reference ∙ it.reference;
+      added = rw same tt;
+      reads = rw same (reads_then it.reads (reads_failed mid new step.up step.survives fault
+          (λ is. c.in_err-row.ensures.frugal (ap Err is))
+          (λ is. it.fresh (c.next.ensures.stage.down.1 (rw (c.in_err-row.was, is) refl)).0) step.undone
+          (λ is clean all has. c.in_err-row.ensures.store clean all has (ap Err is))
+          (λ rule is clean all has.
+          let before = clean_before (file_of mid) (file_of new) step.survives clean in
+          damaged_row (λ (b : HasCleanDisk (file_of mid)). b) it.gathered g.R.WalkedRow.Breaks before all
+          (subst (λ (db : Database). g.R.WalkedRow.HasItems db all) (it.reads.still before tt).0 has) _ fault
+          (c.in_err-row.ensures.answers clean all has) rule is)));
+    }
 
 -- ---- the end of the walk
 
-pub returns-in_default-clause-same_reference : goal.returns-in_default-clause-same_reference
-returns-in_default-clause-same_reference g c = c.next.ensures.bank.same_reference ∙ c.rows.invariant.reference
-
-pub returns-in_default-clause-answers : goal.returns-in_default-clause-answers
-returns-in_default-clause-answers g c clean all has = tt
-
-pub returns-in_default-clause-frugal : goal.returns-in_default-clause-frugal
-returns-in_default-clause-frugal g c = not_ok _ _ _ refl
-
-pub returns-in_default-clause-tried : goal.returns-in_default-clause-tried
-returns-in_default-clause-tried g c = not_ok _ _ _ refl
-
-pub returns-in_default-clause-up : goal.returns-in_default-clause-up
-returns-in_default-clause-up g c = c.next.ensures.bank.up ∙ c.rows.invariant.up
-
-pub returns-in_default-clause-added : goal.returns-in_default-clause-added
-returns-in_default-clause-added g c =
-    let old = state g.S.Store c.args.walk.now.bank.now.conn in
-    let mid = state g.S.Store c.rows.walk.bank.now.conn in
-    let new = state g.S.Store c.next.new.self.bank.now.conn in
-    let it = c.rows.invariant.gathered in (
-      it.given,
-      it.added,
-      λ clean all has.
-          let before : HasCleanDisk mid = omega (arith, c.next.ensures.bank.survives.clean, clean) in
-          let there = subst (λ db. g.R.WalkedRow.HasItems db all) (sym (c.rows.invariant.still before).0)
-          has in
-          let answers = rw c.in_default.is at (c.in_ok-row.ensures.answers clean all there) in
-          all_given g.R.WalkedRow.item g.R.WalkedRow.HasItems g.R.Summed.with_rows old.now (HasCleanDisk mid)
-          (HasCleanDisk mid) c.args.sums.now c.rows.sums
-          (λ all. items_to_come g.R.WalkedRow.key g.R.WalkedRow.item g.R.WalkedRow.is_given all
-          c.args.walk.now)
-          (λ all. items_to_come g.R.WalkedRow.key g.R.WalkedRow.item g.R.WalkedRow.is_given all c.rows.walk)
-          c.rows.counter (λ b. b) it before all has answers.0,
-    )
-
-pub returns-in_default-clause-passed : goal.returns-in_default-clause-passed
-returns-in_default-clause-passed g c =
-    passed_ok (state g.S.Store c.args.walk.now.bank.now.conn) (state g.S.Store c.rows.walk.bank.now.conn)
-    (state g.S.Store c.next.new.self.bank.now.conn)
-    c.rows.invariant.survives c.rows.invariant.still c.next.ensures.bank.survives c.in_ok-row.ensures.bank.same
+pub returns-in_default : goal.returns-in_default
+returns-in_default g c =
+    let mid = c.rows.walk.bank.now in
+    let new = c.next.new.self.bank.now in
+    let it = c.rows.invariant in
+    let step = c.next.ensures.bank in
+    record {
+      same_reference = step.same_reference ∙ it.reference;
+      added = (
+        it.gathered.given,
+        it.gathered.added,
+        λ clean all has.
+            let before = clean_before (file_of mid) (file_of new) step.survives clean in
+            all_given (λ (b : HasCleanDisk (file_of mid)). b) it.gathered before all has
+            (rw c.in_default.is at (c.in_ok-row.ensures.answers clean all
+            (has_before it.reads new step.survives clean all has))).0,
+      );
+      reads = reads_then it.reads (reads_still mid new step.up step.survives c.in_ok-row.ensures.bank.same);
+    }
 
 -- ---- there are no more rows than can be
 
@@ -146,29 +92,21 @@ add_to-requires g c =
 
 pub rows-preserved : goal.rows-preserved
 rows-preserved g c =
-    let old = state g.S.Store c.args.walk.now.bank.now.conn in
-    let mid = state g.S.Store c.rows.walk.bank.now.conn in
-    let new = state g.S.Store c.next.new.self.bank.now.conn in
+    let mid = c.rows.walk.bank.now in
+    let new = c.next.new.self.bank.now in
     let it = c.rows.invariant in
-    let before = λ (clean : HasCleanDisk new). let b : HasCleanDisk mid =
-    omega (arith, c.next.ensures.bank.survives.clean, clean) in b in
+    let step = c.next.ensures.bank in
+    let before = λ (clean : HasCleanDisk (file_of new)). clean_before (file_of mid) (file_of new) step.survives clean in
     let rises = rw c.in-Some.is at (c.in_ok-row.ensures.rises it.along.next it.along.comes) in
     record {
-      reference = c.next.ensures.bank.same_reference ∙ it.reference;
-      survives = quiet_then old mid new it.survives c.next.ensures.bank.survives;
-      up = c.next.ensures.bank.up ∙ it.up;
+      reference = step.same_reference ∙ it.reference;
       fresh = c.in_ok-row.ensures.stage.going;
-      still = λ clean. still_then old mid new (it.still (before clean)) (c.in_ok-row.ensures.bank.same clean);
-      gathered = one_more_row g.R.WalkedRow.item g.R.WalkedRow.HasItems g.R.Summed.with_rows old.now
-          (HasCleanDisk mid) (HasCleanDisk new) c.args.sums.now c.rows.sums
-          (λ all. items_to_come g.R.WalkedRow.key g.R.WalkedRow.item g.R.WalkedRow.is_given all
-          c.args.walk.now)
-          (λ all. items_to_come g.R.WalkedRow.key g.R.WalkedRow.item g.R.WalkedRow.is_given all c.rows.walk)
-          c.rows.counter before it.gathered c.add_to.new.sums
-          (λ all. items_to_come g.R.WalkedRow.key g.R.WalkedRow.item g.R.WalkedRow.is_given all
-          c.next.new.self) c.in-Some.row
+      reads = reads_then it.reads (reads_still mid new step.up step.survives c.in_ok-row.ensures.bank.same);
+      gathered = one_more_row before it.gathered c.add_to.new.sums
+          (λ all. items_to_come g.R.WalkedRow.key g.R.WalkedRow.item g.R.WalkedRow.is_given all c.next.new.self)
+          c.in-Some.row
           (λ clean all has. rw c.in-Some.is at (c.in_ok-row.ensures.answers clean all
-          (subst (λ db. g.R.WalkedRow.HasItems db all) (sym (it.still (before clean)).0) has)))
+          (has_before it.reads new step.survives clean all has)))
           c.add_to.ensures;
       along = along_more (λ k. ComesFrom (λ r. g.R.WalkedRow.key (g.R.WalkedRow.item r)) k c.rows.walk)
           (λ k. ComesFrom (λ r. g.R.WalkedRow.key (g.R.WalkedRow.item r)) k c.next.new.self) c.rows.counter

@@ -1,12 +1,11 @@
 -- What stands above, the lines, and what stands below.
-use Rattle.std.proofs.Common.{◌≡◌, Ok, Err, refl, sym, ap, subst, ◌∙◌}
+use Rattle.std.proofs.Common.{◌≡◌, Err, refl, sym, ap, subst, ◌∙◌}
 use Rattle.posting_core.proofs.Telling.{more_more}
-use Rattle.report_contents.specs.AllStatements.{above_in}
 use Rattle.report_contents.specs.StatementText.{last_of}
 use Rattle.report_contents.specs.declared.form.Form.{Form}
 use Rattle.report_contents.proofs.Written.{later_failed, same_all, same_part}
 use Rattle.bank_reports.specs.declared.fault.ReportFault.TheVariants.{Write}
-use Rattle.bank_reports.specs.Parts.{WritesAbove, WritesLines}
+use Rattle.bank_reports.specs.Parts.{WritesLines}
 use Rattle.bank_reports.proofs.Further.{error_is}
 use Rattle.bank_reports.proofs.LinesWritten.{above_end, account_end, account_written, closing_end}
 use Rattle.bank_reports.proofs.ReportEnds.{not_ok}
@@ -15,16 +14,13 @@ use Rattle.bank_reports.proofs.parts.write_account.Goals as goal
 
 pub returns-in_err-write_above : goal.returns-in_err-write_above
 returns-in_err-write_above g c =
-    let fault = c.in_err-write_above.field-0.0 in
-    let same : c.from_residual.result ≡ Err fault = err_is _ c.from_residual.ensures.1 in
+    let same : c.from_residual.result ≡ Err Write = err_is _ c.from_residual.ensures.1 in
+    let form = c.of_account-form.ensures in
     let says = c.in_err-write_above.ensures in
     record {
-      written = rw same (above_end c.args.query.now c.args.account c.args.rows.now _ _ fault
-          (subst (λ (f : Form). WritesAbove (above_in c.args.query.now.layout f c.args.account)
-          (g.W.Sink.contents c.args.writer.now) (g.W.Sink.contents c.write_above.new.writer) (Err fault))
-          c.of_account-form.ensures says.written));
+      written = rw same (above_end c.args.query.now c.args.account c.args.rows.now _ _ (rw form at says.written));
       more = rw same tt;
-      failed = λ write. says.failed (ap Err (error_is fault Write (sym same ∙ write)));
+      failed = λ write. says.failed;
     }
 
 pub returns-in_err-write_each : goal.returns-in_err-write_each
@@ -32,15 +28,14 @@ returns-in_err-write_each g c =
     let fault = c.in_err-write_each.field-0.0 in
     let same : c.from_residual-in_err-write_each.result ≡ Err fault =
     err_is _ c.from_residual-in_err-write_each.ensures.1 in
+    let form = c.of_account-form.ensures in
     let first = c.in_ok-write_above.ensures in
     let says = c.in_err-write_each.ensures in
     record {
       written = rw same (account_end c.args.query.now c.args.account c.args.rows.now _ _
-          (subst (λ (f : Form). WritesAbove (above_in c.args.query.now.layout f c.args.account)
-          (g.W.Sink.contents c.args.writer.now) (g.W.Sink.contents c.write_above.new.writer) (Ok tt))
-          c.of_account-form.ensures first.written) _ fault
+          (rw form at first.written) _ fault
           (subst (λ (f : Form). WritesLines f c.args.rows.now (g.W.Sink.contents c.write_above.new.writer)
-          (g.W.Sink.contents c.write_each.new.writer) (Err fault)) c.of_account-form.ensures says.written));
+          (g.W.Sink.contents c.write_each.new.writer) (Err fault)) form says.written));
       more = rw same tt;
       failed = λ write. later_failed first.more (says.failed (ap Err (error_is fault Write (sym same ∙ write))));
     }
@@ -48,16 +43,13 @@ returns-in_err-write_each g c =
 pub returns-in_err-put : goal.returns-in_err-put
 returns-in_err-put g c =
     let same : c.from_residual-in_err-put.result ≡ Err Write = err_is _ c.from_residual-in_err-put.ensures.1 in
+    let form = c.of_account-form.ensures in
     let first = c.in_ok-write_above.ensures in
     let second = c.in_ok-write_each.ensures in
     record {
       written = rw same (closing_end c.args.query.now c.args.account c.args.rows.now _ _
-          (subst (λ (f : Form). WritesAbove (above_in c.args.query.now.layout f c.args.account)
-          (g.W.Sink.contents c.args.writer.now) (g.W.Sink.contents c.write_above.new.writer) (Ok tt))
-          c.of_account-form.ensures first.written) _
-          (subst (λ (f : Form). WritesLines f c.args.rows.now (g.W.Sink.contents c.write_above.new.writer)
-          (g.W.Sink.contents c.write_each.new.writer) (Ok tt)) c.of_account-form.ensures second.written) _
-          (same_part _ _ (c.as_str.ensures.value ∙ c.closing.ensures ∙ ap last_of c.of_account-form.ensures)
+          (rw form at first.written) _ (rw form at second.written) _
+          (same_part _ _ (c.as_str.ensures.value ∙ c.closing.ensures ∙ ap last_of form)
           c.in_err-put.ensures.err));
       more = rw same tt;
       failed = λ write. later_failed (more_more first.more second.more) c.in_err-put.ensures.failed;
@@ -65,16 +57,13 @@ returns-in_err-put g c =
 
 pub returns : goal.returns
 returns g c =
+    let form = c.of_account-form.ensures in
     let first = c.in_ok-write_above.ensures in
     let second = c.in_ok-write_each.ensures in
     record {
       written = account_written c.args.query.now c.args.account c.args.rows.now _ _
-          (subst (λ (f : Form). WritesAbove (above_in c.args.query.now.layout f c.args.account)
-          (g.W.Sink.contents c.args.writer.now) (g.W.Sink.contents c.write_above.new.writer) (Ok tt))
-          c.of_account-form.ensures first.written) _
-          (subst (λ (f : Form). WritesLines f c.args.rows.now (g.W.Sink.contents c.write_above.new.writer)
-          (g.W.Sink.contents c.write_each.new.writer) (Ok tt)) c.of_account-form.ensures second.written) _
-          (same_all _ _ (c.as_str.ensures.value ∙ c.closing.ensures ∙ ap last_of c.of_account-form.ensures)
+          (rw form at first.written) _ (rw form at second.written) _
+          (same_all _ _ (c.as_str.ensures.value ∙ c.closing.ensures ∙ ap last_of form)
           c.in_ok-put.ensures.ok);
       more = more_more (more_more first.more second.more) c.in_ok-put.ensures.more;
       failed = λ write. absurd (not_ok _ _ _ refl write);

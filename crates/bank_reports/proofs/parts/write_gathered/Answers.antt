@@ -1,5 +1,5 @@
 -- All statements of what was gathered.
-use Rattle.std.proofs.Common.{◌≡◌, Ok, Err, refl, sym, ap, subst, ◌∙◌}
+use Rattle.std.proofs.Common.{◌≡◌, Err, refl, sym, ap, subst, ◌∙◌}
 use Rattle.posting_core.specs.EndCalls.{IsFlush}
 use Rattle.posting_core.proofs.Telling.{more_last, more_more}
 use Rattle.report_contents.proofs.Written.{later_failed, same_all, same_part}
@@ -59,8 +59,7 @@ returns-in_err-put_last g c =
     record {
       written = rw same (flush_end c.args.query c.args.gathered.rows.items _ _ _
           (parts_written c.args.query c.args.gathered.rows.items c.in_ok-rows.rows.items by _ _
-          (same_all _ _ (c.as_str.ensures.value ∙ c.top.ensures) c.in_ok-put.ensures.ok) _ (subst (λ l. WritesParts c.args.query l (g.W.Sink.contents c.put.new.writer)
-          (g.W.Sink.contents c.write_parts.new.writer) (Ok tt)) all says.written))
+          (same_all _ _ (c.as_str.ensures.value ∙ c.top.ensures) c.in_ok-put.ensures.ok) _ (rw all at says.written))
           c.in_err-put_last.ensures.err);
       flushed = rw same tt;
       failed = λ write.
@@ -75,8 +74,7 @@ returns g c =
     record {
       written = flushed c.args.query c.args.gathered.rows.items _ _ _
           (parts_written c.args.query c.args.gathered.rows.items c.in_ok-rows.rows.items by _ _
-          (same_all _ _ (c.as_str.ensures.value ∙ c.top.ensures) c.in_ok-put.ensures.ok) _ (subst (λ l. WritesParts c.args.query l (g.W.Sink.contents c.put.new.writer)
-          (g.W.Sink.contents c.write_parts.new.writer) (Ok tt)) all says.written))
+          (same_all _ _ (c.as_str.ensures.value ∙ c.top.ensures) c.in_ok-put.ensures.ok) _ (rw all at says.written))
           c.in_ok-put_last.ensures.ok;
       flushed = more_last IsFlush (more_more c.in_ok-put.ensures.more says.more) c.in_ok-put_last.ensures.flushed;
       failed = λ write. absurd (not_ok _ _ _ refl write);

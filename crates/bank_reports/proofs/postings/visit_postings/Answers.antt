@@ -1,17 +1,15 @@
 -- The postings that the walk gave were visited.
 use Rattle.std.proofs.Common.{rules, ◌≡◌, List, [], Err, refl, sym, subst, inl}
 use Rattle.sqlite.specs.{State.HasCleanDisk, Held.state}
-use Rattle.store_rows.specs.believed.BankTables.{history as history_table, reference as reference_table}
-use Rattle.walked_rows.specs.{Pairs.HasPairs, Pairs.Pair, Stored.is_stated_of}
+use Rattle.walked_rows.specs.{Pairs.Pair, Stored.is_stated_of}
 use Rattle.bank_store.specs.believed.Seen.{database_of}
 use Rattle.bank_store.specs.Walking.{given_of}
+use Rattle.bank_reports.specs.Leaving.{HasStated}
 use Rattle.bank_reports.specs.declared.fault.ReportFault.TheVariants.{Bank}
 use Rattle.bank_reports.specs.Visitors.{VisitsPostings}
-use Rattle.bank_reports.proofs.Lent.{reads_lent}
-use Rattle.bank_reports.proofs.ReportEnds.{down_not_memory, down_not_store, not_missing, not_write}
+use Rattle.bank_reports.proofs.BankReads.{reads_down, reads_lent}
+use Rattle.bank_reports.proofs.ReportEnds.{not_write}
 use Rattle.bank_reports.proofs.Refused.{err_is}
-use Rattle.bank_store.proofs.StepsKeep.{still_undone}
-use Rattle.walked_rows.proofs.Causes.{nothing_called}
 use Rattle.bank_reports.proofs.postings.visit_postings.Goals as goal
 
 pub returns-in_err-walk : goal.returns-in_err-walk
@@ -30,16 +28,7 @@ returns-in_err-walk g c =
       ends = rw same ([], inl c.requires.none);
       more = rw same tt;
       failed = λ write. absurd (not_write _ fault same write);
-      reads = reads_lent c.args.bank.now c.args.bank.now c.args.bank.now g.V.Visitor.TakesMemory _ refl record {
-        found = not_missing _ fault same;
-        frugal = λ is. absurd (down_not_memory _ fault same was.0 is);
-        tried = λ is. was.1;
-        store = λ is. absurd (down_not_store _ fault same was.0 is);
-        still = λ clean written. (refl, refl, refl, refl);
-        undone = λ clean. still_undone _ _ (refl, refl, refl, refl);
-        up = λ down. down;
-        survives = nothing_called _;
-      } (search rules);
+      reads = rw (same, was.0) (reads_lent refl (reads_down c.args.bank.now was.1) (search rules));
     }
 
 pub returns : goal.returns
@@ -47,10 +36,8 @@ returns g c =
     let begins = c.in_ok-walk.ensures.begins in
     let says = c.visit_rows.ensures in
     let last = c.visit_rows.new.walk.bank.now in
-    let there = λ (rows : List Pair) (has : HasPairs (database_of g.S.Store c.args.bank.now) history_table
-    reference_table rows).
-    subst (λ bank. HasPairs (database_of g.S.Store bank) history_table reference_table rows) (sym begins.same) has
-    in
+    let there = λ (rows : List Pair) (has : HasStated (database_of g.S.Store c.args.bank.now) rows).
+    subst (λ bank. HasStated (database_of g.S.Store bank) rows) (sym begins.same) has in
     record {
       answers = λ clean rows has.
           let late : HasCleanDisk (state g.S.Store last.conn) = search rules in
@@ -60,6 +47,5 @@ returns g c =
       ends = says.ends;
       more = says.more;
       failed = says.failed;
-      reads = reads_lent c.args.bank.now c.in_ok-walk.walk.bank.now last g.V.Visitor.TakesMemory c.visit_rows.result
-          begins.same says.reads (search rules);
+      reads = reads_lent begins.same says.reads (search rules);
     }

@@ -4,7 +4,6 @@ use Rattle.std.proofs.lemmas.Result.{on_ok_weaker}
 use Rattle.sqlite.specs.{State.HasCleanDisk, Held.state}
 use Rattle.posting_core.specs.EndCalls.{IsFlush}
 use Rattle.posting_core.proofs.Telling.{more_last}
-use Rattle.store_rows.specs.believed.BankTables.{history as history_table, reference as reference_table}
 use Rattle.walked_rows.specs.Stored.{is_stated_of}
 use Rattle.report_contents.specs.declared.{form.Form.Form, range.Range.Range}
 use Rattle.report_contents.specs.Ranges.{HasSummed}
@@ -12,8 +11,8 @@ use Rattle.report_contents.specs.StatementText.{part_of}
 use Rattle.report_contents.proofs.Written.{later_failed}
 use Rattle.bank_reports.specs.Postings.{WritesStatement}
 use Rattle.bank_reports.proofs.Further.{sums_read, why_read}
-use Rattle.bank_reports.proofs.ReadsThen.{reads_then}
-use Rattle.bank_store.proofs.{ReadsLeave.clean_before, StepsKeep.still_has}
+use Rattle.bank_reports.proofs.BankReads.{has_before, reads_then}
+use Rattle.bank_store.proofs.ReadsLeave.{clean_before}
 use Rattle.bank_reports.proofs.statement.write_part.Goals as goal
 
 pub visit_postings-requires : goal.visit_postings-requires
@@ -41,21 +40,11 @@ returns-in_err-visit_postings g c =
           };
       flushed = rw same tt;
       failed = λ write. says.failed (sym same ∙ write);
-      reads = record {
-        found = λ none. says.reads.found (sym same ∙ none);
-        frugal = λ is. says.reads.frugal (sym same ∙ is);
-        tried = λ is. says.reads.tried (sym same ∙ is);
-        store = λ is. says.reads.store (sym same ∙ is);
-        still = λ clean written. says.reads.still clean (rw same at written);
-        undone = says.reads.undone;
-        up = says.reads.up;
-        survives = says.reads.survives;
-      };
+      reads = rw same says.reads;
     }
 
 pub returns : goal.returns
 returns g c =
-    let old = state g.S.Store c.args.bank.now.conn in
     let mid = state g.S.Store c.visit_postings.new.bank.conn in
     let new = state g.S.Store c.write_lines.new.bank.conn in
     let first = c.in_ok-visit_postings.ensures in
@@ -65,7 +54,7 @@ returns g c =
       answers = λ clean rows has.
           let it = first.answers (before clean) rows has in
           let read = sums_read it in
-          let there = still_has old mid history_table reference_table rows (first.reads.still (before clean) tt) has in
+          let there = has_before first.reads c.write_lines.new.bank second.reads.survives clean rows has in
           let summed = subst (λ (r : Range). HasSummed r c.visit_postings.new.visitor it.given)
           c.none-sums.ensures.range read.visited.summed in
           let all = filter (is_stated_of (Some c.args.account)) rows in
@@ -86,6 +75,5 @@ returns g c =
           };
       flushed = on_ok_weaker c.write_lines.result (λ e. more_last IsFlush first.more e) second.flushed;
       failed = λ write. later_failed first.more (second.failed write);
-      reads = reads_then g.S.Store c.args.bank.now c.visit_postings.new.bank c.write_lines.new.bank _ first.reads
-          second.reads;
+      reads = reads_then first.reads second.reads;
     }

@@ -13,11 +13,12 @@ use Rattle.bank_reports.specs.{declared.fault.ReportFault.TheVariants.Bank, Stat
 use Rattle.bank_reports.specs.{Postings.StatesRows}
 use Rattle.report_contents.proofs.Written.{nothing_written}
 use Rattle.bank_reports.proofs.FaultsTold.{down_is_sound, unstated}
-use Rattle.bank_reports.proofs.{Passed.failed_later, statement.write_selected.Given.Over}
+use Rattle.bank_reports.proofs.{BankReads.failed_later, BankReads.was_down, statement.write_selected.Given.Over}
 use Rattle.bank_reports.proofs.OnLogs.{account_rows, has_stated, stated_rows}
 use Rattle.bank_reports.proofs.ReportEnds.{damaged_not_down, down_not_memory, down_not_store, not_both, not_missing}
-use Rattle.bank_reports.proofs.ReportEnds.{not_write, of_err, of_ok, refused_before, refused_down}
-use Rattle.bank_reports.proofs.ReportEnds.{refused_leaves, refused_sound, same_fault, tested_up, written_of}
+use Rattle.bank_reports.proofs.ReportEnds.{of_err, of_ok, refused_before, refused_down}
+use Rattle.bank_reports.proofs.ReportEnds.{refused_leaves, refused_sound, same_fault, tested_up, unwritten, was_down_tells}
+use Rattle.bank_reports.proofs.ReportEnds.{was_up_tells, written_of}
 use Rattle.bank_store.proofs.{AsFound.commits_then, AsFound.idle_commits, ReadsLeave.idle_takes, ReadsLeave.reads_after}
 use Rattle.bank_transactions.proofs.Blamed.{comes}
 use Rattle.bank_reports.proofs.StatementReports.{ToldOfLog, log_part, log_sound, log_whole}
@@ -40,13 +41,9 @@ returns-then-is_down g c =
         broken = λ rule is. absurd (damaged_not_down _ rule is refl);
         unchanged = λ rule is. absurd (damaged_not_down _ rule is refl);
       };
-      writer = record {
-        silent = λ none. refl;
-        flushed = tt;
-        failed = λ write. absurd (not_write _ Down refl write);
-      };
+      writer = unwritten Down refl;
       frugal = λ is. absurd (down_not_memory _ Down refl refl is);
-      down = record { down = λ down. refl; tried = λ is. was; idle = λ is. (refl, refl) };
+      down = was_down_tells was refl (refl, refl);
       leaves = idle_commits g.S.Store c.args.bank.now;
     }
 
@@ -65,8 +62,6 @@ returns-in_err-balance g c =
     let same = refusal g c in
     let went_down = refused_down fault old new [] (λ is. says.frugal (ap Err is)) says.call.fault in
     let was_up = λ (down : old.is_down). tested_up _ _ c.is_down.ensures c.if-is_down.false down in
-    let tried = λ (is : c.from_residual.result ≡ Err (Bank Down)).
-    refused_before fault old new [] says.call.fault (same_fault _ fault Down same is) in
     record {
       bank = unstated old new c.args.account c.args.query (g.W.Sink.contents c.args.writer.now) _ fault same
           (λ rule is. refused_sound fault old new [] says.call.fault rule is)
@@ -86,17 +81,10 @@ returns-in_err-balance g c =
             (same_fault _ _ _ same is) says.broken;
         unchanged = λ rule is. says.call.unchanged (rw (same_fault _ _ _ same is) tt);
       };
-      writer = record {
-        silent = λ none. refl;
-        flushed = rw same tt;
-        failed = λ write. absurd (not_write _ fault same write);
-      };
+      writer = unwritten fault same;
       frugal = λ is. says.frugal (ap Err (same_fault _ _ _ same is));
-      down = record {
-        down = λ down. absurd (was_up down);
-        tried = tried;
-        idle = λ is. absurd (was_up (tried is));
-      };
+      down = was_up_tells was_up
+          (λ is. refused_before fault old new [] says.call.fault (same_fault _ fault Down same is));
       leaves = says.reads.leaves;
     }
 
@@ -128,11 +116,7 @@ returns-in_default g c =
       refused = λ down. absurd (says.call.up down);
       writer = record { silent = λ none. refl; flushed = tt; failed = λ write. absurd (not_both _ write refl) };
       frugal = λ is. not_missing _ _ is refl;
-      down = record {
-        down = λ down. absurd (tested_up _ _ c.is_down.ensures c.if-is_down.false down);
-        tried = λ is. absurd (not_missing _ _ is refl);
-        idle = λ is. absurd (not_missing _ _ is refl);
-      };
+      down = was_up_tells (tested_up _ _ c.is_down.ensures c.if-is_down.false) (λ is. absurd (not_missing _ _ is refl));
       leaves = says.reads.leaves;
     }
 
@@ -189,7 +173,7 @@ returns g c =
     let before = c.in_ok-balance.ensures in
     let says = c.write_open.ensures in
     let down_before = λ (down : (bank_seen g.S.Store c.write_open.new.bank).is_down).
-    before.call.up (says.reads.up down) in
+    before.call.up (was_down says.reads down) in
     record {
       bank = record {
         text = of_ok c.write_open.result (λ is clean log s. log_whole (told_of g c clean log s) is);
@@ -203,7 +187,7 @@ returns g c =
         takes = reads_after (state g.S.Store c.args.bank.now.conn) mid new _ _ _ _ before.call.done before.call.honest
             (λ answered clean.
             says.reads.still clean (written_of c.write_open.result says.reads.found answered))
-            says.reads.survives says.reads.up;
+            says.reads.survives (was_down says.reads);
       };
       file = λ clean up. record {
         rows = λ found rows has. stated g c clean rows has;
@@ -223,11 +207,8 @@ returns g c =
         failed = says.failed;
       };
       frugal = says.reads.frugal;
-      down = record {
-        down = λ down. absurd (tested_up _ _ c.is_down.ensures c.if-is_down.false down);
-        tried = λ is. absurd (before.call.up (says.reads.tried is));
-        idle = λ is. absurd (before.call.up (says.reads.tried is));
-      };
+      down = was_up_tells (tested_up _ _ c.is_down.ensures c.if-is_down.false)
+          (λ is. absurd (before.call.up (says.reads.tried is)));
       leaves = commits_then g.S.Store c.args.bank.now c.write_open.new.bank c.balance.new.self.conn
           before.reads.leaves.now before.reads.leaves.left says.reads.undone says.reads.survives;
     }

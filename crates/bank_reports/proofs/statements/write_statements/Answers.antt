@@ -20,8 +20,9 @@ use Rattle.bank_reports.proofs.AllOnLogs.{all_part, all_sound, all_whole}
 use Rattle.bank_reports.proofs.FaultsTold.{down_is_sound, unstated_all}
 use Rattle.bank_reports.proofs.Gathers.{gathered_ends, gathered_then, silent_so_far, ungathered}
 use Rattle.bank_reports.proofs.OnLogs.{all_rows, has_stated, stated_rows}
-use Rattle.bank_reports.proofs.ReportEnds.{down_not_store, not_write}
-use Rattle.bank_reports.proofs.ReportEnds.{of_err, of_ok, tested_up, written_of}
+use Rattle.bank_reports.proofs.{BankReads.was_down, Further.error_is}
+use Rattle.bank_reports.proofs.ReportEnds.{down_not_store, of_err, of_ok, tested_up, unwritten, was_down_tells}
+use Rattle.bank_reports.proofs.ReportEnds.{was_up_tells, written_of}
 use Rattle.bank_reports.proofs.statements.write_statements.Goals as goal
 
 -- ---- a bank that was down
@@ -47,13 +48,9 @@ returns-then-is_down g c =
         tables = λ t shown. nothing_read c.args.query w (stated_rows t);
         store = λ is. absurd (down_not_store _ Down refl refl is);
       };
-      writer = record {
-        silent = λ none. refl;
-        flushed = tt;
-        failed = λ write. absurd (not_write _ Down refl write);
-      };
+      writer = unwritten Down refl;
       memory = λ is. refl;
-      down = record { down = λ down. refl; tried = λ is. was; idle = λ is. (refl, refl) };
+      down = was_down_tells was refl (refl, refl);
       up = λ down. down;
       leaves = idle_as_found g.S.Store c.args.bank.now;
     }
@@ -85,11 +82,10 @@ returns-in_err-visit_postings g c =
         found = λ none. says.reads.found (sym same ∙ none);
         sound = λ rule is clean log s.
             all_sound log s.commands c.args.query (stated_rows s.tables) (all_rows db s.tables log s.are s.shows) w _
-            rule (subst (λ r. WritesStatements c.args.query (stated_rows s.tables) w
-            (g.W.Sink.contents c.visit_postings.new.writer) r) (sym same ∙ is) (on_log clean log s));
+            rule (rw (error_is _ _ (sym same ∙ is)) at (on_log clean log s));
         takes = reads_take_none old new _ _ _
             (λ answered clean. says.reads.still clean (written_of (Err fault) says.reads.found (rw same at answered)))
-            says.reads.survives says.reads.up;
+            says.reads.survives (was_down says.reads);
       };
       file = λ clean. record {
         rows = λ rows has. rw same (written clean rows has);
@@ -99,18 +95,14 @@ returns-in_err-visit_postings g c =
       writer = record {
         silent = λ none. elim none [
           | inl missing ↦ absurd (says.reads.found (sym same ∙ missing))
-          | inr down ↦ absurd (was_up (says.reads.up down))
+          | inr down ↦ absurd (was_up (was_down says.reads down))
         ];
         flushed = rw same tt;
         failed = λ write. says.failed (sym same ∙ write);
       };
       memory = λ is. silent;
-      down = record {
-        down = λ down. absurd (was_up down);
-        tried = λ is. says.reads.tried (sym same ∙ is);
-        idle = λ is. absurd (was_up (says.reads.tried (sym same ∙ is)));
-      };
-      up = says.reads.up;
+      down = was_up_tells was_up (λ is. says.reads.tried (sym same ∙ is));
+      up = was_down says.reads;
       leaves = untouched_as_found g.S.Store c.args.bank.now c.visit_postings.new.bank says.reads.undone
           says.reads.survives;
     }
@@ -144,19 +136,16 @@ returns g c =
       bank = record {
         text = of_ok end (λ is clean log s.
             all_whole log s.commands c.args.query (stated_rows s.tables) (all_rows db s.tables log s.are s.shows) w _
-            (subst (λ r. WritesStatements c.args.query (stated_rows s.tables) w
-            (g.W.Sink.contents c.write_gathered.new.writer) r) is (on_log clean log s)));
+            (rw is at (on_log clean log s)));
         part = of_err end (λ fault is clean log s.
             all_part log s.commands c.args.query (stated_rows s.tables) (all_rows db s.tables log s.are s.shows) w _
-            fault (subst (λ r. WritesStatements c.args.query (stated_rows s.tables) w
-            (g.W.Sink.contents c.write_gathered.new.writer) r) is (on_log clean log s)));
+            fault (rw is at (on_log clean log s)));
         found = only.found;
         sound = λ rule is clean log s.
             all_sound log s.commands c.args.query (stated_rows s.tables) (all_rows db s.tables log s.are s.shows) w _
-            rule (subst (λ r. WritesStatements c.args.query (stated_rows s.tables) w
-            (g.W.Sink.contents c.write_gathered.new.writer) r) is (on_log clean log s));
+            rule (rw is at (on_log clean log s));
         takes = reads_take_none old new _ _ _ (λ answered clean. first.reads.still clean tt) first.reads.survives
-            first.reads.up;
+            (was_down first.reads);
       };
       file = λ clean. record {
         rows = λ rows has. written clean rows has;
@@ -166,18 +155,14 @@ returns g c =
       writer = record {
         silent = λ none. elim none [
           | inl missing ↦ absurd (only.found missing)
-          | inr down ↦ absurd (was_up (first.reads.up down))
+          | inr down ↦ absurd (was_up (was_down first.reads down))
         ];
         flushed = on_ok_weaker end (λ e. more_last IsFlush first.more e) second.flushed;
         failed = λ write. later_failed first.more (second.failed write);
       };
       memory = λ is. only.memory is ∙ silent;
-      down = record {
-        down = λ down. absurd (was_up down);
-        tried = λ is. absurd (only.down is);
-        idle = λ is. absurd (only.down is);
-      };
-      up = first.reads.up;
+      down = was_up_tells was_up (λ is. absurd (only.down is));
+      up = was_down first.reads;
       leaves = untouched_as_found g.S.Store c.args.bank.now c.visit_postings.new.bank first.reads.undone
           first.reads.survives;
     }
