@@ -1,5 +1,5 @@
 -- What reads of a file's five tables leave, one table after another.
-use Rattle.std.proofs.Common.{◌≡◌, Ok, Result, inl, inr, refl, sym, subst}
+use Rattle.std.proofs.Common.{Ok, Result, inl, inr, refl, sym, subst}
 use Rattle.sqlite.specs.{Effect.Database, State.HasCleanDisk}
 use Rattle.sqlite_trees.specs.declared.store.Store.{Ghosts}
 use Rattle.posting_rules.specs.declared.fault.Rule.{Rule}
