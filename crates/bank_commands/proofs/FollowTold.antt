@@ -18,7 +18,6 @@ use Rattle.bank_replays.specs.declared.fault.ReplayFault.{ReplayFault, TheVarian
 use Rattle.command_line.specs.Following.{FollowsAnswer, TellsFollowed}
 use Rattle.command_line.specs.{Lines.after_line, Lines.followed_line, Working.done_after}
 use Rattle.command_line.specs.declared.fault.CommandFault.{CommandFault}
-use Rattle.command_line.specs.CommandFaults.{fault_of_bank}
 use Rattle.command_line.specs.declared.status.Status.{Status, TheVariants.Done}
 use Rattle.bank_commands.specs.Following.{FollowsCounted, FollowsCounting, PrintsFollow, ended_by_log}
 

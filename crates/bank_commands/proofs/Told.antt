@@ -1,5 +1,5 @@
 -- How a command ends over a connection, and what is said of it whatever bank is there.
-use Rattle.std.specs.Prelude.{⊤, IfOk, IsErrAnd, if◌then◌else◌}
+use Rattle.std.specs.Prelude.{IfOk, IsErrAnd, if◌then◌else◌}
 use Rattle.std.proofs.Common.{◌≡◌, ◌≢◌, ◌⊎◌, ◌∙◌, ◌≤◌, inl, inr, refl, subst, sym, ℕ, List, Option, Result, Ok}
 use Rattle.std.proofs.Common.{Err, Bool, false, true, Some, None, OnErr, OnOk, IsErrOf, length, take}
 use Rattle.std.specs.{Io.KnownBytes.Appends, Io.KnownBytes.Keeps, declared.net.socket_addr.SocketAddr.SocketAddr}

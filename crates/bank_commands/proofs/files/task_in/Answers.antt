@@ -1,5 +1,4 @@
 use Rattle.std.proofs.Common.{◌≡◌, rules, Err}
-use Rattle.command_line.specs.Working.{known_source}
 use Rattle.command_line.specs.declared.fault.CommandFault.TheVariants.{Store}
 use Rattle.bank_commands.proofs.Told.{task_idle, task_left, task_told, task_untouched}
 use Rattle.bank_commands.proofs.files.task_in.Goals as goal
