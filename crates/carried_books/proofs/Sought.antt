@@ -1,9 +1,9 @@
 -- The place of the first run that doesn't end before a number.
 use Rattle.std.proofs.Common.{◌≡◌, ◌≤◌, ◌<◌, ◌+◌, ◌∙◌, ℕ, zero, suc, Bool, true, false, leb, ltb, List, [], ◌∷◌, length, get_or}
-use Rattle.std.proofs.Common.{Option, Some, None, refl, sym, ap, inl, inr, arith}
+use Rattle.std.proofs.Common.{Option, Some, None, refl, sym, ap, subst, inl, inr, arith}
 use Rattle.std.specs.Prelude.{◌&&◌, ◌||◌, slice_get}
 use Rattle.std.specs.List.Sorted.{IsNonDecreasingBy, IsPartitionPoint}
-use Rattle.std.proofs.lemmas.Bool.{ltb-true, Decides.nat_tests}
+use Rattle.std.proofs.lemmas.Bool.{leb-false, ltb-true, Decides.nat_tests}
 use Rattle.posting_rules.specs.declared.rows.ClosingRow.{ClosingRow}
 use Rattle.posting_rules.specs.believed.Closings.{is_closed_in, meets}
 use Rattle.posting_rules.proofs.Keyed.{by_test}
@@ -67,3 +67,58 @@ has_is all runs again place x found is same rise at looked =
   where
     no_less : (a b : ℕ) → ltb a b ≡ false → b ≤ a
     no_less a b f = grind (arith, nat_tests)
+
+-- ---- the run at a place
+
+record StandsAt (runs : List ClosingRow) (place : ℕ) (run : ClosingRow) : Type 0 where
+  within : place < length runs
+  there : get_or runs place run ≡ run
+  own : run.first ≤ run.last
+  has : (y : ℕ) → run.first ≤ y → y ≤ run.last → is_closed_in runs y ≡ true
+
+one_run : (r run : ClosingRow) → (let o : Option ClosingRow = Some r in o) ≡ Some run → r ≡ run
+one_run r run is = cc
+
+own_number : (r : ClosingRow) (runs : List ClosingRow) (y : ℕ) → r.first ≤ y → y ≤ r.last → is_closed_in (r ∷ runs) y ≡ true
+own_number r runs y low high =
+    let t : (leb r.first y && leb y r.last) ≡ true = grind (arith, nat_tests) in
+    rw t refl
+
+stands_at : (low : ℕ) (runs : List ClosingRow) (place : ℕ) (run : ClosingRow) → RiseFrom low runs
+    → slice_get runs place ≡ Some run → StandsAt runs place run
+stands_at low [] place run rise is = absurd cc
+stands_at low (r ∷ runs) zero run rise is =
+    subst (StandsAt (r ∷ runs) zero) (one_run r run is)
+    (record { within = omega arith; there = refl; own = rise.1; has = λ y low high. own_number r runs y low high })
+stands_at low (r ∷ runs) (suc place) run rise is =
+    let more = stands_at (r.last + 2) runs place run rise.2 is in
+    let deep = more.within in
+    record {
+      within = omega (arith, deep);
+      there = more.there;
+      own = more.own;
+      has = λ y low high. elim (by_test (leb r.first y && leb y r.last)) [
+        | inl t ↦ rw t refl
+        | inr f ↦ rw f (more.has y low high)
+      ];
+    }
+
+pub record EndsAbove (all : List ClosingRow) (x : ℕ) (run : ClosingRow) : Type 0 where
+  pub above : x < run.last
+  pub own : run.first ≤ run.last
+  pub has : (y : ℕ) → run.first ≤ y → y ≤ run.last → is_closed_in all y ≡ true
+
+-- the run at the place, before which all end by a number
+pub ends_above : (all runs again : List ClosingRow) (place x : ℕ) (found : Option ClosingRow) (run : ClosingRow)
+    → runs ≡ all → again ≡ runs → RiseFrom 0 runs
+    → IsPartitionPoint (λ y. leb y.last x ≡ true) (λ y. leb y.last x ≡ false) runs place
+    → found ≡ slice_get again place → found ≡ Some run → EndsAbove all x run
+ends_above all runs again place x found run is same rise at looked some =
+    let here = stands_at 0 runs place run rise
+    (ap (λ (l : List ClosingRow). slice_get l place) (sym same) ∙ sym looked ∙ some) in
+    record {
+      above = subst (λ (r : ClosingRow). x < r.last) here.there
+          (leb-false (get_or runs place run).last x (at.1 place run (omega arith) here.within));
+      own = here.own;
+      has = λ y low high. ap (λ (l : List ClosingRow). is_closed_in l y) (sym is) ∙ here.has y low high;
+    }

@@ -1,5 +1,5 @@
 //! Numbers of tellers by their keys, as runs that don't touch.
-ghost use Rattle.std.specs.Prelude.{◌≡◌, ◌≤◌, ◌+◌, ◌++◌, ◌||◌, ℕ, List, Option, IfOk, IfSome, MatchOption, OnOk, []};
+ghost use Rattle.std.specs.Prelude.{◌≡◌, ◌<◌, true, ◌≤◌, ◌+◌, ◌++◌, ◌||◌, ℕ, List, Option, IfOk, IfSome, MatchOption, OnOk, []};
 ghost use Rattle.std.specs.Prelude.{nat_le, slice_get};
 ghost use Rattle.posting_rules.specs.declared.rows.ClosingRow.{ClosingRow as Run};
 ghost use Rattle.posting_rules.specs.believed.Closings.{is_closed_in, meets};
@@ -144,6 +144,22 @@ impl NumberRuns {
         match run_at(&self.runs, place) {
             Some(run) => run.first <= key,
             None => false,
+        }
+    }
+
+    /// The least number that it has above a key, if there is one.
+    #[must_use]
+    pub fn next_above(&self, key: u64) -> Option<u64>
+        ensures { IfSome result (λ x. (key < x) × (is_closed_in self.now x ≡ true)) }
+    {
+        let place = self.runs.partition_point(|run| run.last <= key);
+        let run = run_at(&self.runs, place)?;
+        if run.first > key {
+            return Some(run.first);
+        }
+        match key.checked_add(1) {
+            Some(next) => Some(next),
+            None => None,
         }
     }
 

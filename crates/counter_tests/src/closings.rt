@@ -1,11 +1,12 @@
 //! Closed books: their numbers are refused, what is kept gets its first reply, and a seal decides nothing more; and new
 //! books that begin with the balances of old ones by postings of a desk.
+use carried_books::{Forward, Lack, NumberRuns};
 use message_records::{
     Account, Branch, Cents, Moment, Number, Outcome, REPLY_BYTES, Request, Teller, decode_reply,
     encode_request,
 };
-use posting_core::{Closing, Counter, PlainBank};
-use std::alloc::Global;
+use posting_core::{Closing, ClosingRow, Counter, PlainBank};
+use std::alloc::{AllocError, Global};
 
 // The outcome of a cent to account 1, by teller 1 of branch 1, under this number.
 fn cent_under<C: Counter>(bank: &mut C, number: u64) -> Option<Outcome> {
@@ -78,15 +79,21 @@ fn told<C: Counter>(
     ))
 }
 
-// What the first year posts, and what brings its balances forward: the desk posts the account's to it, teller 1 its own
-// to the desk's account, under a number that it used, and the desk what is left there.
+// What the first year posts.
 const FIRST_YEAR: [Cash; 2] = [(1, 1, 1, 500), (1, 2, 1, -200)];
 
-const FORWARD: [Cash; 3] = [
-    (99_981, 1, 1, 300),
-    (1, 1, 999_800_001, 300),
-    (99_981, 2, 999_800_001, -300),
-];
+// The balances that it leaves, and the numbers that it used.
+fn brought_forward(alloc: Global) -> Result<Forward, AllocError> {
+    let (account, teller) = (Account::new(1).unwrap(), Teller::new(1).unwrap());
+    let (first, last) = (Number::new(1).unwrap(), Number::new(2).unwrap());
+    let mut used = Vec::new(alloc);
+    used.push(ClosingRow::of_numbers(teller, first, last))?;
+    let used = NumberRuns::of(alloc, used)?;
+    let mut forward = Forward::new(alloc, Branch::new(9_999).unwrap(), used, 0);
+    forward.add(Lack::Account(account, 300))?;
+    forward.add(Lack::Teller(teller, 10_000_000_000, 300))?;
+    Ok(forward)
+}
 
 // A bank with branch 1 and the desk, after these postings.
 fn bank_after(alloc: Global, postings: &[Cash]) -> Option<PlainBank> {
@@ -105,7 +112,15 @@ fn bank_after(alloc: Global, postings: &[Cash]) -> Option<PlainBank> {
 #[test]
 fn a_second_year(rt: HostRuntime) {
     let mut one = bank_after(rt.alloc(), &FIRST_YEAR).expect(&rt, "one bank");
-    let mut new = bank_after(rt.alloc(), &FORWARD).expect(&rt, "new books");
+    let mut new = bank_after(rt.alloc(), &[]).expect(&rt, "new books");
+    let mut forward = brought_forward(rt.alloc()).expect(&rt, "memory");
+    for _ in 0..3 {
+        let request = forward.next_posting().expect(&rt, "a posting");
+        let reply = new.submit(Moment::new(7).unwrap(), &encode_request(&request));
+        let reply = decode_reply(&reply.expect(&rt, "a reply")).expect(&rt, "a reply");
+        assert!(rt; reply.outcome() == Outcome::Posted);
+    }
+    assert!(rt; forward.next_posting().is_none());
     let (first, last) = (Number::new(1).unwrap(), Number::new(2).unwrap());
     let closed = new.close_numbers(Teller::new(1).unwrap(), first, last);
     assert!(rt; closed == Ok(Closing::Closed));
