@@ -1,7 +1,7 @@
 -- How a command ends over a connection, and what is said of it whatever bank is there.
 use Rattle.std.specs.Prelude.{IfOk, IsErrAnd, if◌then◌else◌}
 use Rattle.std.proofs.Common.{◌≡◌, ◌≢◌, ◌⊎◌, ◌∙◌, ◌≤◌, inl, inr, refl, subst, sym, ℕ, List, Option, Result, Ok}
-use Rattle.std.proofs.Common.{Err, Bool, false, true, Some, None, OnErr, OnOk, IsErrOf, length, take}
+use Rattle.std.proofs.Common.{ap, Err, Bool, false, true, Some, None, OnErr, OnOk, IsErrOf, length, take}
 use Rattle.std.specs.{Io.KnownBytes.Appends, Io.KnownBytes.Keeps, declared.net.socket_addr.SocketAddr.SocketAddr}
 use Rattle.std.proofs.{KnownBytes.Keeps-refl, lemmas.Result.err_from_is_err_and}
 use Rattle.sqlite.specs.Held.{Held}
@@ -22,7 +22,7 @@ use Rattle.bank_reports.specs.declared.fault.ReportFault.TheVariants as report
 use Rattle.bank_replays.specs.declared.{chain.Digest.Digest, difference.Replay.Replay, fault.ReplayFault.ReplayFault}
 use Rattle.bank_replays.specs.declared.difference.Replay.TheVariants as replays
 use Rattle.bank_replays.specs.declared.fault.ReplayFault.TheVariants as written
-use Rattle.bank_store.specs.believed.{Down.bank_reason, Seen.bank_seen}
+use Rattle.bank_store.specs.believed.{BankSparing.SparesOtherTables, Down.bank_reason, Seen.bank_seen}
 use Rattle.bank_store.specs.declared.{bank.Bank.Bank, refused.Refused.Refused}
 use Rattle.command_line.specs.{Auditing.Prints, declared.fault.CommandFault.CommandFault}
 use Rattle.command_line.specs.declared.reading.{Command.Command, Task.Task, Work.Work}
@@ -46,6 +46,11 @@ use Rattle.bank_commands.specs.Commands.{ended_by, stated_by}
 use Rattle.bank_commands.specs.{Over.IsRefusedOver, Over.RunsOver}
 use Rattle.bank_commands.specs.Doing.{DoesOver, TaskLeaves, WorkLeaves, Works}
 use Rattle.bank_commands.specs.Running.{PrintsNone, TaskTells, Tells, WorkTells}
+use Rattle.shared_log.specs.Known.{Known as Log}
+use Rattle.shared_log.specs.Replicated.{replicated_reason, replicated_seen}
+use Rattle.shared_log.specs.declared.replicated.Replicated.{Replicated}
+use Rattle.command_line.specs.Sharing.{JoinsFirst, ServesJoined, ServesShared}
+use Rattle.bank_commands.specs.Sharing.{PrintsShared, SharesOver}
 use Rattle.bank_commands.specs.Replaying.{PrintsDigest, PrintsReplay, ended_by_writing, ended_with}
 use Rattle.bank_commands.proofs.Endings.{input_is_not_usage, system_is_not_usage}
 use Rattle.bank_commands.proofs.FollowTold.{log_done, prints_follow}
@@ -172,6 +177,7 @@ writing_done (Err (written.Bank cause)) = tt
 pub task_idle : (task : Task) (f : CommandFault) (e : Known) → TaskTells task e e (Err f)
 task_idle tasks.Init f e = inl ((f, refl), Keeps-refl e.writer)
 task_idle tasks.Migrate f e = inl ((f, refl), Keeps-refl e.writer)
+task_idle (tasks.Share address connections member name stands_by) f e = inl ((f, refl), Keeps-refl e.writer)
 task_idle (tasks.With work) f e = inl ((f, refl), refl)
 
 work_untouched : (work : Work) (e : Known) (k : Option (List ℕ)) → WorkLeaves work e e k k
@@ -184,15 +190,58 @@ work_untouched other e k = ((refl, refl, refl), refl)
 pub task_untouched : (task : Task) (e : Known) (k : Option (List ℕ)) → TaskLeaves task e e k k
 task_untouched tasks.Init e k = ((refl, refl, refl), refl)
 task_untouched tasks.Migrate e k = ((refl, refl, refl), refl)
+task_untouched (tasks.Share address connections member name stands_by) e k = (refl, refl, refl)
 task_untouched (tasks.With work) e k = work_untouched work e k
+
+-- ---- where machines share a log
+
+module _ {C L D E : Type 0} (seen : C → Seen) (spares : C → C → Type 0) (reason : Fault → C → C → Type 0)
+    (held : L → Log) (IsBound : D → Type 0) (ends : E → Known) (calls : D → Option (List (ClientsCall E)))
+    (k k' w w' : Option (List ℕ)) (count : ℕ) (end : Result Status CommandFault) where
+  unjoined : (fault : CommandFault) (old new : Replicated C L) → end ≡ Err fault
+      → JoinsFirst seen spares held w w' old new (Err fault) → PrintsShared w w' end
+  unjoined fault old new is (inl none) = inl ((fault, is), none.2)
+  unjoined fault old new is (inr (joined, has, same, part)) =
+      inr (joined, inl (is ∙ ap (λ (f : CommandFault). let r : Result Status CommandFault = Err f in r) same, part))
+
+  joined_then : (old new : Replicated C L)
+      → ServesJoined seen spares reason held IsBound ends calls k k' w w' count (λ other. end ≡ other) old new
+      → PrintsShared w w' end
+  joined_then old new (inl (fault, is, joins, same)) = unjoined fault old new is joins
+  joined_then old new (inr (stood, said, (joined, has, line), serves)) = inr (
+    joined,
+    inr (
+      said,
+      line,
+      prints_serve said w' end (replicated_seen seen held) (replicated_reason reason) stood new IsBound ends calls k k' count
+          serves,
+    ),
+  )
+
+  pub prints_shared : (IsShared : L → Type 0) (old new : C)
+      → ServesShared seen spares reason IsShared held IsBound ends calls k k' w w' count (λ other. end ≡ other) old new
+      → PrintsShared w w' end
+  prints_shared IsShared old new (inl none) = inl ((fault.NoQuorum, none.0), none.1)
+  prints_shared IsShared old new (inr (first, last, was, shared, is, it)) = joined_then first last it
+
+shared_over_told : {S L D E : Type 0} (g : Ghosts S) (conn back : Held S) (IsShared : L → Type 0) (held : L → Log)
+    (IsBound : D → Type 0) (ends : E → Known) (calls : D → Option (List (ClientsCall E))) (w w' k k' : Option (List ℕ))
+    (count : ℕ) (end : Result Status CommandFault)
+    → SharesOver g conn back IsShared held IsBound ends calls w w' k k' count end → PrintsShared w w' end
+shared_over_told g conn back IsShared held IsBound ends calls w w' k k' count end (inl none, spares) =
+    let f = err_from_is_err_and end none.0 in
+    inl ((f.0, f.1), subst (λ (x : Option (List ℕ)). Keeps w x) (sym none.1.0) (Keeps-refl w))
+shared_over_told g conn back IsShared held IsBound ends calls w w' k k' count end (inr works, spares) =
+    prints_shared (bank_seen g) (SparesOtherTables g) (bank_reason g) held IsBound ends calls k k' w w' count end IsShared
+    works.first works.last works.did.1
 
 -- ---- what a task did with a bank is what it tells of it
 
-module _ {S P D E : Type 0} (g : Ghosts S) (IsNamed : List ℕ → P → Type 0)
+module _ {S P D E L : Type 0} (g : Ghosts S) (IsNamed : List ℕ → P → Type 0)
     (known : P → Option (List ℕ) × Option (List ReadCall)) (IsBound : List ℕ → D → Type 0) (ends : E → Known)
-    (calls : D → Option (List (ClientsCall E))) where
+    (calls : D → Option (List (ClientsCall E))) (IsShared : List ℕ → List ℕ → L → Type 0) (held : L → Log) where
   work_told : (work : Work) (e e' : Known) (k k' : Option (List ℕ)) (old new : Bank S g)
-      (end : Result Status CommandFault) → Works g IsNamed known IsBound ends calls work e e' k k' old new end
+      (end : Result Status CommandFault) → Works g IsNamed known IsBound ends calls IsShared held work e e' k k' old new end
       → WorkTells work e e' end
   work_told (works.Load plan) e e' k k' old new end did =
       prints_load e.writer e'.writer end (bank_seen g) (bank_reason g) (IsNamed plan.now) known old new did.0
@@ -216,11 +265,15 @@ module _ {S P D E : Type 0} (g : Ghosts S) (IsNamed : List ℕ → P → Type 0)
 
   pub task_told : (task : Task) (conn back : Held S) (e e' : Known) (k k' : Option (List ℕ))
       (end : Result Status CommandFault)
-      → DoesOver g IsNamed known IsBound ends calls task conn back e e' k k' end → TaskTells task e e' end
+      → DoesOver g IsNamed known IsBound ends calls IsShared held task conn back e e' k k' end → TaskTells task e e' end
+  unfolding DoesOver
   task_told tasks.Init conn back e e' k k' end does =
       prints_none _ _ e.writer e'.writer end does.0 (λ _ _ did. did.2)
   task_told tasks.Migrate conn back e e' k k' end does =
       prints_none _ _ e.writer e'.writer end does.0 (λ _ _ did. (did.0, did.3))
+  task_told (tasks.Share address connections member name stands_by) conn back e e' k k' end does =
+      shared_over_told g conn back (IsShared member.now name.now) held (IsBound address.now) ends calls
+      e.writer e'.writer k k' _ end does.0
   task_told (tasks.With work) conn back e e' k k' end (inl none, spares) =
       let f = err_from_is_err_and end none.0 in
       inl ((f.0, f.1), none.1.0)
@@ -229,9 +282,11 @@ module _ {S P D E : Type 0} (g : Ghosts S) (IsNamed : List ℕ → P → Type 0)
 
   pub task_left : (task : Task) (conn back : Held S) (e e' : Known) (k k' : Option (List ℕ))
       (end : Result Status CommandFault)
-      → DoesOver g IsNamed known IsBound ends calls task conn back e e' k k' end → TaskLeaves task e e' k k'
+      → DoesOver g IsNamed known IsBound ends calls IsShared held task conn back e e' k k' end → TaskLeaves task e e' k k'
+  unfolding DoesOver
   task_left tasks.Init conn back e e' k k' end does = does.1
   task_left tasks.Migrate conn back e e' k k' end does = does.1
+  task_left (tasks.Share address connections member name stands_by) conn back e e' k k' end does = does.1
   task_left (tasks.With work) conn back e e' k k' end (inl none, spares) =
       rw (none.1.0, none.1.1) (work_untouched work e k)
   task_left (tasks.With work) conn back e e' k k' end (inr did, spares) = did.did.1.1
@@ -263,6 +318,8 @@ fault_ends (fault.NoAccount account) = inr (inl refl)
 fault_ends (fault.NoRequest count) = inr (inl refl)
 fault_ends (fault.Query query) = inr (inl refl)
 fault_ends fault.Network = inl refl
+fault_ends fault.NoQuorum = inl refl
+fault_ends (fault.OtherEntry number) = inr (inr refl)
 
 pub status_is_not_usage : (f : CommandFault) → status_of f ≢ Usage
 status_is_not_usage f other = elim (fault_ends f) [
@@ -341,11 +398,18 @@ work_is_not_usage (works.Follow plan) e e' status end = done_is_not_usage status
 work_is_not_usage (works.Serve address connections) e e' status end = done_is_not_usage status end.0
 work_is_not_usage other e e' status end = done_is_not_usage status end
 
+shared_is_not_usage : (w w' : Option (List ℕ)) (status : Status) → PrintsShared w w' (Ok status) → status ≢ Usage
+shared_is_not_usage w w' status (inl none) = not_a_fault status _ none.0.1
+shared_is_not_usage w w' status (inr (joined, inl part)) = not_a_fault status _ part.0
+shared_is_not_usage w w' status (inr (joined, inr (said, line, served))) = done_is_not_usage status served.0
+
 pub told_is_not_usage : (c : Command) (e e' : Known) (status : Status) → Tells c e e' (Ok status) → status ≢ Usage
 told_is_not_usage (commands.OnFile file tasks.Init) e e' status (inl none) = not_a_fault status _ none.0.1
 told_is_not_usage (commands.OnFile file tasks.Init) e e' status (inr end) = done_is_not_usage status end.0
 told_is_not_usage (commands.OnFile file tasks.Migrate) e e' status (inl none) = not_a_fault status _ none.0.1
 told_is_not_usage (commands.OnFile file tasks.Migrate) e e' status (inr end) = done_is_not_usage status end.1.0
+told_is_not_usage (commands.OnFile file (tasks.Share address connections member name stands_by)) e e' status end =
+    shared_is_not_usage e.writer e'.writer status end
 told_is_not_usage (commands.OnFile file (tasks.With work)) e e' status (inl none) = not_a_fault status _ none.0.1
 told_is_not_usage (commands.OnFile file (tasks.With work)) e e' status (inr end) =
     work_is_not_usage work e e' status end

@@ -7,6 +7,7 @@ use Rattle.posting_core.specs.believed.EndCalls.{ReadCall}
 use Rattle.bank_store.specs.declared.bank.Bank.{Bank}
 use Rattle.counter_http.specs.Clients.{ClientsCall}
 use Rattle.counter_http.specs.Connections.{Known}
+use Rattle.shared_log.specs.Known.{Known as Log}
 use Rattle.command_line.specs.declared.fault.CommandFault.{CommandFault}
 use Rattle.command_line.specs.declared.reading.Task.{Task}
 use Rattle.command_line.specs.declared.reading.Task.TheVariants as tasks
@@ -17,6 +18,7 @@ use Rattle.bank_commands.specs.Commands.{AuditsFound, DrivesBank, Inits, Loads, 
 use Rattle.bank_commands.specs.Commands.{StatesEach}
 use Rattle.bank_commands.specs.Following.{Follows, Logs}
 use Rattle.bank_commands.specs.Over.{FindsOver}
+use Rattle.bank_commands.specs.Sharing.{SharesOver}
 use Rattle.bank_commands.specs.Replaying.{DigestsFound, Exports, ReplaysFound, WritesPlanOf}
 
 -- where no number of connections is given, as many are served as come: a count that no run reaches
@@ -43,15 +45,17 @@ WorkLeaves _ e e' k k' = OnlyWrites e e' k k'
 
 abbrev pub TaskLeaves : Task → (e e' : Known) → (k k' : Option (List ℕ)) → Type 0
 TaskLeaves (tasks.With work) e e' k k' = WorkLeaves work e e' k k'
+TaskLeaves (tasks.Share address connections member name stands_by) e e' k k' = LeavesInput e e'
 TaskLeaves _ e e' k k' = OnlyWrites e e' k k'
 
 -- ---- what a task does with the connection conn, which it hands back as back
 
 -- IsNamed says of a source that it is that of the plan of a name, and known what is known of one; IsBound says of clients
--- that they come to an address, calls what is known of their calls, and ends what is known of the ends of one
-module _ {S P D E : Type 0} (g : Ghosts S) (IsNamed : List ℕ → P → Type 0)
+-- that they come to an address, calls what is known of their calls, and ends what is known of the ends of one; IsShared
+-- says of a log that it is the one of a member and a name, and held what is known of one
+module _ {S P D E L : Type 0} (g : Ghosts S) (IsNamed : List ℕ → P → Type 0)
     (known : P → Option (List ℕ) × Option (List ReadCall)) (IsBound : List ℕ → D → Type 0) (ends : E → Known)
-    (calls : D → Option (List (ClientsCall E))) where
+    (calls : D → Option (List (ClientsCall E))) (IsShared : List ℕ → List ℕ → L → Type 0) (held : L → Log) where
   -- what a work does with the bank that is found, old before it and new after it
   abbrev pub Works : Work → (e e' : Known) → (k k' : Option (List ℕ)) → (old new : Bank S g)
       → Result Status CommandFault → Type 0
@@ -78,10 +82,13 @@ module _ {S P D E : Type 0} (g : Ghosts S) (IsNamed : List ℕ → P → Type 0)
       Serves g (IsBound address.now) ends calls e.writer e'.writer k k' (unwrap_or connections ALL_THAT_COME) old new end
 
   -- no bank is found, and nothing is done; or that was done with it
-  abbrev pub DoesOver : Task → (conn back : Held S) → (e e' : Known) → (k k' : Option (List ℕ))
+  unfoldable pub DoesOver : Task → (conn back : Held S) → (e e' : Known) → (k k' : Option (List ℕ))
       → Result Status CommandFault → Type 0
   DoesOver tasks.Init conn back e e' k k' end = Inits g conn back e.writer e'.writer end × OnlyWrites e e' k k'
   DoesOver tasks.Migrate conn back e e' k k' end = Migrates g conn back e.writer e'.writer end × OnlyWrites e e' k k'
+  DoesOver (tasks.Share address connections member name stands_by) conn back e e' k k' end =
+      SharesOver g conn back (IsShared member.now name.now) held (IsBound address.now) ends calls
+      e.writer e'.writer k k' (unwrap_or connections ALL_THAT_COME) end × LeavesInput e e'
   DoesOver (tasks.With work) conn back e e' k k' end =
       FindsOver g conn back end ((e' ≡ e) × (k' ≡ k))
       (λ old new. Works work e e' k k' old new end × WorkLeaves work e e' k k')

@@ -4,3 +4,4 @@ pub mod Replaying
 pub mod Doing
 pub mod Running
 pub mod Following
+pub mod Sharing

@@ -34,6 +34,7 @@ use Rattle.bank_commands.specs.Commands.{EndsPost, PrintsDrive, PrintsLoad, Prin
 use Rattle.bank_commands.specs.Doing.{OnlyWrites, TaskLeaves}
 use Rattle.bank_commands.specs.Following.{PrintsFollow}
 use Rattle.bank_commands.specs.Replaying.{PrintsDigest, PrintsReplay}
+use Rattle.bank_commands.specs.Sharing.{PrintsShared}
 
 -- clap takes the words for a command, or finds no fault in them
 abbrev pub AreTaken : List Text → Type 0
@@ -91,6 +92,7 @@ abbrev pub TaskTells : Task → (e e' : Known) → Result Status CommandFault �
 TaskTells tasks.Init e e' end = PrintsNone e.writer e'.writer end (TellsLine e.writer e'.writer created_line end)
 TaskTells tasks.Migrate e e' end = PrintsNone e.writer e'.writer end
     ((migrated : Migrated) × TellsLine e.writer e'.writer (migration_line migrated) end)
+TaskTells (tasks.Share address connections member name stands_by) e e' end = PrintsShared e.writer e'.writer end
 TaskTells (tasks.With work) e e' end = DoesNothing e e' end ⊎ WorkTells work e e' end
 
 abbrev pub Tells : Command → (e e' : Known) → Result Status CommandFault → Type 0

@@ -15,10 +15,11 @@ use crate::migration::migrate_over;
 use crate::replaying::{digest_found, export_found, plan_found, replay_found};
 use crate::reports::{audit_found, statement_found, statements_found};
 use crate::serving::serve_found;
+use crate::sharing::share_over;
 use bank_replays::Watch;
 use bank_store::Bank;
 use branch_loader::FollowWatch;
-use command_line::{CommandFault, Network, Plans, Status, Task, Work};
+use command_line::{CommandFault, Network, Plans, Sharing, Status, Task, Work};
 use posting_core::{Clock, Sink, Source};
 use sqlite::{Alter, Connection};
 use sqlite_trees::store::Store;
@@ -49,7 +50,7 @@ pub fn command_over<
     requires range { IsTaskInRange task.now }
     ensures does { DoesOver S.Store (P.is_named plans.now) (known_source P.Plan.remaining P.Plan.calls)
         (N.is_bound network.now) (known_ends N.Clients.Reader.remaining N.Clients.Reader.calls N.Clients.Reader.beside
-        N.Clients.Writer.contents N.Clients.Writer.calls) N.Clients.calls
+        N.Clients.Writer.contents N.Clients.Writer.calls) N.Clients.calls (N.is_shared network.now) N.Log.known
         task.now conn result.conn (known_ends R.remaining R.calls R.beside W.contents W.calls (input.old, output.old))
         (known_ends R.remaining R.calls R.beside W.contents W.calls (input.new, output.new))
         (K.readings clock.old) (K.readings clock.new)
@@ -61,6 +62,23 @@ pub fn command_over<
     match task {
         Task::Init => init_over(alloc, conn, output),
         Task::Migrate => migrate_over(alloc, conn, output),
+        Task::Share {
+            address,
+            connections,
+            member,
+            name,
+            stands_by,
+        } => {
+            let sharing = Sharing {
+                member: *member,
+                name: *name,
+                stands_by: *stands_by,
+            };
+            let most = connections.unwrap_or(u64::MAX);
+            share_over(
+                alloc, conn, network, &sharing, *address, most, output, clock, watch,
+            )
+        }
         Task::With(work) => work_over(
             alloc, conn, work, plans, network, watch, input, output, clock,
         ),
@@ -91,7 +109,7 @@ fn work_over<
     requires range { IsWorkInRange work.now }
     ensures does { DoesOver S.Store (P.is_named plans.now) (known_source P.Plan.remaining P.Plan.calls)
         (N.is_bound network.now) (known_ends N.Clients.Reader.remaining N.Clients.Reader.calls N.Clients.Reader.beside
-        N.Clients.Writer.contents N.Clients.Writer.calls) N.Clients.calls
+        N.Clients.Writer.contents N.Clients.Writer.calls) N.Clients.calls (N.is_shared network.now) N.Log.known
         (Task.With work.now) conn result.conn (known_ends R.remaining R.calls R.beside W.contents W.calls (input.old, output.old))
         (known_ends R.remaining R.calls R.beside W.contents W.calls (input.new, output.new))
         (K.readings clock.old) (K.readings clock.new)
@@ -136,7 +154,7 @@ fn work_found<
     requires { IsWorkInRange work.now }
     ensures does { Works S.Store (P.is_named plans.now) (known_source P.Plan.remaining P.Plan.calls)
         (N.is_bound network.now) (known_ends N.Clients.Reader.remaining N.Clients.Reader.calls N.Clients.Reader.beside
-        N.Clients.Writer.contents N.Clients.Writer.calls) N.Clients.calls
+        N.Clients.Writer.contents N.Clients.Writer.calls) N.Clients.calls (N.is_shared network.now) N.Log.known
         work.now (known_ends R.remaining R.calls R.beside W.contents W.calls (input.old, output.old))
         (known_ends R.remaining R.calls R.beside W.contents W.calls (input.new, output.new))
         (K.readings clock.old) (K.readings clock.new)

@@ -44,7 +44,7 @@ impl<'w> Notes<'w> {
             _ => {}
         }
         if let Command::OnFile {
-            task: Task::With(Work::Serve { address, .. }),
+            task: Task::With(Work::Serve { address, .. }) | Task::Share { address, .. },
             ..
         } = *command
         {

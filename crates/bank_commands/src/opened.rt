@@ -20,7 +20,7 @@ pub(crate) fn tell_opened<S: Alter + Drop>(
     requires { conn.old.in_transaction ≡ false }
     ensures { conn.new.in_transaction ≡ false }
 {
-    if !matches!(task, Task::With(Work::Serve { .. })) || !is_asked(rt) {
+    if !matches!(task, Task::Share { .. } | Task::With(Work::Serve { .. })) || !is_asked(rt) {
         return;
     }
     let Some(begun) = begun else {

@@ -100,6 +100,7 @@ fn tell_fault(rt: &HostRuntime, notes: &Notes<'_>) {
     match notes.fault.get() {
         Some(CommandFault::Network) => tell_address(rt, notes),
         Some(CommandFault::Damaged(_)) => tell_damage(rt, notes),
+        Some(CommandFault::NoQuorum) => tell_member(rt),
         Some(CommandFault::Memory | CommandFault::Read | CommandFault::Write) => {}
         _ => tell_file(rt, notes),
     }
@@ -112,6 +113,13 @@ fn tell_address(rt: &HostRuntime, notes: &Notes<'_>) {
             "bank: {address}: it is in use, isn't this machine's, or its port needs rights"
         );
     }
+}
+
+fn tell_member(rt: &HostRuntime) {
+    let _ = writeln!(
+        rt.stderr(),
+        "bank: no member answers there, most members are away, or there is no log of that name"
+    );
 }
 
 fn tell_damage(rt: &HostRuntime, notes: &Notes<'_>) {

@@ -4,7 +4,8 @@ ghost use Rattle.std.specs.Prelude.{◌≡◌, false};
 use bank_commands::{Ended, find, serve_found};
 use command_line::Network;
 use counter_http::{ServeWatch, TcpClients};
-use posting_core::StoredClock;
+use posting_core::{ENTRY_BYTES, StoredClock};
+use shared_log::{LogFault, SharedLog};
 use sqlite::{Alter, Connection};
 use std::alloc::{Alloc, Global};
 use std::cell::Cell;
@@ -46,6 +47,8 @@ impl<'a> Alloc for Clients<'a> {
 impl<'a> Network for Clients<'a> {
     type Clients = TcpClients<'a, HostRuntime, Unseen>;
 
+    type Log = NoLog;
+
     fn bind(&self, address: &str) -> io::Result<(Self::Clients, SocketAddr)> {
         let listener = TcpListener::bind(self.rt, address)?;
         let bound = listener.local_addr()?;
@@ -55,6 +58,32 @@ impl<'a> Network for Clients<'a> {
             TcpClients::new(self.rt.alloc(), listener, self.rt, Unseen)?,
             bound,
         ))
+    }
+
+    fn share(&self, _member: &str, _name: &str) -> Option<NoLog> {
+        None
+    }
+
+    fn is_turn(&self) -> bool {
+        true
+    }
+}
+
+/// No machines share a log here.
+#[derive(Drop)]
+pub struct NoLog;
+
+impl SharedLog for NoLog {
+    fn count(&self) -> u64 {
+        0
+    }
+
+    fn append(&mut self, _entries: &[[u8; ENTRY_BYTES]]) -> Result<(), LogFault> {
+        Err(LogFault::Unanswered)
+    }
+
+    fn read(&mut self) -> Result<Vec<[u8; ENTRY_BYTES]>, LogFault> {
+        Err(LogFault::Unanswered)
     }
 }
 

@@ -1,14 +1,21 @@
--- How a log that was followed ends the command, and what no call of the bank touches.
-use Rattle.std.proofs.Common.{◌≡◌, ℕ, List, Option, Result, Ok, Err, sym, subst}
+-- How a log that was followed ends the command.
+use Rattle.std.proofs.Common.{◌≡◌, ℕ, List, Option, Result, Ok, Err, subst}
 use Rattle.std.specs.{Prelude.OnErr, Result.IsErrOf}
-use Rattle.posting_rules.specs.{believed.Counter.Seen, declared.fault.Fault.Fault}
-use Rattle.posting_core.specs.{believed.LogEntries.AnsweredRequest, EndCalls.WriteCall}
-use Rattle.branch_loader.specs.{Followed.Did, believed.Plans.Rows, declared.follow_fault.FollowFault.FollowFault}
+use Rattle.posting_core.specs.EndCalls.{WriteCall}
+use Rattle.branch_loader.specs.declared.follow_fault.FollowFault.{FollowFault}
 use Rattle.branch_loader.specs.declared.follow_fault.FollowFault.TheVariants.{Bank, Differs, Memory, NoEntry, Read}
 use Rattle.branch_loader.specs.declared.follow_fault.FollowFault.TheVariants.{Truncated}
-use Rattle.command_line.specs.{CommandFaults.fault_of_following, Following.TellsFollowed, Lines.PrintsLine, Lines.followed_line}
-use Rattle.command_line.specs.declared.fault.CommandFault.{CommandFault, TheVariants.Write}
+use Rattle.shared_log.specs.declared.joining.JoinFault.{JoinFault}
+use Rattle.shared_log.specs.declared.joining.JoinFault.TheVariants as joining
+use Rattle.shared_log.specs.declared.log.LogFault.TheVariants as log
+use Rattle.command_line.specs.CommandFaults.{fault_of_following, fault_of_joining}
+use Rattle.command_line.specs.{Following.TellsFollowed, Lines.PrintsLine, Lines.followed_line}
+use Rattle.command_line.specs.declared.fault.CommandFault.{CommandFault, TheVariants.Memory as Refused, TheVariants.Write}
 use Rattle.command_line.proofs.{LoadEnds.never_write, Printed.part_of}
+
+-- what holds at a fault, where one is told
+pub err_holds : {P : Type 0} (r : Result (Unit {0}) CommandFault) (e : CommandFault) → r ≡ Err e → OnErr r P → P
+err_holds {P} r e is holds = subst (λ (t : Result (Unit {0}) CommandFault). OnErr t P) is holds
 
 -- the line was printed, or a prefix of it
 pub followed_printed : (count : ℕ) (w w' : Option (List ℕ)) (t t' : Option (List WriteCall))
@@ -28,14 +35,14 @@ follow_not_write (NoEntry count) is = cc is
 follow_not_write (Differs other) is = cc is
 follow_not_write Memory is = cc is
 
--- the bank was taken through calls of its own
-pub did_spare : {C : Type 0} (seen : C → Seen) (spares : C → C → Type 0) (reason : Fault → C → C → Type 0)
-    (rows : Rows) (old new : C) (entries : List AnsweredRequest) (result : Result ℕ FollowFault) → spares old old
-    → Did seen spares reason rows old new entries result → spares old new
-did_spare seen spares reason rows old new entries (Ok count) itself did = did.taken.others
-did_spare seen spares reason rows old new entries (Err (Truncated n)) itself did = did.taken.others
-did_spare seen spares reason rows old new entries (Err Read) itself did = did.taken.others
-did_spare seen spares reason rows old new entries (Err (NoEntry count)) itself did = did.taken.others
-did_spare seen spares reason rows old new entries (Err (Differs other)) itself did = did.taken.others
-did_spare seen spares reason rows old new entries (Err Memory) itself did = subst (spares old) (sym did.1) itself
-did_spare seen spares reason rows old new entries (Err (Bank fault)) itself did = did.others
+-- nor that the machines that share one weren't joined
+pub joining_not_write : (fault : JoinFault) → fault_of_joining fault ≡ Write → ⊥
+joining_not_write (joining.Differs number) is = cc is
+joining_not_write (joining.Follow cause) is = follow_not_write cause is
+joining_not_write (joining.Bank cause) is = never_write cause is
+joining_not_write (joining.Log log.Memory) is = cc is
+joining_not_write (joining.Log log.Refused) is = cc is
+joining_not_write (joining.Log log.Unanswered) is = cc is
+
+pub memory_not_write : (let fault : CommandFault = Refused in fault) ≡ Write → ⊥
+memory_not_write is = cc is

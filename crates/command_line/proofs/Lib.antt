@@ -7,3 +7,4 @@ pub mod Printed
 pub mod Filled
 mod Examples
 pub mod FollowEnds
+pub mod Joining

@@ -23,6 +23,9 @@ use Rattle.counter_http.specs.declared.listen_fault.ListenFault.{ListenFault}
 use Rattle.counter_http.specs.declared.listen_fault.ListenFault.TheVariants as listen
 use Rattle.posting_rules.specs.declared.open_fault.OpenFault.{OpenFault}
 use Rattle.posting_rules.specs.declared.open_fault.OpenFault.TheVariants as opening
+use Rattle.shared_log.specs.declared.joining.JoinFault.{JoinFault}
+use Rattle.shared_log.specs.declared.joining.JoinFault.TheVariants as joining
+use Rattle.shared_log.specs.declared.log.LogFault.TheVariants as log
 use Rattle.command_line.specs.QueryTexts.{query_text}
 use Rattle.command_line.specs.declared.fault.CommandFault.{CommandFault}
 use Rattle.command_line.specs.declared.fault.CommandFault.TheVariants as fault
@@ -56,6 +59,8 @@ status_of (fault.NoAccount account) = Input
 status_of (fault.NoRequest count) = Input
 status_of (fault.Query query) = Input
 status_of fault.Network = System
+status_of fault.NoQuorum = System
+status_of (fault.OtherEntry number) = Differs
 
 -- the text of a fault; that of a plan's, of a sheet's and of a reply's fault, and of another reply, is its own
 abbrev pub fault_text : CommandFault → List ℕ
@@ -83,6 +88,8 @@ fault_text (fault.NoAccount account) = codes "no account " ++ decimal account
 fault_text (fault.NoRequest count) = codes "no request " ++ decimal count
 fault_text (fault.Query query) = query_text query
 fault_text fault.Network = codes "network failed"
+fault_text fault.NoQuorum = codes "no quorum"
+fault_text (fault.OtherEntry number) = codes "entry " ++ decimal number ++ codes " is another than the quorum's"
 
 -- why a bank wasn't made or found
 abbrev pub fault_of_opening : OpenFault → CommandFault
@@ -141,6 +148,14 @@ fault_of_following (follow.NoEntry count) = fault.NoEntry count
 fault_of_following (follow.Differs other) = fault.Differs other
 fault_of_following follow.Memory = fault.Memory
 fault_of_following (follow.Bank cause) = fault_of_bank cause
+
+-- why the machines that share a log weren't joined
+abbrev pub fault_of_joining : JoinFault → CommandFault
+fault_of_joining (joining.Differs number) = fault.OtherEntry number
+fault_of_joining (joining.Follow cause) = fault_of_following cause
+fault_of_joining (joining.Bank cause) = fault_of_bank cause
+fault_of_joining (joining.Log log.Memory) = fault.Memory
+fault_of_joining (joining.Log other) = fault.NoQuorum
 
 -- why a drive ended before its last record
 abbrev pub fault_of_drive : DriveFault → CommandFault

@@ -1,7 +1,7 @@
 -- The program's command line as clap's specification sees it: which commands there are, what each takes, and which of
 -- them clap matched.
 use Rattle.std.specs.Prelude.{◌≡◌, ◌⊎◌, ◌≤◌, ⊤, ℕ, List, [], ◌∷◌, Option, None, Some, Ok, Err, IfSome, IsSomeAnd}
-use Rattle.std.specs.Prelude.{true, false, codes, fold, if◌then◌else◌, option_map, unwrap_or}
+use Rattle.std.specs.Prelude.{◌&&◌, ◌||◌, is_some, true, false, codes, fold, if◌then◌else◌, option_map, unwrap_or}
 use Rattle.std.specs.Str.{bytes_eq}
 use Rattle.std.specs.Str.Parse.{digits_value, without_leading_plus}
 use Rattle.clap.specs.Words.{App, Row, Rule, Text, app_of, first_of, new_app, new_rule, one_of, with_rule, with_subcommand}
@@ -14,11 +14,12 @@ use Rattle.command_line.specs.declared.limits.TheConstants.{MAX_CONNECTIONS}
 use Rattle.message_records.specs.declared.limits.TheConstants.{MAX_ACCOUNT}
 use Rattle.posting_sheets.specs.declared.money.Money.{Money}
 use Rattle.posting_sheets.specs.declared.money.Money.TheVariants.{Cents, Decimals}
-use Rattle.command_line.specs.Queries.{query_in}
+use Rattle.command_line.specs.Queries.{is_set, query_in}
+use Rattle.command_line.specs.declared.queries.QueryFault.TheVariants.{Sharing as OneMissing}
 use Rattle.command_line.specs.declared.reading.Command.{Command as Asked}
 use Rattle.command_line.specs.declared.reading.Command.TheVariants.{Decode, Encode, Mistaken, OnFile, Why}
 use Rattle.command_line.specs.declared.reading.Task.{Task}
-use Rattle.command_line.specs.declared.reading.Task.TheVariants.{Init, Migrate, With}
+use Rattle.command_line.specs.declared.reading.Task.TheVariants.{Init, Migrate, Share, With}
 use Rattle.command_line.specs.declared.reading.Work.{Work}
 use Rattle.command_line.specs.declared.reading.Work.TheVariants.{Audit, Digest, Drive, Export, Follow, Load, Log, Plan, Post}
 use Rattle.command_line.specs.declared.reading.Work.TheVariants.{Replay, Serve, Statement, Statements}
@@ -178,9 +179,25 @@ abbrev pub follow_app : App
 follow_app = with_rule (with_rule (new_app (codes "follow")) file_rule) plan_rule
 
 -- `serve FILE ADDR [--connections N]`
-abbrev pub serve_app : App
-serve_app =
+abbrev pub alone_app : App
+alone_app =
     with_rule (with_rule (with_rule (new_app (codes "serve")) file_rule) address_rule) connections_rule
+
+-- `--quorum HOST:PORT`, a member of the quorum that keeps a log
+abbrev pub quorum_rule : Rule
+quorum_rule = text_rule (codes "quorum")
+
+-- `--name NAME`, the log's name
+abbrev pub name_rule : Rule
+name_rule = text_rule (codes "name")
+
+-- `--standby`, until it is its turn
+abbrev pub standby_rule : Rule
+standby_rule = flag_rule (codes "standby")
+
+-- the same with `[--quorum HOST:PORT] [--name NAME] [--standby]`
+abbrev pub serve_app : App
+serve_app = with_rule (with_rule (with_rule alone_app quorum_rule) name_rule) standby_rule
 
 -- `migrate FILE`
 abbrev pub migrate_app : App
@@ -254,6 +271,18 @@ money_of_flag (Some text) = if bytes_eq text (codes "true") then Decimals else C
 abbrev pub money_in : List Row → Money
 money_in rows = money_of_flag (first_of (codes "words") rows)
 
+-- no option of a log that machines share is given
+abbrev pub IsAlone : List Row → Type 0
+IsAlone rows = (first_of (codes "quorum") rows ≡ None) × (first_of (codes "name") rows ≡ None)
+    × (is_set (first_of (codes "standby") rows) ≡ false)
+
+-- or one of them, and the member or the name is missing
+abbrev pub IsHalfShared : List Row → Type 0
+IsHalfShared rows =
+    ((is_some (first_of (codes "quorum") rows) && is_some (first_of (codes "name") rows)) ≡ false)
+    × ((is_some (first_of (codes "quorum") rows) || is_some (first_of (codes "name") rows)
+    || is_set (first_of (codes "standby") rows)) ≡ true)
+
 -- the work has this name, and its files and numbers are the values of its arguments
 abbrev pub IsWorkOf : Text × List Row → Work → Type 0
 IsWorkOf p (Load plan) = (p.0 ≡ codes "load") × IsText (codes "plan") p.1 plan.now
@@ -271,11 +300,15 @@ IsWorkOf p (Log after) = (p.0 ≡ codes "log") × (after ≡ unwrap_or (spelled 
 IsWorkOf p Plan = p.0 ≡ codes "plan"
 IsWorkOf p (Follow plan) = (p.0 ≡ codes "follow") × IsText (codes "plan") p.1 plan.now
 IsWorkOf p (Serve address connections) = (p.0 ≡ codes "serve") × IsText (codes "address") p.1 address.now
-    × (connections ≡ spelled (one_of (codes "connections") p.1))
+    × (connections ≡ spelled (one_of (codes "connections") p.1)) × IsAlone p.1
 
 abbrev pub IsTaskOf : Text × List Row → Task → Type 0
 IsTaskOf p Init = p.0 ≡ codes "init"
 IsTaskOf p Migrate = p.0 ≡ codes "migrate"
+IsTaskOf p (Share address connections member name stands_by) = (p.0 ≡ codes "serve")
+    × IsText (codes "address") p.1 address.now × (connections ≡ spelled (one_of (codes "connections") p.1))
+    × IsText (codes "quorum") p.1 member.now × IsText (codes "name") p.1 name.now
+    × (stands_by ≡ is_set (first_of (codes "standby") p.1))
 IsTaskOf p (With work) = IsWorkOf p work
 
 -- the command has this name, and its file and all else that it says are the values of its arguments
@@ -285,7 +318,9 @@ IsCommandOf p (Why file) = (p.0 ≡ codes "why") × IsText (codes "file") p.1 fi
 IsCommandOf p Encode = p.0 ≡ codes "encode"
 IsCommandOf p (Decode money sheet) = (p.0 ≡ codes "decode") × (money ≡ money_in p.1)
     × (option_map (λ s. s.now) sheet ≡ first_of (codes "sheet") p.1)
-IsCommandOf p (Mistaken fault) = ((p.0 ≡ codes "statement") ⊎ (p.0 ≡ codes "statements")) × (Err fault ≡ query_in p.1)
+IsCommandOf p (Mistaken fault) =
+    (((p.0 ≡ codes "statement") ⊎ (p.0 ≡ codes "statements")) × (Err fault ≡ query_in p.1))
+    ⊎ ((p.0 ≡ codes "serve") × (fault ≡ OneMissing) × IsHalfShared p.1)
 
 -- the numbers of a work are in their ranges
 abbrev pub IsWorkInRange : Work → Type 0
@@ -296,6 +331,7 @@ IsWorkInRange _ = ⊤
 
 abbrev pub IsTaskInRange : Task → Type 0
 IsTaskInRange (With work) = IsWorkInRange work
+IsTaskInRange (Share address connections member name stands_by) = IfSome connections (λ n. (1 ≤ n) × (n ≤ MAX_CONNECTIONS))
 IsTaskInRange _ = ⊤
 
 -- and so are those of a command

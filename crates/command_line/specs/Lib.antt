@@ -13,3 +13,4 @@ pub mod Translating
 pub mod Replaying
 pub mod Prompting
 pub mod Following
+pub mod Sharing

@@ -13,6 +13,7 @@ use Rattle.clap.specs.declared.error.kind.ErrorKind.{ErrorKind}
 use Rattle.clap.specs.declared.error.kind.ErrorKind.TheVariants as kind
 use Rattle.posting_core.specs.believed.EndCalls.{EndsWith}
 use Rattle.posting_core.specs.EndCalls.{HasWriteFailed, IsFlush, IsThrough, WriteCall}
+use Rattle.shared_log.specs.declared.joining.Joined.{Joined}
 use Rattle.report_contents.specs.Written.{AppendsPart}
 use Rattle.command_line.specs.CommandFaults.{fault_text}
 use Rattle.command_line.specs.declared.fault.CommandFault.{CommandFault}
@@ -63,6 +64,10 @@ already_line version = line (codes "already version " ++ signed_decimal version)
 -- where the counter listens
 abbrev pub listening_line : SocketAddr → List ℕ
 listening_line address = line (codes "listening " ++ socket_text address)
+
+-- so many entries the quorum held, and so many it and the bank hold now
+abbrev pub joined_line : Joined → List ℕ
+joined_line joined = line (codes "quorum held " ++ decimal joined.held ++ codes " holds " ++ decimal joined.holds)
 
 -- why a command ended, on standard error
 abbrev pub fault_line : CommandFault → List ℕ

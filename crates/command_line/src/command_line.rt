@@ -4,7 +4,8 @@ ghost use Rattle.clap.specs.Words.{App, Rule, app_of, new_app, rule_of, with_rul
 ghost use Rattle.command_line.specs.CommandLine.{IsApp, account_app, bank_alone, bank_app, decode_app, digest_app};
 ghost use Rattle.command_line.specs.CommandLine.{drive_app, export_app, file_rule, flag_rule, follow_app, init_app};
 ghost use Rattle.command_line.specs.CommandLine.{load_app, log_app, number_rule, optional_rule, required_rule};
-ghost use Rattle.command_line.specs.CommandLine.{serve_app, statement_app, statements_app, text_rule, why_app};
+ghost use Rattle.command_line.specs.CommandLine.{alone_app, serve_app, statement_app, statements_app, text_rule};
+ghost use Rattle.command_line.specs.CommandLine.{why_app};
 ghost use Rattle.command_line.specs.CommandLine.{with_days, with_query};
 
 use crate::limits::MAX_CONNECTIONS;
@@ -202,6 +203,17 @@ fn follow_command<'a>(alloc: Global) -> Result<Command<'a>, AllocError>
 
 fn serve_command<'a>(alloc: Global) -> Result<Command<'a>, AllocError>
     ensures { IfOk result (IsApp serve_app) }
+{
+    let serve = alone_command(alloc);
+    let quorum = optional_text(alloc, "quorum", "HOST:PORT", texts::QUORUM);
+    let name = optional_text(alloc, "name", "NAME", texts::LOG_NAME);
+    let standby = flag(alloc, "standby", texts::STANDBY);
+    with_argument(with_argument(with_argument(serve, quorum), name), standby)
+}
+
+// The same without the options of a log that machines share.
+fn alone_command<'a>(alloc: Global) -> Result<Command<'a>, AllocError>
+    ensures { IfOk result (IsApp alone_app) }
 {
     let serve = command_on_file(alloc, "serve", counter::SERVE);
     let address = required_argument(alloc, "address", "ADDR", texts::ADDRESS);

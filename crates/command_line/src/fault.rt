@@ -3,8 +3,8 @@ ghost use Rattle.std.specs.Prelude.{◌≡◌};
 ghost use Rattle.std.specs.IoError.{error_kind};
 ghost use Rattle.command_line.specs.Looking.{IsOfLook, IsOfPlanFile, IsOfSheetFile, fault_of_look};
 ghost use Rattle.command_line.specs.Looking.{fault_of_plan_file, fault_of_sheet_file};
-ghost use Rattle.command_line.specs.CommandFaults.{fault_of_bank, fault_of_drive, fault_of_following, fault_of_opening};
-ghost use Rattle.command_line.specs.CommandFaults.{fault_of_plan, fault_of_replies, fault_of_serving, fault_of_sheet};
+ghost use Rattle.command_line.specs.CommandFaults.{fault_of_bank, fault_of_drive, fault_of_following, fault_of_joining};
+ghost use Rattle.command_line.specs.CommandFaults.{fault_of_opening, fault_of_plan, fault_of_replies, fault_of_serving, fault_of_sheet};
 ghost use Rattle.command_line.specs.CommandFaults.{fault_of_stream, status_of};
 
 use crate::queries::QueryFault;
@@ -15,6 +15,7 @@ use load_driver::DriveFault;
 use message_records::{Account, BadReply};
 use posting_core::{BankTable, Count, Fault, OpenFault, Rule, StreamFault};
 use posting_sheets::{RepliesFault, SheetFault};
+use shared_log::{JoinFault, LogFault};
 use std::fmt;
 use std::io::{self, ErrorKind};
 
@@ -75,6 +76,11 @@ pub enum CommandFault {
     Query(QueryFault),
     /// Status 3. The address can't be bound or has no text, or the listener gave no connection.
     Network,
+    /// Status 3. No member of the quorum was reached, it gave no answer in time, or it has no log of this name. What was
+    /// answered before stands.
+    NoQuorum,
+    /// Status 5. The bank's entry with this number, counted from 1, is another than the quorum's. Nothing was served.
+    OtherEntry(Count),
 }
 
 impl CommandFault {
@@ -124,7 +130,8 @@ impl CommandFault {
             | CommandFault::Damaged(_)
             | CommandFault::Read
             | CommandFault::Write
-            | CommandFault::Network => Status::System,
+            | CommandFault::Network
+            | CommandFault::NoQuorum => Status::System,
             CommandFault::Truncated(_)
             | CommandFault::Plan(_)
             | CommandFault::Postings(_)
@@ -142,7 +149,7 @@ impl CommandFault {
             | CommandFault::NoAccount(_)
             | CommandFault::NoRequest(_)
             | CommandFault::Query(_) => Status::Input,
-            CommandFault::Differs(_) => Status::Differs,
+            CommandFault::Differs(_) | CommandFault::OtherEntry(_) => Status::Differs,
         }
     }
 }
@@ -185,6 +192,10 @@ impl fmt::Display for CommandFault {
             CommandFault::NoRequest(count) => return write!(f, "no request {count}"),
             CommandFault::Query(fault) => return write!(f, "{fault}"),
             CommandFault::Network => "network failed",
+            CommandFault::NoQuorum => "no quorum",
+            CommandFault::OtherEntry(number) => {
+                return write!(f, "entry {number} is another than the quorum's");
+            }
         };
         f.write_str(text)
     }
@@ -318,6 +329,21 @@ impl From<ListenFault> for CommandFault {
         match fault {
             ListenFault::Network => CommandFault::Network,
             ListenFault::Bank(fault) => CommandFault::from(fault),
+        }
+    }
+}
+
+/// Why `serve` didn't join the machines that share a log.
+impl From<JoinFault> for CommandFault {
+    ghost from_gives = { λ joining fault. fault ≡ fault_of_joining joining };
+
+    fn from(fault: JoinFault) -> CommandFault {
+        match fault {
+            JoinFault::Differs(number) => CommandFault::OtherEntry(number),
+            JoinFault::Follow(fault) => CommandFault::from(fault),
+            JoinFault::Bank(fault) => CommandFault::from(fault),
+            JoinFault::Log(LogFault::Memory) => CommandFault::Memory,
+            JoinFault::Log(_) => CommandFault::NoQuorum,
         }
     }
 }

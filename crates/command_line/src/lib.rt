@@ -42,6 +42,7 @@ mod queries;
 mod reading;
 mod replaying;
 mod serving;
+mod sharing;
 mod status;
 mod texts;
 mod translating;
@@ -53,8 +54,8 @@ pub use following::follow_into;
 pub use limits::MAX_CONNECTIONS;
 pub use lines::{
     ListeningLine, explain, print_after, print_already, print_created, print_driven,
-    print_followed, print_listening, print_loaded, print_migrated, print_usable, tell,
-    tell_no_words,
+    print_followed, print_joined, print_listening, print_loaded, print_migrated, print_usable,
+    tell, tell_no_words,
 };
 pub use loading::{Plans, load_from, load_into};
 pub use prompting::prompt;
@@ -62,5 +63,6 @@ pub use queries::QueryFault;
 pub use reading::{Command, Task, Work, read_words};
 pub use replaying::{print_agreeing, print_differing, print_digest};
 pub use serving::{Network, listen};
+pub use sharing::{Sharing, listen_shared};
 pub use status::Status;
 pub use translating::{translate_replies, translate_sheet};

@@ -8,7 +8,8 @@ ghost use Rattle.posting_core.specs.EndCalls.{HasWriteFailed, IsFlush};
 ghost use Rattle.command_line.specs.CommandFaults.{status_of};
 ghost use Rattle.command_line.specs.Lines.{IsHelpOrVersion, IsShown, PrintsLine, WritesOut, already_line};
 ghost use Rattle.command_line.specs.Lines.{after_line, created_line, driven_line, fault_line, followed_line};
-ghost use Rattle.command_line.specs.Lines.{listening_line, loaded_line, migrated_line, no_words_line, usable_line};
+ghost use Rattle.command_line.specs.Lines.{joined_line, listening_line, loaded_line, migrated_line, no_words_line};
+ghost use Rattle.command_line.specs.Lines.{usable_line};
 ghost use Rattle.command_line.specs.Statuses.{status_of_no_words};
 ghost use Rattle.report_contents.specs.Written.{AppendsPart};
 
@@ -20,6 +21,7 @@ use clap::error::ErrorKind;
 use itoa::Buffer;
 use load_driver::Driven;
 use posting_core::{Count, Sink, write_out};
+use shared_log::Joined;
 use std::fmt::Write as WriteText;
 use std::io;
 use std::io::Write;
@@ -113,6 +115,17 @@ pub fn print_already<W: Sink>(version: i64, output: &mut W) -> Result<(), Comman
     ensures failed { OnErr result (HasWriteFailed (W.calls output.old) (W.calls output.new)) }
 {
     print_line(already_text(version).as_str(), output)
+}
+
+/// Prints how many entries the quorum held before a machine joined, and how many both hold now, as
+/// `quorum held 1000 holds 1004`.
+pub fn print_joined<W: Sink>(joined: Joined, output: &mut W) -> Result<(), CommandFault>
+    ensures prints { PrintsLine (joined_line joined) (W.contents output.old) (W.contents output.new)
+        (W.calls output.old) (W.calls output.new) result }
+    ensures fault { OnErr result (IsErrOf result CommandFault.Write) }
+    ensures failed { OnErr result (HasWriteFailed (W.calls output.old) (W.calls output.new)) }
+{
+    print_line(joined_text(joined).as_str(), output)
 }
 
 /// Prints the address with its port at which the counter listens, as `listening 127.0.0.1:8080`.
@@ -234,6 +247,20 @@ fn already_text(version: i64) -> ArrayString<LINE>
     let mut line = ArrayString::new();
     line.push_str("already version ");
     line.push_str(digits.format(version));
+    line.push_str("\n");
+    line
+}
+
+// The line that `serve` prints first where machines share its log.
+fn joined_text(joined: Joined) -> ArrayString<LINE>
+    ensures { result.bytes ≡ joined_line joined }
+{
+    let mut digits = Buffer::new();
+    let mut line = ArrayString::new();
+    line.push_str("quorum held ");
+    line.push_str(digits.format(joined.held));
+    line.push_str(" holds ");
+    line.push_str(digits.format(joined.holds));
     line.push_str("\n");
     line
 }

@@ -8,7 +8,7 @@ use posting_sheets::reference_of;
 use report_contents::{Layout, Query, Selection};
 use std::fmt;
 
-/// Why what is asked of a statement is none.
+/// Why what is asked of a statement, or of a counter that shares its log, is none.
 #[derive(Clone, Copy, Debug, PartialEq, Eq)]
 pub enum QueryFault {
     /// `--from` has no date.
@@ -21,6 +21,8 @@ pub enum QueryFault {
     Order,
     /// `--reference` has no reference.
     Reference,
+    /// Of `--quorum` and `--name` one is missing, or both beside `--standby`.
+    Sharing,
 }
 
 impl fmt::Display for QueryFault {
@@ -36,6 +38,7 @@ impl fmt::Display for QueryFault {
             QueryFault::Zone => write!(f, "no zone in --zone"),
             QueryFault::Order => write!(f, "--to is before --from"),
             QueryFault::Reference => write!(f, "no reference in --reference"),
+            QueryFault::Sharing => write!(f, "--quorum and --name go together"),
         }
     }
 }
@@ -93,7 +96,7 @@ fn layout_told(csv: bool, zone: Option<&str>) -> Layout
 }
 
 // Whether a flag is set, by the value that clap makes of it.
-fn is_set(value: Option<&str>) -> bool
+pub(crate) fn is_set(value: Option<&str>) -> bool
     ensures { result ≡ is_set (option_map (λ s. s.now) value.entry) }
 {
     match value {

@@ -1,15 +1,16 @@
 //! Which of the program's commands the words of the command line ask for, and on which files.
-ghost use Rattle.std.specs.Prelude.{◌≡◌, IfErr, IfOk, IfSome, IsErrAnd, IsSomeAnd, codes, map, option_map, true};
+ghost use Rattle.std.specs.Prelude.{◌≡◌, ◌≤◌, IfErr, IfNone, IfOk, IfSome, IsErrAnd, IsSomeAnd, codes, false, map, option_map, true};
 ghost use Rattle.clap.specs.Words.{FailsBy, fault_of, first_of, found_of, kind_of, one_of, rows_of, subcommand_of};
 ghost use Rattle.clap.specs.Words.{subcommand_rows_of, takes};
-ghost use Rattle.command_line.specs.CommandLine.{AreInRange, IsCommandOf, IsNumber, IsText, IsWorkInRange, IsWorkOf};
-ghost use Rattle.command_line.specs.CommandLine.{bank_app, money_in, money_of_flag, spelled};
+ghost use Rattle.command_line.specs.CommandLine.{AreInRange, IsCommandOf, IsHalfShared, IsNumber, IsTaskInRange};
+ghost use Rattle.command_line.specs.CommandLine.{IsTaskOf, IsText, IsWorkInRange, IsWorkOf, bank_app, money_in};
+ghost use Rattle.command_line.specs.CommandLine.{money_of_flag, spelled};
 ghost use Rattle.command_line.specs.Queries.{query_in};
 ghost use Rattle.command_line.specs.Words.{AsksForHelp, IsHelp, IsReadFrom, words_read};
 
 use crate::command_line::bank_command;
 use crate::limits::MAX_CONNECTIONS;
-use crate::queries::{QueryFault, query_told};
+use crate::queries::{QueryFault, is_set, query_told};
 use clap::ArgMatches;
 use clap::error::ErrorKind;
 use load_driver::MAX_DRIVEN;
@@ -39,7 +40,7 @@ pub enum Command<'a> {
         money: Money,
         sheet: Option<&'a str>,
     },
-    /// Write statements, of something that can't be asked.
+    /// Write statements, of something that can't be asked; or serve over a log that isn't told.
     Mistaken(QueryFault),
 }
 
@@ -50,6 +51,17 @@ pub enum Task<'a> {
     Init,
     /// Carry the bank, which an older version made, over to this version.
     Migrate,
+    /// Serve the bank that is there, over a log that machines share.
+    Share {
+        address: &'a str,
+        connections: Option<u64>,
+        /// A member of the quorum that keeps the log, as a host and a port.
+        member: &'a str,
+        /// The log's name.
+        name: &'a str,
+        /// It follows the log until it is its turn.
+        stands_by: bool,
+    },
     /// Work with the bank that is there.
     With(Work<'a>),
 }
@@ -191,6 +203,7 @@ fn command_on_file<'a>(name: &str, file: &'a str, values: &ArgMatches<'a>) -> Op
         }),
         "statement" => statement_in(file, values),
         "statements" => Some(statements_in(file, values)),
+        "serve" => served_in(file, values),
         _ => match work_of(name, values) {
             Some(work) => Some(Command::OnFile {
                 file,
@@ -232,6 +245,68 @@ fn statements_in<'a>(file: &'a str, values: &ArgMatches<'a>) -> Command<'a>
     }
 }
 
+// A counter that a subcommand's file and its other values tell, if they tell one.
+fn served_in<'a>(file: &'a str, values: &ArgMatches<'a>) -> Option<Command<'a>>
+    requires { IsText (codes "file") (rows_of (found_of values.now)) file.now }
+    ensures command { IfSome result (IsCommandOf (codes "serve", rows_of (found_of values.now))) }
+    ensures ranges { IfSome result AreInRange }
+{
+    let address = text_in(values, "address")?;
+    let connections = number_if_any(values, "connections")?;
+    if !is_in_range(connections) {
+        return None;
+    }
+    match serving_in(address, connections, values) {
+        Some(task) => Some(Command::OnFile { file, task }),
+        None => Some(Command::Mistaken(QueryFault::Sharing)),
+    }
+}
+
+// A counter at this address, over a log that machines share if that is told; none where half of it is.
+fn serving_in<'a>(
+    address: &'a str,
+    connections: Option<u64>,
+    values: &ArgMatches<'a>,
+) -> Option<Task<'a>>
+    requires address { IsText (codes "address") (rows_of (found_of values.now)) address.now }
+    requires connections { connections ≡ spelled (one_of (codes "connections") (rows_of (found_of values.now))) }
+    requires range { IfSome connections (λ n. (1 ≤ n) × (n ≤ MAX_CONNECTIONS)) }
+    ensures task { IfSome result (IsTaskOf (codes "serve", rows_of (found_of values.now))) }
+    ensures ranges { IfSome result IsTaskInRange }
+    ensures half { IfNone result (IsHalfShared (rows_of (found_of values.now))) }
+{
+    let member = text_in(values, "quorum");
+    let name = text_in(values, "name");
+    let stands_by = is_set(text_in(values, "standby"));
+    match (member, name) {
+        (Some(member), Some(name)) => Some(Task::Share {
+            address,
+            connections,
+            member,
+            name,
+            stands_by,
+        }),
+        (None, None) => alone_in(address, connections, stands_by),
+        (Some(_), None) => None,
+        (None, Some(_)) => None,
+    }
+}
+
+// The same where no log is told: none where one is to be followed.
+fn alone_in<'a>(address: &'a str, connections: Option<u64>, stands_by: bool) -> Option<Task<'a>>
+    ensures task { IfSome result (λ task. (task ≡ Task.With (Work.Serve address.entry connections)) × (stands_by ≡ false)) }
+    ensures none { IfNone result (stands_by ≡ true) }
+{
+    if stands_by {
+        None
+    } else {
+        Some(Task::With(Work::Serve {
+            address,
+            connections,
+        }))
+    }
+}
+
 // The work that a subcommand's name and its values beside the file tell, if they tell one that is no statement.
 fn work_of<'a>(name: &str, values: &ArgMatches<'a>) -> Option<Work<'a>>
     ensures work { IfSome result (IsWorkOf (name.now, rows_of (found_of values.now))) }
@@ -258,10 +333,6 @@ fn work_of<'a>(name: &str, values: &ArgMatches<'a>) -> Option<Work<'a>>
         "follow" => Some(Work::Follow {
             plan: text_in(values, "plan")?,
         }),
-        "serve" => serve_in(
-            text_in(values, "address")?,
-            number_if_any(values, "connections")?,
-        ),
         _ => None,
     }
 }
@@ -306,17 +377,13 @@ fn drive_in<'a>(seed: u64, count: u64) -> Option<Work<'a>>
     Some(Work::Drive { seed, count })
 }
 
-// A counter at this address, if the number of its connections is in its range.
-fn serve_in(address: &str, connections: Option<u64>) -> Option<Work<'_>>
-    ensures work { IfSome result (λ work. work ≡ Work.Serve address.entry connections) }
-    ensures ranges { IfSome result IsWorkInRange }
+// Whether the number of a counter's connections is in its range.
+fn is_in_range(connections: Option<u64>) -> bool
+    ensures { result ≡ true → IfSome connections (λ n. (1 ≤ n) × (n ≤ MAX_CONNECTIONS)) }
 {
     match connections {
-        Some(count) if count < 1 || count > MAX_CONNECTIONS => None,
-        _ => Some(Work::Serve {
-            address,
-            connections,
-        }),
+        Some(count) => count >= 1 && count <= MAX_CONNECTIONS,
+        None => true,
     }
 }
 

@@ -1,5 +1,5 @@
 //! What `serve` does with a bank.
-ghost use Rattle.std.specs.Prelude.{⊤, ◌≡◌, ℕ, List, IfErr, IfOk};
+ghost use Rattle.std.specs.Prelude.{⊤, ◌≡◌, ℕ, List, [], IfErr, IfOk, IfSome};
 ghost use Rattle.std.specs.Result.{IsErrOf};
 ghost use Rattle.counter_http.specs.Connections.{known_ends};
 ghost use Rattle.command_line.specs.Working.{ServesAt, ServesOver, done_after};
@@ -8,14 +8,17 @@ ghost use Rattle.posting_core.specs.EndCalls.{HasWriteFailed};
 use crate::{CommandFault, ListeningLine, print_listening};
 use counter_http::{Clients, serve_together};
 use posting_core::{Clock, Followed, Sink};
+use shared_log::SharedLog;
 use std::alloc::Global;
 use std::io;
 use std::net::SocketAddr;
 
-/// What gives the clients that come to an address. It opens no file. A type of its own may also know which clients are which
-/// address's.
+/// What gives the clients that come to an address, and the log that machines share. It opens no file. A type of its own may
+/// also know which clients are which address's.
 pub trait Network {
     type Clients: Clients + Drop;
+
+    type Log: SharedLog + Drop;
 
     /// The clients are those that come to this address, where it is known.
     ghost is_bound: { Self → List ℕ → Self.Clients → Type 0 } = { λ _ _ _. ⊤ };
@@ -27,6 +30,18 @@ pub trait Network {
     /// Those of the system.
     fn bind(&self, address: &str) -> io::Result<(Self::Clients, SocketAddr)>
         ensures { IfOk result (λ it. is_bound self.now address.now it.0) };
+
+    /// The log is the one under this name that this member of a quorum tells of, where it is known.
+    ghost is_shared: { Self → List ℕ → List ℕ → Self.Log → Type 0 } = { λ _ _ _ _. ⊤ };
+
+    /// The log under a name, by a member at a host and a port, of which nothing is known yet; none where nobody answers
+    /// there, or memory is refused.
+    fn share(&self, member: &str, name: &str) -> Option<Self::Log>
+        ensures shared { IfSome result (is_shared self.now member.now name.now) }
+        ensures fresh { IfSome result (λ log. IfSome (Self.Log.known log) (λ entries. entries ≡ [])) };
+
+    /// Whether a machine that stands by is to serve from now on. It waits a while before it says no.
+    fn is_turn(&self) -> bool;
 }
 
 /// Binds the address, prints where it listens, and serves so many clients by a bank.

@@ -165,13 +165,24 @@ answer is taken. Where 256 are connected, whoever is idle longest gives way to
 the next. A request cut off this way may or may not have been posted. Resend it
 on another connection: it is posted once, and gets its first reply.
 
+With --quorum and --name machines share a log, and a posting is answered once a
+quorum of etcd's members has its entry there. Put 20 zeros under the key
+bank/NAME/end once, and open the plan's branches on each machine by `load`. At
+its start the bank follows the log to its end, appends what only it has, and
+prints `quorum held N holds N`, before `listening`. Where no quorum answers it
+asks again for up to 32 s, then answers 503 and ends with status 3. With --standby
+it follows that log until standard input gives something or ends, and serves then.
+
 Examples:
   bank serve bank.db 127.0.0.1:8080
+  bank serve bank.db 127.0.0.1:8080 --quorum 127.0.0.1:2379 --name office
   curl --data-binary @record http://127.0.0.1:8080/post
   curl http://127.0.0.1:8080/branches
 
 Statuses: 0 after N connections, 2 no command, and with a line on standard
 error
+  3  no quorum: HOST:PORT is no member, most members are away, or there is no
+     log NAME
   3  network failed: ADDR is in use, is of another machine, has an unknown
      host, has no port or one above 65535, or has a port that needs rights
   3  store fault: FILE can't be used, is in use, or the disk is full or failed:
@@ -179,6 +190,10 @@ error
   3  no memory: the machine refused memory
   3  write failed: standard output failed
   3  damaged rule N: FILE has rows that no history could produce
+  5  entry N is another than the quorum's: FILE has postings that nobody was
+     told of; make it anew, by `init` and `load`
+  5  entry N stands .. due ..: FILE lacks a branch of the plan, or its floor is
+     another
   4  no bank, foreign tables, a table defined otherwise, version N: FILE is no
      bank: see `bank help faults`",
 };

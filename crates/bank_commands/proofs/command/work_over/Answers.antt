@@ -1,9 +1,11 @@
 -- No bank was found, and nothing was done; or the work was done with the one that was.
 use Rattle.std.proofs.Common.{refl}
 use Rattle.bank_commands.proofs.{Spared.done_over, Spared.none_over, Unwritten.refused_not_write}
+use Rattle.bank_commands.specs.Doing.{DoesOver}
 use Rattle.bank_commands.proofs.command.work_over.Goals as goal
 
 pub returns-in-Err : goal.returns-in-Err
+unfolding DoesOver
 returns-in-Err g c =
     let it = c.in-Err.ensures in
     record {
@@ -13,6 +15,7 @@ returns-in-Err g c =
     }
 
 pub returns : goal.returns
+unfolding DoesOver
 returns g c =
     let it = c.work_found-end.ensures in
     record {

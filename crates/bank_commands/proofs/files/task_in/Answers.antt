@@ -23,6 +23,6 @@ pub returns : goal.returns
 returns g c =
     let does = c.command_over-end.ensures.does in
     record {
-      tells = task_told _ _ _ _ _ _ c.args.task.now _ _ _ _ _ _ _ does;
-      leaves = task_left _ _ _ _ _ _ c.args.task.now _ _ _ _ _ _ _ does;
+      tells = task_told _ _ _ _ _ _ _ _ c.args.task.now _ _ _ _ _ _ _ does;
+      leaves = task_left _ _ _ _ _ _ _ _ c.args.task.now _ _ _ _ _ _ _ does;
     }

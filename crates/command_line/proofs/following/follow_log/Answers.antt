@@ -1,15 +1,11 @@
 -- The entries were followed to the end, or up to a fault.
-use Rattle.std.proofs.Common.{rules, ◌≡◌, Err, Ok, Result, subst}
-use Rattle.std.specs.Prelude.{OnErr}
+use Rattle.std.proofs.Common.{rules, ◌≡◌, Err, Ok}
 use Rattle.std.proofs.KnownBytes.{Keeps-refl}
 use Rattle.command_line.specs.CommandFaults.{fault_of_following}
-use Rattle.command_line.proofs.FollowEnds.{did_spare, follow_not_write, followed_printed}
-use Rattle.command_line.specs.declared.fault.CommandFault.{CommandFault}
+use Rattle.shared_log.proofs.Spared.{did_spare}
+use Rattle.command_line.proofs.FollowEnds.{err_holds, follow_not_write, followed_printed}
 use Rattle.command_line.specs.declared.fault.CommandFault.TheVariants.{Write}
 use Rattle.command_line.proofs.following.follow_log.Goals as goal
-
-err_holds : {P : Type 0} (r : Result (Unit {0}) CommandFault) (e : CommandFault) → r ≡ Err e → OnErr r P → P
-err_holds {P} r e is holds = subst (λ (t : Result (Unit {0}) CommandFault). OnErr t P) is holds
 
 pub returns-in_err-followed : goal.returns-in_err-followed
 returns-in_err-followed g c =

@@ -18,3 +18,6 @@ returns-in-statements-clause-command c = rw c.in-statements.is c.statements_in.e
 
 pub returns-in-Some-clause-command : goal.returns-in-Some-clause-command
 returns-in-Some-clause-command c = (c.requires, c.in-Some.ensures.work)
+
+pub returns-in-serve-clause-command : goal.returns-in-serve-clause-command
+returns-in-serve-clause-command c = rw c.in-serve.is c.served_in.ensures.command
