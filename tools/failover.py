@@ -2,6 +2,7 @@
 """What comes of a bank when a machine is lost beneath 16 tellers who post over HTTP. Each round something fails at a
 random moment, and is then checked: each answered posting stands once, with its reply, and the books agree.
 
+    tools/failover.py quorum [ROUNDS]      over a log that a quorum keeps, as by examples/quorum: failover_quorum.py
     tools/failover.py volume [ROUNDS]      on the replicated volume of examples/cluster: failover_volume.py says how
     tools/failover.py follower [ROUNDS]    with another machine that follows, as by examples/standby.sh:
                                            failover_follower.py
@@ -19,7 +20,7 @@ from serve_client import Failed, need_program
 
 def main():
     kind, count = (sys.argv[1:] + ["", "100"][len(sys.argv) - 1:])[:2]
-    if kind not in ("volume", "follower"):
+    if kind not in ("quorum", "volume", "follower"):
         sys.exit(__doc__)
     need_program()
     signal.signal(signal.SIGTERM, lambda *_: sys.exit("failover: stopped"))
