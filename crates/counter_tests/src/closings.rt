@@ -5,7 +5,7 @@ use message_records::{
     Account, Branch, Cents, Moment, Number, Outcome, REPLY_BYTES, Request, Teller, decode_reply,
     encode_request,
 };
-use posting_core::{Closing, ClosingRow, Counter, PlainBank};
+use posting_core::{Closing, ClosingRow, Counter, PlainBank, branch_of_teller};
 use std::alloc::{AllocError, Global};
 
 // The outcome of a cent to account 1, by teller 1 of branch 1, under this number.
@@ -59,12 +59,11 @@ fn told<C: Counter>(
     bank: &mut C,
     (teller, number, account, cents): Cash,
 ) -> Option<(Outcome, i64)> {
-    let branch = Branch::new((teller - 1) / 10 + 1)?;
     let (teller, number) = (Teller::new(teller)?, Number::new(number)?);
     let request = Request::new(
         Account::new(account)?,
         teller,
-        branch,
+        Branch::new(branch_of_teller(teller))?,
         number,
         Cents::new(cents)?,
         None,

@@ -111,7 +111,7 @@ pub const POSTS_AND_WATCHES: &[u8] = b"POST /post HTTP/1.1\r\nContent-Length: 10
 
 /// The figures after it and a record that was refused, which were taken together, while two are connected.
 pub const FIGURES_ANSWER: &[u8] =
-    b"HTTP/1.1 200 OK\r\nContent-Type: text/plain; version=0.0.4\r\nContent-Length: 1040\r\n\r\n\
+    b"HTTP/1.1 200 OK\r\nContent-Type: text/plain; version=0.0.4\r\nContent-Length: 1112\r\n\r\n\
     # HELP bank_postings_total Records replied to with outcome 00; one that is sent again counts again.\n\
     # TYPE bank_postings_total counter\n\
     bank_postings_total 1\n\
