@@ -15,7 +15,6 @@ pub enum BankTable {
     Request,
     Floor,
     Reference,
-    Closing,
 }
 
 impl BankTable {
@@ -35,7 +34,6 @@ impl BankTable {
             BankTable::Request => "request",
             BankTable::Floor => "branch_floor",
             BankTable::Reference => "request_reference",
-            BankTable::Closing => "closing",
         }
     }
 }

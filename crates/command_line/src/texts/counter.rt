@@ -157,8 +157,7 @@ Requests:
 The records that come while the bank is busy are posted together. A connection
 may carry many requests. ADDR is a host and a port, and port 0 takes one that
 is free. It is meant for a network that is trusted: anybody who reaches the
-address may post. With BANK_WAIT in the environment it waits, where another
-process has FILE open, until it hasn't.
+address may post.
 
 A client that is slow loses its connection, and holds up no other. Limits:
 60 s to the next request, 10 s for a whole request, 10 s in which no byte of an

@@ -49,10 +49,7 @@ all_ours = (
             inr (inr (inr (inr (inr (inl refl))))),
             (
               inr (inr (inr (inr (inr (inr (inl refl)))))),
-              (
-                inr (inr (inr (inr (inr (inr (inr (inl refl))))))),
-                (inr (inr (inr (inr (inr (inr (inr (inr (inl refl)))))))), tt),
-              ),
+              (inr (inr (inr (inr (inr (inr (inr (inl refl))))))), tt),
             ),
           ),
         ),
