@@ -1,7 +1,7 @@
 -- The place of the first run that doesn't end before a number.
 use Rattle.std.proofs.Common.{◌≡◌, ◌≤◌, ◌<◌, ◌+◌, ◌∙◌, ℕ, zero, suc, Bool, true, false, leb, ltb, List, [], ◌∷◌, length, get_or}
 use Rattle.std.proofs.Common.{Option, Some, None, refl, sym, ap, subst, inl, inr, arith}
-use Rattle.std.specs.Prelude.{◌&&◌, ◌||◌, slice_get}
+use Rattle.std.specs.Prelude.{◌&&◌, ◌||◌, slice_get, IfSome}
 use Rattle.std.specs.List.Sorted.{IsNonDecreasingBy, IsPartitionPoint}
 use Rattle.std.proofs.lemmas.Bool.{leb-false, ltb-true, Decides.nat_tests}
 use Rattle.posting_rules.specs.declared.rows.ClosingRow.{ClosingRow}
@@ -122,3 +122,33 @@ ends_above all runs again place x found run is same rise at looked some =
       own = here.own;
       has = λ y low high. ap (λ (l : List ClosingRow). is_closed_in l y) (sym is) ∙ here.has y low high;
     }
+
+-- ---- the numbers before the run at a place
+
+free_before : (low y : ℕ) (runs : List ClosingRow) (place : ℕ) → RiseFrom low runs
+    → ((k : ℕ) (d : ClosingRow) → k < place → k < length runs → (get_or runs k d).last < y)
+    → IfSome (slice_get runs place) (λ r. y < r.first) → is_closed_in runs y ≡ false
+free_before low y [] place rise before first = refl
+free_before low y (r ∷ runs) zero rise before first =
+    let f : (leb r.first y && leb y r.last) ≡ false = grind (arith, nat_tests) in
+    rw f (below_runs (r.last + 2) y runs rise.2 (omega (arith, rise.1)))
+free_before low y (r ∷ runs) (suc place) rise before first =
+    let past : r.last < y = before 0 r (omega arith) (omega arith) in
+    let f : (leb r.first y && leb y r.last) ≡ false = grind (arith, nat_tests) in
+    rw f
+    (free_before (r.last + 2) y runs place rise.2
+    (λ k d lt within. before (suc k) d (omega (arith, lt)) (omega (arith, within))) first)
+
+-- between a number by which all before the place end, and the run there, none has a number
+pub free_between : (all runs again : List ClosingRow) (place x y : ℕ) (found : Option ClosingRow) → runs ≡ all
+    → again ≡ runs → RiseFrom 0 runs → IsPartitionPoint (λ r. leb r.last x ≡ true) (λ r. leb r.last x ≡ false) runs place
+    → found ≡ slice_get again place → x < y → IfSome found (λ r. y < r.first) → is_closed_in all y ≡ false
+free_between all runs again place x y found is same rise at looked over first =
+    ap (λ (l : List ClosingRow). is_closed_in l y) (sym is)
+    ∙ free_before 0 y runs place rise
+    (λ k d lt within. below (get_or runs k d).last (at.0 k d (omega (arith, within)) lt))
+    (subst (λ (o : Option ClosingRow). IfSome o (λ r. y < r.first))
+    (looked ∙ ap (λ (l : List ClosingRow). slice_get l place) same) first)
+  where
+    below : (l : ℕ) → leb l x ≡ true → l < y
+    below l t = grind (arith, nat_tests)

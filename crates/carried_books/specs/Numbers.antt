@@ -1,5 +1,5 @@
 -- Numbers of tellers by their keys, as runs that don't touch.
-use Rattle.std.specs.Prelude.{◌≡◌, ◌≢◌, ◌≤◌, ◌+◌, ◌==◌, ℕ, min, List, [], ◌∷◌, Option, Some, None, IfSome, if◌then◌else◌}
+use Rattle.std.specs.Prelude.{◌≡◌, ◌≢◌, ◌≤◌, ◌+◌, ◌<◌, ◌==◌, ℕ, Bool, true, false, min, List, [], ◌∷◌, Option, Some, None, IfSome, if◌then◌else◌}
 use Rattle.posting_rules.specs.declared.rows.ClosingRow.{ClosingRow}
 use Rattle.posting_rules.specs.believed.Closings.{is_closed_in}
 
@@ -15,6 +15,16 @@ SameNumbers one other = (x : ℕ) → is_closed_in one x ≡ is_closed_in other 
 -- one of them has the number, and the other hasn't
 abbrev pub DifferAt : (one other : List ClosingRow) → ℕ → Type 0
 DifferAt one other x = is_closed_in one x ≢ is_closed_in other x
+
+-- none of them is above this number
+abbrev pub NoneAbove : List ClosingRow → ℕ → Type 0
+NoneAbove runs x = (y : ℕ) → x < y → is_closed_in runs y ≡ false
+
+-- of them y is the least above x
+pub record NextAbove (runs : List ClosingRow) (x y : ℕ) : Type 0 where
+  pub above : x < y
+  pub one : is_closed_in runs y ≡ true
+  pub least : (z : ℕ) → x < z → z < y → is_closed_in runs z ≡ false
 
 -- a number that one of two runs has and the other hasn't, if there is one: the first of the one that begins earlier, or the
 -- one after the last of the one that ends earlier

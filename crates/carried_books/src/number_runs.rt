@@ -3,7 +3,7 @@ ghost use Rattle.std.specs.Prelude.{◌≡◌, ◌<◌, true, ◌≤◌, ◌+◌
 ghost use Rattle.std.specs.Prelude.{nat_le, slice_get};
 ghost use Rattle.posting_rules.specs.declared.rows.ClosingRow.{ClosingRow as Run};
 ghost use Rattle.posting_rules.specs.believed.Closings.{is_closed_in, meets};
-ghost use Rattle.carried_books.specs.Numbers.{BeginsBy, ComesAfter, DifferAt, RiseFrom, SameNumbers, apart_at, as_list};
+ghost use Rattle.carried_books.specs.Numbers.{BeginsBy, ComesAfter, DifferAt, NextAbove, NoneAbove, RiseFrom, SameNumbers, apart_at, as_list};
 
 use posting_rules::ClosingRow;
 use std::alloc::{AllocError, Global};
@@ -150,7 +150,7 @@ impl NumberRuns {
     /// The least number that it has above a key, if there is one.
     #[must_use]
     pub fn next_above(&self, key: u64) -> Option<u64>
-        ensures { IfSome result (λ x. (key < x) × (is_closed_in self.now x ≡ true)) }
+        ensures { MatchOption result (NoneAbove self.now key) (NextAbove self.now key) }
     {
         let place = self.runs.partition_point(|run| run.last <= key);
         let run = run_at(&self.runs, place)?;
