@@ -1,5 +1,5 @@
 -- Numbers of tellers by their keys, as runs that don't touch.
-use Rattle.std.specs.Prelude.{◌≡◌, ◌≢◌, ◌≤◌, ◌+◌, ◌<◌, ◌==◌, ℕ, Bool, true, false, min, List, [], ◌∷◌, Option, Some, None, IfSome, if◌then◌else◌}
+use Rattle.std.specs.Prelude.{◌≡◌, ◌≢◌, ◌≤◌, ◌+◌, ◌<◌, ◌==◌, ℕ, true, false, min, List, [], ◌∷◌, Option, Some, None, IfSome, if◌then◌else◌}
 use Rattle.posting_rules.specs.declared.rows.ClosingRow.{ClosingRow}
 use Rattle.posting_rules.specs.believed.Closings.{is_closed_in}
 
