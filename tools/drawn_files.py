@@ -112,11 +112,12 @@ def is_sound(file):
 
 
 def migrated(file):
-    """Sets a bank back to version 2, or to version 1 if it has no floors, and carries it over."""
-    version = 2 if oracle.tables_of(file)["branch_floor"] else 1
-    floors = "DROP TABLE branch_floor; " if version == 1 else ""
-    wanted = oracle.tables_of(file) | {"request_reference": {}}
-    by_sql(file, f"{floors}DROP TABLE request_reference; UPDATE meta SET version = {version}")
+    """Sets a bank back to version 3, or to an earlier one that has all its rows, and carries it over."""
+    wanted = oracle.tables_of(file) | {"closing": {}}
+    version = 3 if wanted["request_reference"] else 2 if wanted["branch_floor"] else 1
+    lacking = ("branch_floor", "request_reference", "closing")[version - 1:]
+    drops = "".join(f"DROP TABLE {table}; " for table in lacking)
+    by_sql(file, f"{drops}UPDATE meta SET version = {version}")
     if done("migrate", file) != f"migrated {version} to {oracle.VERSION}\n".encode():
         fail(file, "isn't migrated")
     if oracle.tables_of(file) != wanted:

@@ -16,7 +16,7 @@ import re
 import sqlite3
 import sys
 
-VERSION = 3
+VERSION = 4
 LIMIT = 999_999_999_999
 POSTED, NO_TELLER, WRONG_BRANCH, NO_ACCOUNT, OVER_LIMIT, REUSED_NUMBER, BELOW_FLOOR, MALFORMED = 0, 11, 12, 13, 14, 15, 17, 90
 NAMES = {POSTED: "POSTED", NO_TELLER: "NO TELLER", WRONG_BRANCH: "WRONG BRANCH", NO_ACCOUNT: "NO ACCOUNT",
@@ -34,6 +34,7 @@ TABLES = {
     "history": ("posting", 10**12, "ordinal", "aid", "tid", "bid", "delta", "moment"),
     "account": ("account", 999_900_000, "aid", "balance"),
     "teller": ("teller", 99_990, "tid", "balance"),
+    "closing": ("closing", 10**18 - 1, "last", "first"),
 }
 # The tables as `init` makes them, in its order.
 MADE = {
@@ -48,6 +49,7 @@ MADE = {
                " UNIQUE (tid, number)",
     "branch_floor": "bid INTEGER PRIMARY KEY, lowest INTEGER NOT NULL",
     "request_reference": "ordinal INTEGER PRIMARY KEY, reference TEXT NOT NULL",
+    "closing": "last INTEGER PRIMARY KEY, first INTEGER NOT NULL",
 }
 SCHEMA = ";".join(f"CREATE TABLE {table} ({columns}) STRICT" for table, columns in MADE.items())
 # What a column is called before what differs in it, if not by its name.
@@ -216,7 +218,7 @@ def requests_of(tables):
 
 def made_anew(tables):
     """The tables that the kept requests lead to, where each branch is opened as late as it can be. It isn't opened with
-    a floor above zero, and one that no balance reaches is none."""
+    a floor above zero, and one that no balance reaches is none. In the end they are sealed, if they were."""
     book, moment = Book(), 0
     plan = {bid: (row[0], tables["branch_floor"].get(bid, (None,))[0]) for bid, row in tables["branch"].items()}
 
@@ -235,7 +237,7 @@ def made_anew(tables):
             book.decide(moment, request, reference)
     for bid in sorted(plan):
         open_for(bid)
-    return book.tables()
+    return book.tables() | {"closing": {0: (0,)} if 0 in tables["closing"] else {}}
 
 
 def entry_of(request, reference, posting):
@@ -268,7 +270,7 @@ def plan_line(tables):
 def unread(table, row):
     """The rule that a row breaks which can't be read, 0 if it can be."""
     key, *rest = row
-    if not 1 <= key <= TABLES[table][1]:
+    if not (0 if table == "closing" else 1) <= key <= TABLES[table][1]:
         return 6
     if table == "branch" and not 1 <= rest[0] <= 100_000:
         return 6
@@ -317,7 +319,7 @@ def replay(file):
     if len(meta) != 1:
         return ["bank: damaged rule 1"], 3
     tables = tables_of(file)
-    for table in ("branch", "branch_floor", "request", "history", "request_reference"):
+    for table in ("branch", "branch_floor", "request", "history", "request_reference", "closing"):
         for key, row in sorted(tables[table].items()):
             if unread(table, (key, *row)):
                 return [f"bank: damaged rule {unread(table, (key, *row))}"], 3

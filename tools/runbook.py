@@ -19,7 +19,7 @@ from oracle import record
 from serve_client import HERE, Failed, ensure, need_program, within
 
 # What stands behind a command and has to be in its output.
-RESULTS = ("active", "ok", "free", "AGREES", "CONSISTENT", "differs 0", "already version 3")
+RESULTS = ("active", "ok", "free", "AGREES", "CONSISTENT", "differs 0", "already version 4")
 # No command takes longer than this, in seconds.
 LONGEST = 120
 BOOT = """

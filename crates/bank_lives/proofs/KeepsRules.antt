@@ -1,4 +1,4 @@
--- The tables of a log keep each of the nine rules.
+-- The tables of a log keep each of the ten rules.
 use Rattle.std.proofs.Common.{◌≡◌, ◌≤◌, ℕ, zero, suc, ℤ, pos, List, [], ◌∷◌, length, map, None, option_map, refl, ap}
 use Rattle.std.proofs.Common.{◌∙◌, arith}
 use Rattle.posting_rules.specs.{believed.Commands.Command, believed.Commands.AreCommands, believed.Entries.decided}

@@ -43,7 +43,7 @@ pub fn life_law<C: Counter>(counter: &C)
         → ∥ ((tables : Tables) × ShowsPrefix log given least tables) ∥₁ }
 {}
 
-/// The tables of every log of a bank's commands keep each of the nine rules of `Rule`, so that a file which
+/// The tables of every log of a bank's commands keep each of the ten rules of `Rule`, so that a file which
 /// breaks one of them holds no bank.
 pub fn rules_law()
     ensures { (tables : Tables) (log : List Command) → AreCommands log → AreTablesOf tables log

@@ -27,7 +27,9 @@ has_tables s so kept =
     let floors = any_rows db kept.sound bank.floor (codes "bid") (codes "lowest" ∷ []) [] (lit≤ tt)
     refl refl refl refl so.1.1.1.1.1.1.0 rows.1.1.1.1.1.1.0 in
     let references = any_rows db kept.sound bank.reference (codes "ordinal") [] (codes "reference" ∷ []) (lit≤ tt)
-    refl refl refl refl so.1.1.1.1.1.1.1.0 rows.1.1.1.1.1.1.1.0 in (
+    refl refl refl refl so.1.1.1.1.1.1.1.0 rows.1.1.1.1.1.1.1.0 in
+    let closings = any_rows db kept.sound bank.closing (codes "last") (codes "first" ∷ []) [] (lit≤ tt)
+    refl refl refl refl so.1.1.1.1.1.1.1.1.0 rows.1.1.1.1.1.1.1.1.0 in (
       record {
         metas = metas.0;
         branches = branches.0;
@@ -37,6 +39,7 @@ has_tables s so kept =
         requests = requests.0;
         floors = floors.0;
         references = references.0;
+        closings = closings.0;
       },
       record {
         metas = metas.1;
@@ -47,5 +50,6 @@ has_tables s so kept =
         requests = requests.1;
         floors = floors.1;
         references = references.1;
+        closings = closings.1;
       },
     )

@@ -19,7 +19,7 @@ use Rattle.bank_store.specs.declared.bank.Bank.{Bank}
 use Rattle.bank_replays.specs.Following.{open_by, opening, prepared}
 use Rattle.bank_replays.specs.Refilling.{HasLog, Holds, IsPlan, IsYet, OpensBelow, OpensRest, planned_at, terms_of}
 use Rattle.bank_replays.specs.declared.{fault.ReplayFault.ReplayFault, refill.Planned.Planned, refill.Refill.Refill}
-use Rattle.bank_replays.proofs.{Followed.opening_decides, Openable.opens_or_not}
+use Rattle.bank_replays.proofs.{Followed.opening_closes, Followed.opening_decides, Openable.opens_or_not}
 
 -- ---- what is yet to be posted
 
@@ -194,6 +194,7 @@ module _ {S W : Type 0} {g : Ghosts S} (plan : ℕ → Option Terms) (is : IsPla
     now = log;
     holds = holds;
     decides = refl;
+    closes = refl;
     opens = λ b low high. absurd (omega (arith, low, high));
   }
 
@@ -203,6 +204,7 @@ module _ {S W : Type 0} {g : Ghosts S} (plan : ℕ → Option Terms) (is : IsPla
     now = opening plan b it.now;
     holds = holds;
     decides = opening_decides plan b it.now ∙ it.decides;
+    closes = opening_closes plan b it.now ∙ it.closes;
     opens = λ c low high. elim (cases_Bool (eqb b c)) [
       | inl t ↦
           subst (λ (c : ℕ). opened (opening plan b it.now) c ≡ plan c) (eqb-true b c t)
@@ -230,6 +232,7 @@ module _ {S W : Type 0} {g : Ghosts S} (plan : ℕ → Option Terms) (is : IsPla
         now = it.now;
         shows = shows;
         decides = it.decides;
+        closes = it.closes;
         opens = λ b. elim (cases_Bool (leb 1 b && leb b LAST_BRANCH)) [
           | inl t ↦
               let both = and_parts (leb 1 b) (leb b LAST_BRANCH) t in

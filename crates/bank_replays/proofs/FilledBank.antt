@@ -6,10 +6,13 @@ use Rattle.sqlite_trees.specs.declared.store.Store.{Ghosts}
 use Rattle.posting_rules.specs.believed.Commands.{AreCommands, Command, IsCommand, Open, Terms, opened}
 use Rattle.posting_rules.specs.believed.Counter.{ShowsLog}
 use Rattle.posting_rules.specs.believed.Entries.{branch_balance, decided}
-use Rattle.posting_rules.specs.believed.Tables.{AreTablesOf, Tables}
+use Rattle.posting_rules.specs.believed.Closings.{closings}
+use Rattle.posting_rules.specs.believed.Tables.{AreTablesOf, Tables, closing_key, row_at}
+use Rattle.posting_rules.specs.declared.rows.ClosingRow.{ClosingRow}
 use Rattle.posting_rules.proofs.SoundEntries.{open_within}
 use Rattle.sql_meanings.specs.believed.Entries.{Entry, Rise}
-use Rattle.store_rows.specs.believed.View.{Shows}
+use Rattle.store_rows.specs.believed.View.{Shows, closing_entry}
+use Rattle.walked_rows.proofs.Shown.{has_closings}
 use Rattle.walked_rows.specs.{KeptRows.HasKept, KeptRows.KeptItem, KeptRows.kept_all, KeptRows.kept_item, Stored.branch_entry, StoredBeside.floor_entry}
 use Rattle.walked_rows.specs.declared.{branches.StoredBranch.StoredBranch, floors.StoredFloor.StoredFloor}
 use Rattle.walked_rows.specs.declared.kept.KeptRequest.{KeptRequest}
@@ -19,10 +22,12 @@ use Rattle.bank_replays.specs.Following.{HaveSameRows, timed}
 use Rattle.bank_replays.specs.Leading.{Leads}
 use Rattle.bank_replays.specs.Refilling.{FollowsRows, Holds, IsNeverInDoubt, IsPlan, IsUnplanned, OpensRest, Plans}
 use Rattle.bank_replays.specs.Refilling.{IsYet, planned_at, terms_of, with_accounts, with_floor}
-use Rattle.bank_replays.specs.Replayed.{IsReplayOf, plan_in, planned_in}
+use Rattle.bank_replays.specs.Replayed.{IsFilledOf, IsReplayOf, plan_in, planned_in}
+use Rattle.bank_replays.specs.Sealing.{sealed_by}
 use Rattle.bank_replays.specs.declared.refill.{Planned.Planned, Refill.Refill}
 use Rattle.bank_replays.proofs.Filled.{has_log}
 use Rattle.bank_replays.proofs.{FollowedRows.kept_rows, Openable.opens_or_not, PlanRows.plan_is, PlanRows.yet_all}
+use Rattle.bank_replays.proofs.Sealing.{seal_closes, seal_decides, seal_opens}
 use Rattle.bank_replays.proofs.TakenRows.{leads_follows}
 
 -- what can be opened is all that is planned
@@ -68,7 +73,7 @@ module _ {S T W : Type 0} {g : Ghosts S} {h : Ghosts T} (old : Bank S g) (sure :
 
   pub filled : (bank : Bank T h) → ((plan : ℕ → Option Terms) → IsPlan plan → (log : List Command)
       → Holds h plan log end → OpensRest h plan log bank)
-      → (log : List Command) × ShowsLog (bank_seen h bank) log × IsReplayOf f log
+      → (log : List Command) × ShowsLog (bank_seen h bank) log × IsFilledOf f log
   filled bank rest =
       let is = λ (b : ℕ). can_be b (planned_in f.branches f.floors b) in
       let it = follows sure (plan_in f) is [] begun in
@@ -79,6 +84,7 @@ module _ {S T W : Type 0} {g : Ghosts S} {h : Ghosts T} (old : Bank S g) (sure :
           posted = it.0;
           leads = subst (λ (ks : List KeptItem). Leads (plan_in f) ks [] it.0) are_kept it.2;
           decides = all.decides;
+          closes = all.closes;
           opens = all.opens;
         },
       )
@@ -90,10 +96,16 @@ replay_same db t log commands in_file shows now it =
     let plan = plan_in (rows_due t) in
     let same : (b : ℕ) → plan b ≡ opened log b = plan_is t.branches t.floors (branch_balance (decided log))
     (λ b. opened log b) (open_within log commands) shows.rows.branches shows.rows.floors in
-    let follows = leads_follows plan (decided log) _ it.posted
+    let follows = leads_follows plan (decided log) _ it.is.posted
     (record { first = log; decides = refl; within = λ b terms is. same b ∙ is })
-    (kept_rows db t log in_file shows commands) it.leads in
+    (kept_rows db t log in_file shows commands) it.is.leads in
+    let sealed = λ (runs : List ClosingRow). sealed_by (map closing_entry runs) it.filled in
+    let ends : now ≡ sealed t.closings = it.seals in
+    let none : closings it.filled ≡ [] = it.is.closes ∙ follows.current in
     record {
-      requests = sym (ap (map timed) it.decides ∙ follows.requests);
-      branches = λ b. sym (it.opens b ∙ same b);
+      requests = sym (ap (map timed) (ap (λ (l : List Command). decided l) ends ∙ seal_decides (map closing_entry t.closings) it.filled ∙ it.is.decides) ∙ follows.requests);
+      branches = λ b. sym (ap (λ (l : List Command). opened l b) ends ∙ seal_opens (map closing_entry t.closings) it.filled b ∙ it.is.opens b ∙ same b);
+      closed = λ x. sym (shows.rows.closings x)
+          ∙ ap (λ l. row_at closing_key l x) (sym (ap (λ (l : List Command). closings l) ends
+          ∙ seal_closes t.closings in_file.alone (has_closings db t in_file).holds.rows.rise it.filled none));
     }

@@ -153,7 +153,7 @@ module _ (plan : ℕ → Option Terms) where
       go (Some first) p = refl
 
   -- and closes nothing
-  opening_closes : (b : ℕ) (log : List Command) → closings (opening plan b log) ≡ closings log
+  pub opening_closes : (b : ℕ) (log : List Command) → closings (opening plan b log) ≡ closings log
   opening_closes b log = go (opened log b) (plan b)
     where
       go : (o p : Option Terms) → closings (open_by o p b log) ≡ closings log

@@ -12,14 +12,15 @@ use Rattle.posting_rules.specs.believed.Commands.{Command, opened}
 use Rattle.posting_rules.specs.believed.Entries.{DecidedRequest, decided, is_posted, posted_sum}
 use Rattle.posting_rules.specs.believed.Numbering.{branch_of_account, branch_of_teller}
 use Rattle.posting_rules.specs.believed.Tables.{AreTablesOf, Tables, account_key, account_row, branch_key, branch_row}
+use Rattle.posting_rules.specs.believed.Tables.{closing_key}
 use Rattle.posting_rules.specs.believed.Tables.{floor_key, floor_row, history_key, history_row, history_row_of}
 use Rattle.posting_rules.specs.believed.Tables.{reference_key, reference_row, request_key, request_row, row_at}
 use Rattle.posting_rules.specs.believed.Tables.{teller_key, teller_row}
 use Rattle.sql_meanings.specs.believed.Entries.{Entry, Rise}
 use Rattle.store_rows.specs.believed.View as view
 use Rattle.walked_rows.proofs.RisingRows.{rising_keys, rising_once}
-use Rattle.walked_rows.proofs.Shown.{has_accounts, has_branches, has_floors, has_history, has_references, has_requests}
-use Rattle.walked_rows.proofs.Shown.{has_tellers}
+use Rattle.walked_rows.proofs.Shown.{has_accounts, has_branches, has_closings, has_floors, has_history, has_references}
+use Rattle.walked_rows.proofs.Shown.{has_requests, has_tellers}
 use Rattle.bank_replays.specs.Following.{HaveSameRows, timed}
 use Rattle.bank_replays.specs.NextRows.{DifferFirst, under}
 use Rattle.bank_replays.proofs.Followed.{unmoved_same}
@@ -152,7 +153,9 @@ module _ (log now : List Command) (same : HaveSameRows log now) where
       (rows_same reference_key view.reference_entry (λ r. refl) t.references due.references
       (has_references db t in_file).holds.rows.rise (has_references other due in_due).holds.rows.rise
       (λ n. shows.rows.references n ∙ references_same n ∙ sym (shows_due.rows.references n)))
-      (in_file.current ∙ sym in_due.current)
+      (rows_same closing_key view.closing_entry (λ r. refl) t.closings due.closings
+      (has_closings db t in_file).holds.rows.rise (has_closings other due in_due).holds.rows.rise
+      (λ x. shows.rows.closings x ∙ same.closed x ∙ sym (shows_due.rows.closings x)))
 
 -- the same rows never differ
 pub no_difference : {X : Type 0} (key : X → ℤ) (rows others : List X) (stands due : Option X)

@@ -12,7 +12,7 @@ use Rattle.posting_rules.proofs.Undamaged.{undamaged}
 use Rattle.sql_meanings.specs.believed.Entries.{Entry}
 use Rattle.store_rows.specs.believed.View as view
 use Rattle.walked_rows.specs.{Broken.HasBroken, KeptRows.KeptItem, KeptRows.kept_all, KeptRows.kept_with}
-use Rattle.walked_rows.proofs.Unbroken.{all_after, no_account, no_branch, no_floor, no_kept, no_meta, no_posting}
+use Rattle.walked_rows.proofs.Unbroken.{all_after, no_account, no_branch, no_closing, no_floor, no_kept, no_meta, no_posting}
 use Rattle.walked_rows.proofs.Unbroken.{no_reference, no_request, no_teller, split_map}
 use Rattle.bank_store.specs.{believed.Seen.bank_seen, believed.Seen.database_of, believed.Seen.file_of}
 use Rattle.bank_store.specs.declared.bank.Bank.{Bank}
@@ -68,7 +68,8 @@ module _ (t : Tables) (log : List Command) (are : AreCommands log) (shows : AreT
   none_broken (inr (inr (inr (inr (inr (inl h)))))) = no_request t log are shows rule h
   none_broken (inr (inr (inr (inr (inr (inr (inl h))))))) = no_floor t log are shows rule h
   none_broken (inr (inr (inr (inr (inr (inr (inr (inl h)))))))) = no_reference t log are shows rule h
-  none_broken (inr (inr (inr (inr (inr (inr (inr (inr h)))))))) = all_answered h
+  none_broken (inr (inr (inr (inr (inr (inr (inr (inr (inl h))))))))) = no_closing t log are shows rule h
+  none_broken (inr (inr (inr (inr (inr (inr (inr (inr (inr h))))))))) = all_answered h
 
 -- ---- a fault
 

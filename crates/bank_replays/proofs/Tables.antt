@@ -1,10 +1,10 @@
 -- Two files with the same rows show the same tables.
-use Rattle.std.proofs.Common.{◌≡◌, List, [], subst}
+use Rattle.std.proofs.Common.{arith, subst}
 use Rattle.sqlite.specs.{Effect.Database, State.State}
 use Rattle.posting_rules.specs.{believed.Commands.Command, believed.Counter.ShowsLog, believed.Tables.Tables}
-use Rattle.store_rows.specs.believed.View.{Shows}
+use Rattle.store_rows.specs.believed.View.{HasSealAlone, Shows}
 use Rattle.walked_rows.proofs.Shown.{has_accounts, has_branches, has_floors, has_history, has_meta, has_references}
-use Rattle.walked_rows.proofs.Shown.{has_requests, has_tellers}
+use Rattle.walked_rows.proofs.Shown.{has_closings, has_requests, has_tellers}
 use Rattle.bank_store.specs.believed.Seen.{seen_in}
 use Rattle.bank_replays.specs.FileTables.{FileTables, HasTables, SameTables, rows_due}
 
@@ -19,13 +19,15 @@ due_tables db t shows = record {
   requests = has_requests db t shows;
   floors = has_floors db t shows;
   references = has_references db t shows;
+  closings = has_closings db t shows;
 }
 
 -- a file that has their rows shows them
-shows_due : (db : Database) (t : Tables) → t.closings ≡ [] → HasTables db (rows_due t) → Shows db t
-shows_due db t current has = record {
+shows_due : (db : Database) (t : Tables) → HasSealAlone t.closings → HasTables db (rows_due t) → Shows db t
+shows_due db t alone has = record {
   sound = has.metas.sound;
-  current = current;
+  early = λ low. absurd (omega (arith, low));
+  alone = alone;
   each = (
     has.metas.holds,
     (
@@ -36,7 +38,7 @@ shows_due db t current has = record {
           has.accounts.holds,
           (
             has.history.holds,
-            (has.requests.holds, (has.floors.holds, (has.references.holds, tt))),
+            (has.requests.holds, (has.floors.holds, (has.references.holds, (has.closings.holds, tt)))),
           ),
         ),
       ),
@@ -48,7 +50,7 @@ shows_due db t current has = record {
 pub same_tables : (db other : Database) (t : Tables) (f : FileTables) → HasTables db f → Shows other t
     → SameTables db other → Shows db t
 same_tables db other t f has shows same =
-    shows_due db t shows.current (subst (HasTables db) (same f (rows_due t) has (due_tables other t shows)) has)
+    shows_due db t shows.alone (subst (HasTables db) (same f (rows_due t) has (due_tables other t shows)) has)
 
 -- and so the log that they are of
 pub same_log : (s other : State) (D E : Type 0) (f : FileTables) → HasTables s.now f

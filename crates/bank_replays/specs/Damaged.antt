@@ -14,7 +14,7 @@ use Rattle.walked_rows.specs.KeptRows.{BreaksKept, KeptItem, kept_all}
 use Rattle.walked_rows.specs.References.{listed_of}
 use Rattle.walked_rows.specs.StepOutcomes.{BreaksBy}
 use Rattle.walked_rows.specs.Stored.{account_of, branch_of, posting_of, request_of, teller_of}
-use Rattle.walked_rows.specs.StoredBeside.{floor_of, meta_of}
+use Rattle.walked_rows.specs.StoredBeside.{closing_of, floor_of, meta_of}
 use Rattle.bank_store.specs.Failures.{HasFailedToRead}
 use Rattle.bank_store.specs.believed.Seen.{bank_seen, connection_of, database_of, file_of}
 use Rattle.bank_store.specs.declared.bank.Bank.{Bank}
@@ -34,6 +34,7 @@ HasBrokenRow rule f =
     ⊎ HasBroken (BreaksBy teller_of rule) f.tellers ⊎ HasBroken (BreaksBy account_of rule) f.accounts
     ⊎ HasBroken (BreaksBy posting_of rule) f.history ⊎ HasBroken (BreaksBy request_of rule) f.requests
     ⊎ HasBroken (BreaksBy floor_of rule) f.floors ⊎ HasBroken (BreaksBy listed_of rule) f.references
+    ⊎ HasBroken (BreaksBy closing_of rule) f.closings
     ⊎ HasBroken (BreaksAnswered rule) (kept_all f.history f.references f.requests)
 
 -- where a file has these rows, rows of a kind that break the rule so are among them

@@ -4,6 +4,7 @@ use Rattle.std.specs.Ordering.{int_eq}
 use Rattle.std.specs.Fmt.{decimal, signed_decimal}
 use Rattle.walked_rows.specs.declared.accounts.StoredAccount.{StoredAccount}
 use Rattle.walked_rows.specs.declared.branches.StoredBranch.{StoredBranch}
+use Rattle.walked_rows.specs.declared.closings.StoredClosing.{StoredClosing}
 use Rattle.walked_rows.specs.declared.floors.StoredFloor.{StoredFloor}
 use Rattle.walked_rows.specs.declared.listed.StoredReference.{StoredReference}
 use Rattle.walked_rows.specs.declared.metas.StoredMeta.{StoredMeta}
@@ -11,7 +12,7 @@ use Rattle.walked_rows.specs.declared.postings.StoredPosting.{StoredPosting}
 use Rattle.walked_rows.specs.declared.requests.StoredRequest.{StoredRequest}
 use Rattle.walked_rows.specs.declared.tellers.StoredTeller.{StoredTeller}
 use Rattle.bank_replays.specs.declared.difference.Difference.{Difference}
-use Rattle.bank_replays.specs.declared.difference.Difference.TheVariants.{Account, Branch, Floor, Meta, Posting}
+use Rattle.bank_replays.specs.declared.difference.Difference.TheVariants.{Account, Branch, Closing, Floor, Meta, Posting}
 use Rattle.bank_replays.specs.declared.difference.Difference.TheVariants.{Reference, Request, Teller}
 use Rattle.bank_replays.specs.declared.difference.Sides.{Sides}
 use Rattle.bank_replays.specs.declared.shown.Column.{Column}
@@ -23,6 +24,7 @@ use Rattle.bank_replays.specs.declared.shown.Name.TheVariants as name
 -- nothing stands before a balance, nor before the floor of a branch
 abbrev pub name_text : Name → List ℕ
 name_text name.Plain = []
+name_text name.First = codes "first "
 name_text name.Version = codes "version "
 name_text name.Decided = codes "decided "
 name_text name.Accounts = codes "accounts "
@@ -93,6 +95,9 @@ both_requests a b = first_text (request_columns a b)
 abbrev pub both_floors : StoredFloor → StoredFloor → List ℕ
 both_floors a b = first_text (column_of name.Plain a.lowest b.lowest ∷ [])
 
+abbrev pub both_closings : StoredClosing → StoredClosing → List ℕ
+both_closings a b = first_text (column_of name.First a.first b.first ∷ [])
+
 abbrev pub both_references : StoredReference → StoredReference → List ℕ
 both_references a b = codes "stands " ++ a.reference ++ codes " due " ++ b.reference
 
@@ -117,3 +122,4 @@ difference_text (Posting s) = sides_text (codes "posting") (λ r. r.ordinal) bot
 difference_text (Request s) = sides_text (codes "request") (λ r. r.ordinal) both_requests s
 difference_text (Floor s) = sides_text (codes "floor") (λ r. r.branch) both_floors s
 difference_text (Reference s) = sides_text (codes "reference") (λ r. r.ordinal) both_references s
+difference_text (Closing s) = sides_text (codes "closing") (λ r. r.last) both_closings s

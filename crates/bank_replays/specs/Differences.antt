@@ -7,12 +7,12 @@ use Rattle.sql_meanings.specs.believed.Entries.{Entry}
 use Rattle.walked_rows.specs.References.{listed_entry}
 use Rattle.walked_rows.specs.Rows.{entry_key}
 use Rattle.walked_rows.specs.Stored.{account_entry, branch_entry, posting_entry, request_entry, teller_entry}
-use Rattle.walked_rows.specs.StoredBeside.{floor_entry, meta_entry}
+use Rattle.walked_rows.specs.StoredBeside.{closing_entry, floor_entry, meta_entry}
 use Rattle.bank_replays.specs.FileTables.{FileTables, HasTables, rows_due}
 use Rattle.bank_replays.specs.NextRows.{DifferFirst}
 use Rattle.bank_replays.specs.Replayed.{IsReplayOf}
 use Rattle.bank_replays.specs.declared.difference.Difference.{Difference}
-use Rattle.bank_replays.specs.declared.difference.Difference.TheVariants.{Account, Branch, Floor, Meta, Posting}
+use Rattle.bank_replays.specs.declared.difference.Difference.TheVariants.{Account, Branch, Closing, Floor, Meta, Posting}
 use Rattle.bank_replays.specs.declared.difference.Difference.TheVariants.{Reference, Request, Teller}
 
 -- the rows of its table, of all
@@ -25,6 +25,7 @@ rows_of (Posting s) f = f.history
 rows_of (Request s) f = f.requests
 rows_of (Floor s) f = f.floors
 rows_of (Reference s) f = f.references
+rows_of (Closing s) f = f.closings
 
 -- what stands, none where no row does
 abbrev pub stands_in : Difference → Option Entry
@@ -36,6 +37,7 @@ stands_in (Posting s) = option_map posting_entry s.stands
 stands_in (Request s) = option_map request_entry s.stands
 stands_in (Floor s) = option_map floor_entry s.stands
 stands_in (Reference s) = option_map listed_entry s.stands
+stands_in (Closing s) = option_map closing_entry s.stands
 
 -- and what is due
 abbrev pub due_in : Difference → Option Entry
@@ -47,6 +49,7 @@ due_in (Posting s) = option_map posting_entry s.due
 due_in (Request s) = option_map request_entry s.due
 due_in (Floor s) = option_map floor_entry s.due
 due_in (Reference s) = option_map listed_entry s.due
+due_in (Closing s) = option_map closing_entry s.due
 
 -- the rows of the tables that are compared before its table
 abbrev pub rows_before : Difference → FileTables → List (List Entry)
@@ -59,6 +62,8 @@ rows_before (Posting s) f = f.metas ∷ f.branches ∷ f.floors ∷ f.requests �
 rows_before (Account s) f = f.metas ∷ f.branches ∷ f.floors ∷ f.requests ∷ f.references ∷ f.history ∷ []
 rows_before (Teller s) f =
     f.metas ∷ f.branches ∷ f.floors ∷ f.requests ∷ f.references ∷ f.history ∷ f.accounts ∷ []
+rows_before (Closing s) f =
+    f.metas ∷ f.branches ∷ f.floors ∷ f.requests ∷ f.references ∷ f.history ∷ f.accounts ∷ f.tellers ∷ []
 
 -- those are the same, and it says the first rows of its table in which the two differ
 pub record DiffersFirst (f due : FileTables) (d : Difference) : Type 0 where

@@ -1,4 +1,4 @@
--- The rows of all eight tables of a file.
+-- The rows of all nine tables of a file.
 use Rattle.std.specs.Prelude.{◌≡◌, IsTrue, ℤ, List, [], ◌∷◌, map, nat_abs, pos, true}
 use Rattle.std.specs.List.{AllByRecursion}
 use Rattle.std.specs.Ordering.{int_cmp, is_ge}
@@ -12,7 +12,7 @@ use Rattle.sqlite_trees.specs.View.{IsShaped}
 use Rattle.sqlite_trees.specs.declared.store.Shape.TheVariants.{Table as Shaped}
 use Rattle.posting_rules.specs.believed.Tables.{Tables}
 use Rattle.sql_meanings.specs.believed.Entries.{Entry}
-use Rattle.store_rows.specs.believed.BankTables.{account, branch, floor, history, meta, reference, request, teller}
+use Rattle.store_rows.specs.believed.BankTables.{account, branch, closing, floor, history, meta, reference, request, teller}
 use Rattle.store_rows.specs.believed.View as view
 use Rattle.store_rows.specs.declared.metas.TheConstants.{VERSION}
 use Rattle.sql_meanings.specs.believed.Tables.{tree_of}
@@ -29,6 +29,7 @@ pub record FileTables : Type 0 where
   pub requests : List Entry
   pub floors : List Entry
   pub references : List Entry
+  pub closings : List Entry
 
 -- A sound database defines the tables of a bank, each as a bank's is, and has these rows, whatever they are.
 pub record HasTables (db : Database) (f : FileTables) : Type 0 where
@@ -40,6 +41,7 @@ pub record HasTables (db : Database) (f : FileTables) : Type 0 where
   pub requests : HasStoredRows db request f.requests
   pub floors : HasStoredRows db floor f.floors
   pub references : HasStoredRows db reference f.references
+  pub closings : HasStoredRows db closing f.closings
 
 -- whatever rows the two have, they are the same in every table
 abbrev pub SameTables : Database → Database → Type 0
@@ -56,6 +58,7 @@ rows_due t = record {
   requests = map view.request_entry t.requests;
   floors = map view.floor_entry t.floors;
   references = map view.reference_entry t.references;
+  closings = map view.closing_entry t.closings;
 }
 
 -- ---- what `sqlite` keeps of an open file, whoever wrote it

@@ -6,16 +6,19 @@ use Rattle.message_records.specs.declared.records.Outcome.TheVariants.{NoAccount
 use Rattle.posting_rules.specs.believed.Commands.{Command, Open, Terms, opened}
 use Rattle.posting_rules.specs.believed.Entries.{DecidedRequest, decided, is_posted}
 use Rattle.posting_rules.specs.believed.Numbering.{branch_of_account, branch_of_teller}
+use Rattle.posting_rules.specs.believed.Tables.{closing_key, row_at}
 use Rattle.posting_rules.specs.believed.Closings.{closings}
 
 -- a decided request, its moment aside where it wasn't posted: no row has that
 abbrev pub timed : DecidedRequest → DecidedRequest
 timed e = record e { moment = if is_posted e then e.moment else 0 }
 
--- Two logs lead to the same rows: they decided the same requests, and opened the same branches with the same terms.
+-- Two logs lead to the same rows: they decided the same requests, opened the same branches with the same terms, and
+-- closed the same numbers.
 pub record HaveSameRows (log other : List Command) : Type 0 where
   pub requests : map timed (decided log) ≡ map timed (decided other)
   pub branches : (b : ℕ) → opened log b ≡ opened other b
+  pub closed : (x : ℕ) → row_at closing_key (closings log) x ≡ row_at closing_key (closings other) x
 
 -- what is open here is open there, with the same terms
 abbrev pub IsWithin : (here there : ℕ → Option Terms) → Type 0

@@ -1,12 +1,12 @@
 -- Rows of each kind that break a rule are among those of a file.
 use Rattle.std.proofs.Common.{ℕ, List, inl, inr, refl, subst}
-use Rattle.store_rows.specs.believed.BankTables.{account, branch, floor, history, meta, reference, request, teller}
+use Rattle.store_rows.specs.believed.BankTables.{account, branch, closing, floor, history, meta, reference, request, teller}
 use Rattle.walked_rows.specs.KeptRows.{BreaksKept, HasKept, KeptItem, kept_all, kept_item}
 use Rattle.walked_rows.specs.References.{listed_of}
 use Rattle.walked_rows.specs.Rows.{HasStoredRows}
 use Rattle.walked_rows.specs.StepOutcomes.{BreaksBy}
 use Rattle.walked_rows.specs.Stored.{account_of, branch_of, posting_of, request_of, teller_of}
-use Rattle.walked_rows.specs.StoredBeside.{floor_of, meta_of}
+use Rattle.walked_rows.specs.StoredBeside.{closing_of, floor_of, meta_of}
 use Rattle.sqlite.specs.Effect.{Database}
 use Rattle.posting_rules.specs.declared.fault.Rule.{Rule}
 use Rattle.bank_replays.specs.{Damaged.AreHeld, Damaged.BreaksAnswered, Visiting.Bars}
@@ -36,6 +36,9 @@ floors_held db f has = (f.floors, has.floors, λ rule h. inr (inr (inr (inr (inr
 
 pub references_held : AreHeld (λ db rows. HasStoredRows db reference rows) (BreaksBy listed_of)
 references_held db f has = (f.references, has.references, λ rule h. inr (inr (inr (inr (inr (inr (inr (inl h))))))))
+
+pub closings_held : AreHeld (λ db rows. HasStoredRows db closing rows) (BreaksBy closing_of)
+closings_held db f has = (f.closings, has.closings, λ rule h. inr (inr (inr (inr (inr (inr (inr (inr (inl h)))))))))
 
 -- ---- rows that are visited
 
@@ -69,7 +72,7 @@ kept_held db f has = (
     has_references = has.references;
     are = refl;
   },
-  λ rule h. inr (inr (inr (inr (inr (inr (inr (inr h))))))),
+  λ rule h. inr (inr (inr (inr (inr (inr (inr (inr (inr h)))))))),
 )
 
 -- they can't be read

@@ -3,6 +3,7 @@ use Rattle.sqlite.specs.Held.{Held, state}
 use Rattle.sqlite.specs.State.{HasCleanDisk}
 use Rattle.sqlite_trees.specs.declared.store.Store.{Ghosts}
 use Rattle.posting_rules.specs.believed.Commands.{Command, IsCommand, Open, Post, Terms, opened, opened_with}
+use Rattle.posting_rules.specs.believed.Closings.{closings}
 use Rattle.posting_rules.specs.believed.Counter.{ShowsLog}
 use Rattle.posting_rules.specs.believed.Entries.{decided}
 use Rattle.posting_rules.specs.believed.Runs.{followed_by, posts}
@@ -124,18 +125,20 @@ pub record IsUnplanned {S W : Type 0} (g : Ghosts S) (refill : Refill S W g) : T
 
 -- ---- what is left in the end
 
--- nothing more was decided, and the branches of the plan below a number are open
+-- nothing more was decided or closed, and the branches of the plan below a number are open
 pub record OpensBelow {S W : Type 0} (g : Ghosts S) (plan : ℕ → Option Terms) (log : List Command) (number : ℕ)
     (refill : Refill S W g) : Type 0 where
   pub now : List Command
   pub holds : Holds g plan now refill
   pub decides : decided now ≡ decided log
+  pub closes : closings now ≡ closings log
   pub opens : (b : ℕ) → 1 ≤ b → b < number → opened now b ≡ plan b
 
--- it shows a log that decided nothing more, and all of the plan is open
+-- it shows a log that decided and closed nothing more, and all of the plan is open
 pub record OpensRest {S : Type 0} (g : Ghosts S) (plan : ℕ → Option Terms) (log : List Command) (bank : Bank S g) : Type 0
   where
     pub now : List Command
     pub shows : ShowsLog (bank_seen g bank) now
     pub decides : decided now ≡ decided log
+    pub closes : closings now ≡ closings log
     pub opens : (b : ℕ) → opened now b ≡ plan b

@@ -2,17 +2,17 @@
 ghost use Rattle.std.specs.Prelude.{◌≡◌, ◌≢◌, ◌↔◌, pos, List, IsTrue, Some};
 ghost use Rattle.sqlite.specs.Effect.{Database};
 ghost use Rattle.bank_replays.specs.Damaged.{AreHeld};
-ghost use Rattle.bank_replays.specs.Holding.{accounts_held, branches_held, floors_held, history_held, metas_held};
+ghost use Rattle.bank_replays.specs.Holding.{accounts_held, branches_held, closings_held, floors_held, history_held, metas_held};
 ghost use Rattle.bank_replays.specs.Holding.{references_held, requests_held, tellers_held};
 ghost use Rattle.bank_replays.specs.NextRows.{AreFirst, HaveRisingKeys, Sets};
-ghost use Rattle.bank_replays.specs.declared.difference.Difference.TheVariants.{Account, Branch, Floor, Meta, Posting};
+ghost use Rattle.bank_replays.specs.declared.difference.Difference.TheVariants.{Account, Branch, Closing, Floor, Meta, Posting};
 ghost use Rattle.bank_replays.specs.declared.difference.Difference.TheVariants.{Reference, Request, Teller};
 
 use crate::difference::{Difference, Sides};
 use crate::visitors::SmallRow;
 use walked_rows::{
-    StoredAccount, StoredBranch, StoredFloor, StoredMeta, StoredPosting, StoredReference,
-    StoredRequest, StoredTeller,
+    StoredAccount, StoredBranch, StoredClosing, StoredFloor, StoredMeta, StoredPosting,
+    StoredReference, StoredRequest, StoredTeller,
 };
 
 /// A row that is compared with the one that the rules give.
@@ -248,6 +248,28 @@ impl Compared for StoredFloor {
         ensures { result ≡ Difference.Floor sides }
     {
         Difference::Floor(sides)
+    }
+}
+
+impl Compared for StoredClosing {
+    ghost Says = { λ d s. d ≡ Closing s };
+
+    ghost held = { closings_held };
+
+    ghost rise = { λ db rows has. has.holds.rows.rise };
+
+    fn is_same(&self, due: &Self) -> bool {
+        self == due
+    }
+
+    fn number(&self) -> u64 {
+        self.last.get()
+    }
+
+    fn difference(sides: Sides<Self>) -> Difference
+        ensures { result ≡ Difference.Closing sides }
+    {
+        Difference::Closing(sides)
     }
 }
 

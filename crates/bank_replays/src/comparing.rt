@@ -16,8 +16,8 @@ use bank_store::{Bank, Walk, each_row};
 use posting_rules::Fault;
 use sqlite::Alter;
 use walked_rows::{
-    StoredAccount, StoredBranch, StoredFloor, StoredMeta, StoredPosting, StoredReference,
-    StoredRequest, StoredTeller,
+    StoredAccount, StoredBranch, StoredClosing, StoredFloor, StoredMeta, StoredPosting,
+    StoredReference, StoredRequest, StoredTeller,
 };
 
 // Compares the rows that two walks give, up to the first difference.
@@ -118,7 +118,39 @@ fn compare_four<S: Alter, T: Alter, A: Compared, B: Compared, C: Compared, D: Co
     }
 }
 
-/// Compares the rows of all eight tables of two banks, up to the first difference.
+// Compares the rows of five kinds.
+fn compare_five<
+    S: Alter,
+    T: Alter,
+    A: Compared,
+    B: Compared,
+    C: Compared,
+    D: Compared,
+    E: Compared,
+>(bank: &mut Bank<S>, due: &mut Bank<T>) -> Result<Option<Difference>, Fault>
+    ensures { Compares S.Store T.Store bank.old bank.new due.old due.new
+        (Both (Both (Both (SameRows A.WalkedRow.HasItems) (SameRows B.WalkedRow.HasItems))
+        (Both (SameRows C.WalkedRow.HasItems) (SameRows D.WalkedRow.HasItems)))
+        (SameRows E.WalkedRow.HasItems))
+        (Either (Both (Both (SameRows A.WalkedRow.HasItems) (SameRows B.WalkedRow.HasItems))
+        (Both (SameRows C.WalkedRow.HasItems) (SameRows D.WalkedRow.HasItems)))
+        (Either (Both (SameRows A.WalkedRow.HasItems) (SameRows B.WalkedRow.HasItems))
+        (Either (SameRows A.WalkedRow.HasItems)
+        (DiffersIn A.WalkedRow.key A.WalkedRow.item A.Compared.Says A.WalkedRow.HasItems)
+        (DiffersIn B.WalkedRow.key B.WalkedRow.item B.Compared.Says B.WalkedRow.HasItems))
+        (Either (SameRows C.WalkedRow.HasItems)
+        (DiffersIn C.WalkedRow.key C.WalkedRow.item C.Compared.Says C.WalkedRow.HasItems)
+        (DiffersIn D.WalkedRow.key D.WalkedRow.item D.Compared.Says D.WalkedRow.HasItems)))
+        (DiffersIn E.WalkedRow.key E.WalkedRow.item E.Compared.Says E.WalkedRow.HasItems)) result }
+{
+    match compare_four::<S, T, A, B, C, D>(bank, due) {
+        Ok(None) => compare::<S, T, E>(bank, due),
+        Ok(Some(difference)) => Ok(Some(difference)),
+        Err(fault) => Err(fault),
+    }
+}
+
+/// Compares the rows of all nine tables of two banks, up to the first difference.
 pub(crate) fn compare_all<S: Alter, T: Alter>(
     bank: &mut Bank<S>,
     due: &mut Bank<T>,
@@ -128,9 +160,15 @@ pub(crate) fn compare_all<S: Alter, T: Alter>(
 {
     match compare_four::<S, T, StoredMeta, StoredBranch, StoredFloor, StoredRequest>(bank, due) {
         Ok(None) => {
-            compare_four::<S, T, StoredReference, StoredPosting, StoredAccount, StoredTeller>(
-                bank, due,
-            )
+            compare_five::<
+                S,
+                T,
+                StoredReference,
+                StoredPosting,
+                StoredAccount,
+                StoredTeller,
+                StoredClosing,
+            >(bank, due)
         }
         Ok(Some(difference)) => Ok(Some(difference)),
         Err(fault) => Err(fault),

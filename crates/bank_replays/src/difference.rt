@@ -1,8 +1,8 @@
 //! What a replay says: where the rows of two banks differ.
 use crate::chain::Digest;
 use walked_rows::{
-    StoredAccount, StoredBranch, StoredFloor, StoredMeta, StoredPosting, StoredReference,
-    StoredRequest, StoredTeller,
+    StoredAccount, StoredBranch, StoredClosing, StoredFloor, StoredMeta, StoredPosting,
+    StoredReference, StoredRequest, StoredTeller,
 };
 
 /// The row that stands under a key, and the one that the rules give; none where there is no such row.
@@ -23,6 +23,7 @@ pub enum Difference {
     Request(Sides<StoredRequest>),
     Floor(Sides<StoredFloor>),
     Reference(Sides<StoredReference>),
+    Closing(Sides<StoredClosing>),
 }
 
 /// What can be written down of a bank that agrees: the digest of its requests, and SHA-256 of the plan of its branches

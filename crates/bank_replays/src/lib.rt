@@ -1,6 +1,6 @@
 //! The replay of a bank in a file: are its tables what the rules give?
 //!
-//! [`replay`] makes a second bank in memory, gives it what the file's rows say, and compares all eight tables of
+//! [`replay`] makes a second bank in memory, gives it what the file's rows say, and compares all nine tables of
 //! the two, row by row. Where it returns [`Replay::Agrees`], the file's tables are those of a log, so that all
 //! that is promised of every log holds of them, whatever wrote the file. Else it returns the first difference.
 //! It changes nothing. The function `first_replay` of `store_tests`, which a test runs, returns whether a bank
@@ -47,6 +47,7 @@ mod plan_digests;
 mod ram;
 mod refill;
 mod replays;
+mod seals;
 mod shown;
 mod visitors;
 mod watch;

@@ -11,7 +11,7 @@ ghost use Rattle.bank_replays.specs.Differences.{DiffersFrom};
 ghost use Rattle.bank_replays.specs.FileTables.{FileTables, HasTables, IsKept};
 ghost use Rattle.bank_replays.specs.Reading.{IsOnlyRead, ReadsBank};
 ghost use Rattle.bank_replays.specs.Refilling.{IsNeverInDoubt, IsUnplanned};
-ghost use Rattle.bank_replays.specs.Replayed.{ShowsReplay};
+ghost use Rattle.bank_replays.specs.Replayed.{ShowsFilled, ShowsReplay};
 ghost use Rattle.bank_replays.specs.Replays.{AreDigestsIn, IsOfNoLog, OnAgrees, OnDiffers, Replays};
 
 use crate::comparing::compare_all;
@@ -21,6 +21,7 @@ use crate::fault::{ReplayFault, bank_fault};
 use crate::plan_digests::digest_plan;
 use crate::ram::Ram;
 use crate::refill::{Filling, Refill};
+use crate::seals::seal_as;
 use crate::visitors::visit_all;
 use crate::watch::Watch;
 use bank_store::{Bank, Refused, create};
@@ -38,7 +39,7 @@ fn fill<S: Alter, T: Alter + Drop, W: Watch + Drop>(
     ensures why { TellsWhy S.Store fault_in bank.old bank.new result }
     ensures replays { HasCleanDisk (file_of bank.new) → IsNeverInDoubt T.Store → IsUnplanned T.Store refill.old
         → ShowsLog (bank_seen T.Store refill.old.bank) []
-        → OnOk result (ShowsReplay S.Store T.Store bank.old refill.new.bank) }
+        → OnOk result (ShowsFilled S.Store T.Store bank.old refill.new.bank) }
 {
     visit_all::<S, StoredBranch, Refill<T, W>, Filling>(bank, &Filling, refill)?;
     visit_all::<S, StoredFloor, Refill<T, W>, Filling>(bank, &Filling, refill)?;
@@ -46,7 +47,7 @@ fn fill<S: Alter, T: Alter + Drop, W: Watch + Drop>(
     refill.finish()
 }
 
-// The second bank, once it is filled.
+// The second bank, once it is filled, and sealed where the first is.
 fn refilled<S: Alter, T: Alter + Drop, W: Watch + Drop>(
     bank: &mut Bank<S>,
     due: Bank<T>,
@@ -61,7 +62,7 @@ fn refilled<S: Alter, T: Alter + Drop, W: Watch + Drop>(
     let filled = fill(bank, &mut refill);
     let due = refill.into_bank();
     match filled {
-        Ok(()) => Ok(due),
+        Ok(()) => seal_as(bank, due),
         Err(fault) => Err(bank_fault(fault)),
     }
 }

@@ -1,7 +1,7 @@
 //! The text of a difference.
 ghost use Rattle.std.specs.Prelude.{◌≡◌, ◌≤◌, ◌+◌, ◌++◌, ℕ, List, codes, find, pos, length, refl};
 ghost use Rattle.std.specs.Fmt.{decimal};
-ghost use Rattle.bank_replays.specs.DifferenceText.{both_accounts, both_branches, both_floors, both_metas};
+ghost use Rattle.bank_replays.specs.DifferenceText.{both_accounts, both_branches, both_closings, both_floors, both_metas};
 ghost use Rattle.bank_replays.specs.DifferenceText.{both_postings, both_references, both_requests, both_tellers};
 ghost use Rattle.bank_replays.specs.DifferenceText.{column_of, difference_text, first_text, is_different, name_text};
 ghost use Rattle.bank_replays.specs.DifferenceText.{sides_text};
@@ -14,8 +14,8 @@ use itoa::Buffer;
 use report_contents::push_text;
 use std::fmt;
 use walked_rows::{
-    StoredAccount, StoredBranch, StoredFloor, StoredMeta, StoredPosting, StoredReference,
-    StoredRequest, StoredTeller,
+    StoredAccount, StoredBranch, StoredClosing, StoredFloor, StoredMeta, StoredPosting,
+    StoredReference, StoredRequest, StoredTeller,
 };
 
 // The most characters that the word of a table has, and the name of a column.
@@ -38,6 +38,7 @@ enum Name {
     Delta,
     Moment,
     Outcome,
+    First,
 }
 
 // Its text, as it stands before the number.
@@ -57,6 +58,7 @@ fn name_text(name: Name) -> &'static str
         Name::Delta => "delta ",
         Name::Moment => "moment ",
         Name::Outcome => "outcome ",
+        Name::First => "first ",
     }
 }
 
@@ -183,6 +185,7 @@ fn difference_line(difference: &Difference) -> Line
         Difference::Request(sides) => line_of(sides),
         Difference::Floor(sides) => line_of(sides),
         Difference::Reference(sides) => line_of(sides),
+        Difference::Closing(sides) => line_of(sides),
     }
 }
 
@@ -359,6 +362,25 @@ impl Shown for StoredFloor {
 
     fn push_both(line: &mut Line, stands: &Self, due: &Self) {
         let columns = [column_of(Name::Plain, stands.lowest, due.lowest)];
+        push_first(line, columns.as_slice());
+    }
+}
+
+impl Shown for StoredClosing {
+    ghost word = { codes "closing" };
+
+    ghost under = { λ r. r.last };
+
+    ghost both = { both_closings };
+
+    ghost keyed = { λ r. refl };
+
+    fn word() -> &'static str {
+        "closing"
+    }
+
+    fn push_both(line: &mut Line, stands: &Self, due: &Self) {
+        let columns = [column_of(Name::First, stands.first, due.first)];
         push_first(line, columns.as_slice());
     }
 }

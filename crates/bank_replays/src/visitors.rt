@@ -16,8 +16,8 @@ use bank_store::{Bank, Walk, each_row};
 use posting_rules::Fault;
 use sqlite::Alter;
 use walked_rows::{
-    KeptRequest, StoredAccount, StoredBranch, StoredFloor, StoredMeta, StoredPosting,
-    StoredReference, StoredRequest, StoredTeller, WalkedRow,
+    KeptRequest, StoredAccount, StoredBranch, StoredClosing, StoredFloor, StoredMeta,
+    StoredPosting, StoredReference, StoredRequest, StoredTeller, WalkedRow,
 };
 
 /// A row that a walk has room for.
@@ -155,6 +155,10 @@ impl SmallRow for StoredRequest {
 }
 
 impl SmallRow for StoredFloor {
+    ghost few_bytes = { (lit< tt, lit< tt) };
+}
+
+impl SmallRow for StoredClosing {
     ghost few_bytes = { (lit< tt, lit< tt) };
 }
 

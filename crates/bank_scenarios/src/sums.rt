@@ -2,7 +2,7 @@
 use message_records::REFERENCE_BYTES;
 use sqlite::{Alter, Connection, Error};
 
-const TABLES: usize = 8;
+const TABLES: usize = 9;
 
 /// A sum over each table, in which each row and each column has a weight of its own. Moments are aside, and
 /// the version: no bank of another is taken up.
@@ -17,6 +17,7 @@ const TEXTS: [&str; TABLES] = [
     "SELECT coalesce(sum((1 + ordinal % 1009) * (1 + 3 * tid + 5 * number + 7 * aid + 11 * bid + 13 * delta + 17 * outcome + 19 * balance)), 0) FROM request",
     "SELECT coalesce(sum((1 + bid % 1009) * (1 + 3 * lowest)), 0) FROM branch_floor",
     "SELECT coalesce(sum((1 + ordinal % 1009) * (1 + 3 * instr('ABCDEFGHIJKLMNOPQRSTUVWXYZ', substr(reference, 1, 1)) + 5 * instr('ABCDEFGHIJKLMNOPQRSTUVWXYZ', substr(reference, 2, 1)))), 0) FROM request_reference",
+    "SELECT coalesce(sum((1 + last % 1009) * (1 + 3 * first)), 0) FROM closing",
 ];
 
 /// The number that a query finds.
@@ -81,7 +82,7 @@ impl ExpectedSums {
     /// A bank without branches: the one row of `meta`.
     pub fn new() -> Self {
         ExpectedSums {
-            sums: [1, 0, 0, 0, 0, 0, 0, 0],
+            sums: [1, 0, 0, 0, 0, 0, 0, 0, 0],
             decided: 0,
         }
     }

@@ -152,14 +152,15 @@ module _ (from : ℕ) (old mid new : State) (version : ℤ) (is : IsFrom version
 -- ---- where a log is shown
 
 -- the tables that its version lacks would have no rows
-none_after : (from : ℕ) → IsEarlier from → (t : Tables) (log : List Command) → AreTablesIn from t log
+none_after : (from : ℕ) → IsEarlier from → (t : Tables) (log : List Command) → AreTablesIn from t log → t.closings ≡ []
     → drop (4 + from) (rows_of t) ≡ no_rows (lacking from)
-none_after zero earlier t log shows = absurd (omega (arith, earlier.0))
-none_after (suc zero) earlier t log shows =
-    rw (has_no_floors t log shows, has_no_references 1 t log earlier.0 (omega (arith, earlier.1)) shows) refl
-none_after (suc (suc zero)) earlier t log shows =
-    rw (has_no_references 2 t log earlier.0 (omega (arith, earlier.1)) shows) refl
-none_after (suc (suc (suc n))) earlier t log shows = absurd (omega (arith, earlier.1))
+none_after zero earlier t log shows none = absurd (omega (arith, earlier.0))
+none_after (suc zero) earlier t log shows none =
+    rw (has_no_floors t log shows, has_no_references 1 t log earlier.0 (omega arith) shows, none) refl
+none_after (suc (suc zero)) earlier t log shows none =
+    rw (has_no_references 2 t log earlier.0 (omega arith) shows, none) refl
+none_after (suc (suc (suc zero))) earlier t log shows none = rw none refl
+none_after (suc (suc (suc (suc n)))) earlier t log shows none = absurd (omega (arith, earlier.1))
 
 module _ (from : ℕ) (db : Database) (log : List Command) (it : ShowsEarlier from db log) where
   -- its tables are those of the plain log
@@ -167,7 +168,7 @@ module _ (from : ℕ) (db : Database) (log : List Command) (it : ShowsEarlier fr
   plainly = (carries_over from it.tables log).0 it.shows
 
   pub shows_less : ShowsLess from db it.tables
-  shows_less = record { shows = it.are; none = none_after from it.earlier it.tables log it.shows }
+  shows_less = record { shows = it.are; none = none_after from it.earlier it.tables log it.shows (it.are.early it.earlier.1) }
 
   abbrev pub rows : List Entry
   rows = meta_entry (pos from) it.tables.decided ∷ []

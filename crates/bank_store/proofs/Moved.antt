@@ -14,7 +14,7 @@ use Rattle.sql_meanings.specs.believed.{Contents.HoldsEach, Entries.IsTree}
 use Rattle.sql_meanings.proofs.{Contents.held, Defining.defined_stands, TablesBeside.trees_apart}
 use Rattle.sqlite.specs.Table.{Table}
 use Rattle.sqlite_rules.specs.Lists.{Has}
-use Rattle.store_rows.specs.believed.BankTables.{HasBankTables, floor, meta, reference}
+use Rattle.store_rows.specs.believed.BankTables.{HasBankTables, closing, floor, meta, reference}
 use Rattle.store_rows.specs.{believed.Columns.meta_in, Creation.no_rows, Definitions.AreMade, Failures.HasFailedAtLast}
 use Rattle.store_rows.specs.{Lying.IsBankFile, Lying.SetsItsVersion, Probes.all_tables}
 use Rattle.store_rows.proofs.BankTables.{completed, is_file, lie_still}
@@ -66,7 +66,7 @@ module _ (from : ℕ) (earlier : IsEarlier from) (old mid new : State) (made : L
         let holds = held old.now (tables_of from) (contents_of from t) was.shows.each 0 meta
         (meta_entry (pos from) t.decided ∷ []) (meta_there from) refl in
         let place = made.places meta refl holds.defined in (
-          record { sound = done.0.sound; each = done.0.each; current = done.0.current },
+          record { sound = done.0.sound; each = done.0.each; early = λ low. absurd (omega (arith, low)); alone = done.0.alone },
           λ u stands apart.
               let then = done.2 u (made.keeps.stands u stands) (λ same. apart (same ∙ place)) in
               (then.0, then.1 ∙ made.keeps.rows u stands.listed),
@@ -99,10 +99,17 @@ module _ (from : ℕ) (earlier : IsEarlier from) (old mid new : State) (made : L
     all_empty zero is spares its each = absurd (omega (arith, is.0))
     all_empty (suc zero) is spares its each = (
       still_empty spares its floor refl (λ same. cc) each.0,
-      (still_empty spares its reference refl (λ same. cc) each.1.0, tt),
+      (
+        still_empty spares its reference refl (λ same. cc) each.1.0,
+        (still_empty spares its closing refl (λ same. cc) each.1.1.0, tt),
+      ),
     )
-    all_empty (suc (suc zero)) is spares its each = (still_empty spares its reference refl (λ same. cc) each.0, tt)
-    all_empty (suc (suc (suc n))) is spares its each = absurd (omega (arith, is.1))
+    all_empty (suc (suc zero)) is spares its each = (
+      still_empty spares its reference refl (λ same. cc) each.0,
+      (still_empty spares its closing refl (λ same. cc) each.1.0, tt),
+    )
+    all_empty (suc (suc (suc zero))) is spares its each = (still_empty spares its closing refl (λ same. cc) each.0, tt)
+    all_empty (suc (suc (suc (suc n)))) is spares its each = absurd (omega (arith, is.1))
 
     completes : SparesAllBut (meta.name ∷ []) mid.now new.now × ∥ IsDatabase new.now ∥₁
         → (IsBankFile mid.now → SetsItsVersion VERSION mid.now new.now) → Completes from old.now new.now

@@ -9,8 +9,9 @@ ghost use Rattle.bank_transactions.specs.Memory.{Remembers};
 ghost use Rattle.bank_store.specs.believed.FileTables.{HasFileTables};
 ghost use Rattle.message_records.specs.believed.Spelling.{reply_spelling};
 ghost use Rattle.posting_rules.specs.Branches.{IsNextBranch, IsLineAbove};
+ghost use Rattle.posting_rules.specs.Closings.{closing_after};
 ghost use Rattle.posting_rules.specs.believed.AnyTables.{OpensByTables};
-ghost use Rattle.posting_rules.specs.believed.Commands.{Command, Open, Post, opened_with};
+ghost use Rattle.posting_rules.specs.believed.Commands.{Close, Command, Open, Post, opened_with};
 ghost use Rattle.posting_rules.specs.believed.Counter.{StandsAt, opening_after};
 ghost use Rattle.posting_rules.specs.believed.Entries.{reply, balance_after};
 ghost use Rattle.posting_rules.specs.believed.Runs.{posts, replies_to};
@@ -20,13 +21,14 @@ use crate::laws::{floor_law, range_law};
 use arrayvec::ArrayVec;
 use bank_transactions::{
     Memory, note_settled, open_branch, post_all, post_looked_up, read_balance, read_next_branch,
+    seal,
 };
 use message_records::{
     Account, Branch, Cents, Moment, REPLY_BYTES, REQUEST_BYTES, decode_request, encode_reply,
 };
 use posting_batch::{Batch, Replies};
 use posting_rules::{
-    BranchLine, Counter, Fault, LAST_BRANCH, MAX_ACCOUNTS, Opening, RECORDS_PER_BATCH,
+    BranchLine, Closing, Counter, Fault, LAST_BRANCH, MAX_ACCOUNTS, Opening, RECORDS_PER_BATCH,
     malformed_reply,
 };
 use sqlite::{Alter, Connection, Error};
@@ -169,6 +171,8 @@ impl<S: Alter> Bank<S> {
     ghost use Rattle.walked_rows.specs.StepOutcomes.{BreaksFirst};
     ghost use Rattle.walked_rows.specs.Rising.{RisesFrom};
     ghost use Rattle.walked_rows.specs.Rows.{items_after, items_from};
+    ghost use Rattle.bank_store.specs.believed.BankSparing.{SparesOtherTables};
+    ghost use Rattle.bank_store.specs.believed.Down.{AnswersBy, IsBankCall};
     ghost use Rattle.bank_store.specs.believed.Seen.{connection_of};
     ghost use Rattle.bank_store.specs.Seen.{alloc_of};
     ghost use Rattle.bank_store.specs.Walks.{IsStill, IsUntouchedIfOpen};
@@ -186,6 +190,25 @@ impl<S: Alter> Bank<S> {
     pub fn tables_law(&self)
         ensures { HasFileTables S.Store (connection_of self.now) }
     {}
+
+    /// Seals the books: from now on they decide nothing more, and what they keep gets its first reply. It answers `Closed`,
+    /// or `Already` where they were sealed. See [`Bank`] for what holds after each fault.
+    pub fn seal(&mut self) -> Result<Closing, Fault>
+        ensures answer { AnswersBy S.Store self.old self.new result
+            (λ log closing. closing ≡ closing_after log 0 0) }
+        ensures call { IsBankCall S.Store self.old self.new (Close 0 0 ∷ []) result }
+        ensures frugal { result ≢ Err fault.Memory }
+        ensures spares { SparesOtherTables S.Store self.old self.new }
+    {
+        if self.is_down() {
+            return Err(Fault::Down);
+        }
+        self.memory.forget();
+        match seal(&mut self.conn) {
+            Ok(closing) => Ok(closing),
+            Err(fault) => Err(self.go_down(fault)),
+        }
+    }
 
     /// The allocator that the bank was made or taken up with.
     #[must_use]

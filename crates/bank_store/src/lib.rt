@@ -77,13 +77,13 @@ pub use message_records::{
 pub use migration::{Migrated, migrate};
 pub use new_bank::create;
 pub use posting_rules::{
-    BranchLine, Counter, Fault, LAST_BRANCH, MAX_ACCOUNTS, MAX_DECIDED, OpenFault, Opening,
-    Ordinal, RECORDS_PER_BATCH, Rule,
+    BranchLine, Closing, Counter, Fault, LAST_BRANCH, MAX_ACCOUNTS, MAX_DECIDED, OpenFault,
+    Opening, Ordinal, RECORDS_PER_BATCH, Rule,
 };
 pub use refused::Refused;
 pub use store_rows::BankTable;
 pub use walked_rows::{
-    Joined, KeptRequest, StatedPosting, StoredAccount, StoredBranch, StoredFloor, StoredMeta,
-    StoredPosting, StoredReference, StoredRequest, StoredTeller,
+    Joined, KeptRequest, StatedPosting, StoredAccount, StoredBranch, StoredClosing, StoredFloor,
+    StoredMeta, StoredPosting, StoredReference, StoredRequest, StoredTeller,
 };
 pub use walks::{Walk, each_account, each_history, each_row, history_of};

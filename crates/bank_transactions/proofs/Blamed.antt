@@ -10,7 +10,7 @@ use Rattle.store_rows.specs.Failures.{Puts}
 use Rattle.store_rows.specs.declared.fault.TableFault.{TableFault, TheVariants.Sqlite, TheVariants.Damaged}
 use Rattle.posting_rules.specs.declared.fault.Rule.{Rule}
 use Rattle.posting_rules.specs.declared.fault.Rule.TheVariants.{Meta, Teller, Account, Balance, Request, Value, Key}
-use Rattle.posting_rules.specs.declared.fault.Rule.TheVariants.{Floor, Reference}
+use Rattle.posting_rules.specs.declared.fault.Rule.TheVariants.{Closing, Floor, Reference}
 use Rattle.bank_transactions.specs.believed.Causes.{IsBefore, HasFailedBetween, HasMetBetween, Damage, IsBrokenOrMet}
 use Rattle.bank_transactions.specs.Causes.{IsFault, Blames}
 
@@ -128,6 +128,7 @@ met_also old new Value also met = absurd met.3
 met_also old new Key also met = (met.0, met.1, also met.0 met.1 met.2, met.3)
 met_also old new Floor also met = absurd met.3
 met_also old new Reference also met = absurd met.3
+met_also old new Closing also met = absurd met.3
 
 pub between_also : {S : Type 0} {Adds Adds' : Additions} (g : Ghosts S) (old new : Held S) (rule : Rule)
     → ((text : List ℕ) (values : Row) → Adds text values → Adds' text values)

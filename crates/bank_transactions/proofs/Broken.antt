@@ -15,7 +15,7 @@ use Rattle.store_rows.specs.{Calls.OfMeta, Holders.entry_under, View.HoldsRows, 
 use Rattle.store_rows.specs.{declared.holders.Member.Member, declared.metas.StoredMeta.StoredMeta}
 use Rattle.store_rows.specs.believed.Columns.{meta_in, number_at}
 use Rattle.store_rows.specs.TableAnswers.{FindsMeta}
-use Rattle.store_rows.specs.believed.Readings.{read_account, read_balance, read_branch, read_floor, read_reference}
+use Rattle.store_rows.specs.believed.Readings.{read_closing, read_account, read_balance, read_branch, read_floor, read_reference}
 use Rattle.store_rows.specs.believed.Readings.{read_request, read_teller}
 use Rattle.store_rows.specs.believed.Rules.{EachKeeps, HoldsBank, IsBroken, OfRows, StoredRows, HasDecided, row_under}
 use Rattle.store_rows.specs.believed.BankTables as bank
@@ -76,6 +76,11 @@ request_broken db a b =
     find_broken db (λ rows. find (has_two (pos a) (pos b)) rows.requests) read_request
     (λ rule rows keeps r. found_all (λ e. read_request e ≢ Err rule) (has_two (pos a) (pos b)) rows.requests r
     keeps.requests)
+
+pub seal_broken : (db : Database) (fault : TableFault)
+    → OfRows (λ rows. FindsStored (row_under rows.closings 0) read_closing (Err fault)) db → IsOf db fault
+seal_broken db = find_broken db (λ rows. row_under rows.closings 0) read_closing
+    (λ rule rows keeps r. found_all (λ e. read_closing e ≢ Err rule) (has_key (pos 0)) rows.closings r keeps.closings)
 
 pub reference_broken : (db : Database) (n : ℕ) (fault : TableFault)
     → OfRows (λ rows. FindsStored (row_under rows.references n) read_reference (Err fault)) db → IsOf db fault

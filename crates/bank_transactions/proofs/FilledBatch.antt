@@ -1,5 +1,5 @@
 -- All slots of a batch are filled.
-use Rattle.std.proofs.Common.{◌≡◌, ℕ, List, [], map, Ok, Err, Result, refl, sym, ap, ◌∙◌}
+use Rattle.std.proofs.Common.{◌≡◌, ℕ, List, map, Ok, Err, Result, refl, ap, ◌∙◌}
 use Rattle.std.specs.{Prelude.IsSome, Prelude.⊤, List.AllByRecursion}
 use Rattle.sqlite.specs.declared.transaction.Transaction.{Transaction}
 use Rattle.sqlite_trees.specs.declared.store.Store.{Ghosts}
@@ -14,9 +14,9 @@ use Rattle.posting_batch.specs.{Batch.account_filled, Batch.filled, Batch.reques
 use Rattle.posting_batch.specs.Slots.{branch_slot_key, row_of_slot}
 use Rattle.store_rows.specs.declared.fault.TableFault.{TableFault}
 use Rattle.bank_transactions.specs.{Doing.Reads, Doing.ReadsWhere, Filling.TellsBranch, Filling.emptied, Filling.handing}
-use Rattle.bank_transactions.specs.Filling.{known}
+use Rattle.bank_transactions.specs.Filling.{known, with_rows}
 use Rattle.bank_transactions.specs.Filling.{emptied_account, emptied_branch, emptied_floor, emptied_request, emptied_teller}
-use Rattle.bank_transactions.proofs.{HeldSlots.know_all, LookUps.finds_so, LookUps.reads_both, LookUps.reads_but}
+use Rattle.bank_transactions.proofs.{HeldSlots.know_all, LookUps.reads_both, LookUps.reads_but}
 use Rattle.bank_transactions.proofs.{LookUps.reads_so}
 use Rattle.posting_rules.specs.declared.rows.ClosingRow.{ClosingRow}
 
@@ -43,6 +43,9 @@ with_accounts slots o = record o { accounts = slots }
 
 abbrev pub with_kept : List RequestSlot → Overlay → Overlay
 with_kept slots o = record o { kept = slots }
+
+abbrev pub with_runs : List ClosingRow → Overlay → Overlay
+with_runs runs o = record o { runs = runs }
 
 -- the same slots, held elsewhere
 pub same_known : (o : Overlay) (n : ℕ) (b b' : List BranchSlot) (f f' : List FloorSlot) (e e' : List TellerSlot)
@@ -161,16 +164,19 @@ module _ {S : Type 0} {g : Ghosts S} {a b : Transaction S} where
         ))
 
     -- what is kept of requests, after all that
-    pub kept_after : {xs ys : List RequestSlot} → ReadsWhere g a b (So o) (λ t. known t o) (Ok p) → o.runs ≡ [] → xs ≡ o.kept
+    pub kept_after : {xs ys : List RequestSlot} → ReadsWhere g a b (So o) (λ t. known t o) (Ok p) → xs ≡ o.kept
         → ReadsWhere g b c (Plain xs) (λ t. map (request_filled t) xs) (Ok ys)
         → ReadsWhere g a c (So o) (λ t. filled t o) (Ok (with_kept ys p))
-    kept_after {xs} {ys} first bare is second =
-        let reads = part o with_kept request_filled p (λ t. known t o) xs o.kept ys is first second
-        (λ t so e. (so.0, nothing_asked xs)) in
-        finds_so reads (λ clean t shows so.
-        reads.says.answers clean t shows so
-        ∙ ap (λ (runs : List ClosingRow). (let q : Overlay = record (filled t o) { runs = runs } in q))
-        (bare ∙ sym shows.current))
+    kept_after {xs} {ys} first is second =
+        part o with_kept request_filled p (λ t. known t o) xs o.kept ys is first second
+        (λ t so e. (so.0, nothing_asked xs))
+
+    -- whether the books are sealed, after the rows
+    pub runs_after : ReadsWhere g a b (So o) (λ t. with_rows t o) (Ok p) → (runs : List ClosingRow)
+        → Reads g b c (λ t. t.closings) (Ok runs)
+        → ReadsWhere g a c (So o) (λ t. known t o) (Ok (with_runs runs p))
+    runs_after first runs second = reads_both first second (λ t so e. so.0) (λ t so e h.
+        ap (with_runs runs) e ∙ ap (λ (rs : List ClosingRow). with_runs rs (with_rows t o)) h)
 
 -- ---- without what they are filled with
 

@@ -5,12 +5,13 @@ use Rattle.std.proofs.lemmas.Bool.{Decides.nat_tests}
 use Rattle.std.specs.Prelude.{◌≢◌, IfSome}
 use Rattle.sqlite.specs.{Effect.Database, Order.Row, Order.column, Table.Table}
 use Rattle.sqlite_rules.specs.Lists.{Has}
-use Rattle.posting_rules.specs.declared.rows.{BranchRow.BranchRow, FloorRow.FloorRow}
+use Rattle.posting_rules.specs.declared.rows.{BranchRow.BranchRow, ClosingRow.ClosingRow, FloorRow.FloorRow}
 use Rattle.sql_meanings.specs.Under.{rows_under}
 use Rattle.store_rows.specs.believed.BankTables as bank
 use Rattle.store_rows.specs.believed.BankTables.{bank_tables}
 use Rattle.store_rows.specs.Lying.{BalanceLies, BranchLies, CountLies, FloorLies, IsBankFile, LeavesBeside, LeavesOthers, LiesAs}
-use Rattle.store_rows.specs.believed.Readings.{Reading, balance_of, branch_of, floor_of}
+use Rattle.store_rows.specs.Lying.{SealLies}
+use Rattle.store_rows.specs.believed.Readings.{Reading, balance_of, branch_of, closing_of, floor_of}
 use Rattle.store_rows.specs.declared.holders.Member.TheVariants.{Account, Teller}
 use Rattle.store_rows.specs.believed.Inserts.{meta_key}
 use Rattle.bank_transactions.specs.Known.{KnowsNothing}
@@ -58,6 +59,13 @@ module _ (was now : Database) where
   count_still None same lies = tt
   count_still (Some n) same lies = (lies.0, subst (λ (l : List Row). Has l lies.0) (sym same) lies.1, lies.2)
 
+  pub seal_still : (o : Option (Option ClosingRow))
+      → rows_under now bank.closing (pos 0) ≡ rows_under was bank.closing (pos 0) → IfSome o (SealLies was)
+      → IfSome o (SealLies now)
+  seal_still None same lies = tt
+  seal_still (Some row) same lies =
+      lies_still bank.closing (λ row. column row 0 ∷ column row 2 ∷ []) closing_of 0 row same lies
+
 -- ---- after a write of one table
 
 -- names of different lengths, or that begin otherwise, differ
@@ -78,6 +86,7 @@ pub record IsApart (table : Table) : Type 0 where
   pub teller : bank.teller.name ≢ table.name
   pub account : bank.account.name ≢ table.name
   pub floor : bank.floor.name ≢ table.name
+  pub closing : bank.closing.name ≢ table.name
 
 pub requests_apart : IsApart bank.request
 requests_apart = record {
@@ -86,6 +95,7 @@ requests_apart = record {
   teller = names_apart bank.teller.name bank.request.name refl;
   account = names_apart bank.account.name bank.request.name refl;
   floor = names_apart bank.floor.name bank.request.name refl;
+  closing = names_apart bank.closing.name bank.request.name refl;
 }
 
 pub history_apart : IsApart bank.history
@@ -95,6 +105,7 @@ history_apart = record {
   teller = names_apart bank.teller.name bank.history.name refl;
   account = names_apart bank.account.name bank.history.name refl;
   floor = names_apart bank.floor.name bank.history.name refl;
+  closing = names_apart bank.closing.name bank.history.name refl;
 }
 
 pub references_apart : IsApart bank.reference
@@ -104,6 +115,7 @@ references_apart = record {
   teller = names_apart bank.teller.name bank.reference.name refl;
   account = names_apart bank.account.name bank.reference.name refl;
   floor = names_apart bank.floor.name bank.reference.name refl;
+  closing = names_apart bank.closing.name bank.reference.name refl;
 }
 
 module _ (table : Table) (was now : Database) (left : LeavesBeside table was now) (m : Memory) (fits : Fits was m) where
@@ -127,9 +139,14 @@ module _ (table : Table) (was now : Database) (left : LeavesBeside table was now
   floors_beside apart k row known = floor_still was now k row
       (left.beside bank.floor (inr (inr (inr (inr (inr (inr (inl refl))))))) apart (pos k)) (fits.floors k row known)
 
+  pub seal_beside : bank.closing.name ≢ table.name → IfSome m.seal (SealLies now)
+  seal_beside apart = seal_still was now m.seal
+      (left.beside bank.closing (inr (inr (inr (inr (inr (inr (inr (inr (inl refl))))))))) apart (pos 0)) fits.seal
+
   pub fits_beside : IsApart table → Fits now m
   fits_beside apart = record {
     decided = count_beside apart.meta;
+    seal = seal_beside apart.closing;
     branches = branches_beside apart.branch;
     floors = floors_beside apart.floor;
     tellers = tellers_beside apart.teller;
@@ -144,10 +161,12 @@ apart_keys k key other is = other (let same : k ≡ key = cc in same)
 -- what is remembered of the other tables is what it was
 module _ (m n : Memory) (was now : Database) (fits : Fits was m) where
   -- the count
-  pub count_noted : n.branches ≡ m.branches → n.floors ≡ m.floors → n.tellers ≡ m.tellers → n.accounts ≡ m.accounts
+  pub count_noted : n.seal ≡ m.seal → n.branches ≡ m.branches → n.floors ≡ m.floors → n.tellers ≡ m.tellers → n.accounts ≡ m.accounts
       → LeavesOthers bank.meta meta_key was now → IfSome n.decided (CountLies now) → Fits now n
-  count_noted bs fs ts accts left lies = record {
+  count_noted sl bs fs ts accts left lies = record {
     decided = lies;
+    seal = subst (λ (o : Option (Option ClosingRow)). IfSome o (SealLies now)) (sym sl)
+        (seal_beside bank.meta was now left.beside m fits (names_apart bank.closing.name bank.meta.name refl));
     branches = subst (λ (rows : Known (Option BranchRow)). AllKnown rows (λ k row. BranchLies k now row)) (sym bs)
         (branches_beside bank.meta was now left.beside m fits (names_apart bank.branch.name bank.meta.name refl));
     floors = subst (λ (rows : Known (Option FloorRow)). AllKnown rows (λ k row. FloorLies k now row)) (sym fs)
@@ -159,11 +178,13 @@ module _ (m n : Memory) (was now : Database) (fits : Fits was m) where
   }
 
   -- branches
-  pub branches_noted : (key : ℕ) → n.decided ≡ m.decided → n.floors ≡ m.floors → n.tellers ≡ m.tellers
+  pub branches_noted : (key : ℕ) → n.seal ≡ m.seal → n.decided ≡ m.decided → n.floors ≡ m.floors → n.tellers ≡ m.tellers
       → n.accounts ≡ m.accounts → LeavesOthers bank.branch key was now
       → (((k : ℕ) (row : Option BranchRow) → k ≢ key → BranchLies k was row → BranchLies k now row)
       → AllKnown n.branches (λ k row. BranchLies k now row)) → Fits now n
-  branches_noted key d fs ts accts left own = record {
+  branches_noted key sl d fs ts accts left own = record {
+    seal = subst (λ (o : Option (Option ClosingRow)). IfSome o (SealLies now)) (sym sl)
+        (seal_beside bank.branch was now left.beside m fits (names_apart bank.closing.name bank.branch.name refl));
     decided = subst (λ (o : Option ℕ). IfSome o (CountLies now)) (sym d)
         (count_beside bank.branch was now left.beside m fits (names_apart bank.meta.name bank.branch.name refl));
     branches = own (λ k row other. branch_still was now k row (left.others (pos k) (apart_keys k key other)));
@@ -176,11 +197,13 @@ module _ (m n : Memory) (was now : Database) (fits : Fits was m) where
   }
 
   -- floors
-  pub floors_noted : (key : ℕ) → n.decided ≡ m.decided → n.branches ≡ m.branches → n.tellers ≡ m.tellers
+  pub floors_noted : (key : ℕ) → n.seal ≡ m.seal → n.decided ≡ m.decided → n.branches ≡ m.branches → n.tellers ≡ m.tellers
       → n.accounts ≡ m.accounts → LeavesOthers bank.floor key was now
       → (((k : ℕ) (row : Option FloorRow) → k ≢ key → FloorLies k was row → FloorLies k now row)
       → AllKnown n.floors (λ k row. FloorLies k now row)) → Fits now n
-  floors_noted key d bs ts accts left own = record {
+  floors_noted key sl d bs ts accts left own = record {
+    seal = subst (λ (o : Option (Option ClosingRow)). IfSome o (SealLies now)) (sym sl)
+        (seal_beside bank.floor was now left.beside m fits (names_apart bank.closing.name bank.floor.name refl));
     decided = subst (λ (o : Option ℕ). IfSome o (CountLies now)) (sym d)
         (count_beside bank.floor was now left.beside m fits (names_apart bank.meta.name bank.floor.name refl));
     branches = subst (λ (rows : Known (Option BranchRow)). AllKnown rows (λ k row. BranchLies k now row)) (sym bs)
@@ -193,11 +216,13 @@ module _ (m n : Memory) (was now : Database) (fits : Fits was m) where
   }
 
   -- tellers
-  pub tellers_noted : (key : ℕ) → n.decided ≡ m.decided → n.branches ≡ m.branches → n.floors ≡ m.floors
+  pub tellers_noted : (key : ℕ) → n.seal ≡ m.seal → n.decided ≡ m.decided → n.branches ≡ m.branches → n.floors ≡ m.floors
       → n.accounts ≡ m.accounts → LeavesOthers bank.teller key was now
       → (((k : ℕ) (z : Option ℤ) → k ≢ key → BalanceLies (Teller k) was z → BalanceLies (Teller k) now z)
       → AllKnown n.tellers (λ k z. BalanceLies (Teller k) now z)) → Fits now n
-  tellers_noted key d bs fs accts left own = record {
+  tellers_noted key sl d bs fs accts left own = record {
+    seal = subst (λ (o : Option (Option ClosingRow)). IfSome o (SealLies now)) (sym sl)
+        (seal_beside bank.teller was now left.beside m fits (names_apart bank.closing.name bank.teller.name refl));
     decided = subst (λ (o : Option ℕ). IfSome o (CountLies now)) (sym d)
         (count_beside bank.teller was now left.beside m fits (names_apart bank.meta.name bank.teller.name refl));
     branches = subst (λ (rows : Known (Option BranchRow)). AllKnown rows (λ k row. BranchLies k now row)) (sym bs)
@@ -210,11 +235,13 @@ module _ (m n : Memory) (was now : Database) (fits : Fits was m) where
   }
 
   -- accounts
-  pub accounts_noted : (key : ℕ) → n.decided ≡ m.decided → n.branches ≡ m.branches → n.floors ≡ m.floors
+  pub accounts_noted : (key : ℕ) → n.seal ≡ m.seal → n.decided ≡ m.decided → n.branches ≡ m.branches → n.floors ≡ m.floors
       → n.tellers ≡ m.tellers → LeavesOthers bank.account key was now
       → (((k : ℕ) (z : Option ℤ) → k ≢ key → BalanceLies (Account k) was z → BalanceLies (Account k) now z)
       → AllKnown n.accounts (λ k z. BalanceLies (Account k) now z)) → Fits now n
-  accounts_noted key d bs fs ts left own = record {
+  accounts_noted key sl d bs fs ts left own = record {
+    seal = subst (λ (o : Option (Option ClosingRow)). IfSome o (SealLies now)) (sym sl)
+        (seal_beside bank.account was now left.beside m fits (names_apart bank.closing.name bank.account.name refl));
     decided = subst (λ (o : Option ℕ). IfSome o (CountLies now)) (sym d)
         (count_beside bank.account was now left.beside m fits (names_apart bank.meta.name bank.account.name refl));
     branches = subst (λ (rows : Known (Option BranchRow)). AllKnown rows (λ k row. BranchLies k now row)) (sym bs)
@@ -226,12 +253,30 @@ module _ (m n : Memory) (was now : Database) (fits : Fits was m) where
     accounts = own (λ k z other. account_still was now k z (left.others (pos k) (apart_keys k key other)));
   }
 
+  -- the seal
+  pub seal_noted : n.decided ≡ m.decided → n.branches ≡ m.branches → n.floors ≡ m.floors → n.tellers ≡ m.tellers
+      → n.accounts ≡ m.accounts → LeavesOthers bank.closing 0 was now → IfSome n.seal (SealLies now) → Fits now n
+  seal_noted d bs fs ts accts left lies = record {
+    decided = subst (λ (o : Option ℕ). IfSome o (CountLies now)) (sym d)
+        (count_beside bank.closing was now left.beside m fits (names_apart bank.meta.name bank.closing.name refl));
+    seal = lies;
+    branches = subst (λ (rows : Known (Option BranchRow)). AllKnown rows (λ k row. BranchLies k now row)) (sym bs)
+        (branches_beside bank.closing was now left.beside m fits (names_apart bank.branch.name bank.closing.name refl));
+    floors = subst (λ (rows : Known (Option FloorRow)). AllKnown rows (λ k row. FloorLies k now row)) (sym fs)
+        (floors_beside bank.closing was now left.beside m fits (names_apart bank.floor.name bank.closing.name refl));
+    tellers = subst (λ (rows : Known (Option ℤ)). AllKnown rows (λ k z. BalanceLies (Teller k) now z)) (sym ts)
+        (tellers_beside bank.closing was now left.beside m fits (names_apart bank.teller.name bank.closing.name refl));
+    accounts = subst (λ (rows : Known (Option ℤ)). AllKnown rows (λ k z. BalanceLies (Account k) now z)) (sym accts)
+        (accounts_beside bank.closing was now left.beside m fits (names_apart bank.account.name bank.closing.name refl));
+  }
+
 -- ---- where nothing is remembered
 
 -- it lies in any file
-pub fits_nothing : (m : Memory) → m.decided ≡ None → KnowsNothing m.branches → KnowsNothing m.floors
+pub fits_nothing : (m : Memory) → m.seal ≡ None → m.decided ≡ None → KnowsNothing m.branches → KnowsNothing m.floors
     → KnowsNothing m.tellers → KnowsNothing m.accounts → IsBlank m
-fits_nothing m none branches floors tellers accounts db = record {
+fits_nothing m unsealed none branches floors tellers accounts db = record {
+  seal = subst (λ (o : Option (Option ClosingRow)). IfSome o (SealLies db)) (sym unsealed) tt;
   decided = subst (λ (o : Option ℕ). IfSome o (CountLies db)) (sym none) tt;
   branches = known_none _ m.branches branches;
   floors = known_none _ m.floors floors;

@@ -261,7 +261,7 @@ in_turn old new b b' records m o items made reads same own held judged idle =
       tables = t;
       stored = λ rows has.
           (has_records rows slots t its stand (held rows has) records stand.covers, (held rows has).decided);
-      current = refl;
+      sealed = λ rows has. (held rows has).runs;
       free = told_free free slots;
       are = is.answers;
       stays = λ none. idle (ap (λ (u : Tables). u.decided) is.tables ∙ none);

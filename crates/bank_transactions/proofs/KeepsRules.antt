@@ -1,4 +1,4 @@
--- Undamaged tables keep each of the nine rules, but that of the keys of new rows, of which more is known of a log.
+-- Undamaged tables keep each of the ten rules, but that of the keys of new rows, of which more is known of a log.
 use Rattle.std.proofs.Common.{◌≡◌, ◌≢◌, ◌≤◌, ℕ, pos, true, false, List, map, Option, Some, None}
 use Rattle.std.proofs.Common.{Result, Ok, Err, option_map, refl, sym, ap, subst, ◌∙◌}
 use Rattle.std.specs.Prelude.{◌≤ℤ◌, is_some, option_and_then}
@@ -17,14 +17,14 @@ use Rattle.sqlite_rules.proofs.ListLemmas.{all_from, contains_had}
 use Rattle.sqlite_trees.proofs.ListLemmas.{all-map}
 use Rattle.store_rows.specs.{believed.Columns.number_at, Rules.stored_rows, declared.metas.TheConstants.VERSION}
 use Rattle.store_rows.specs.believed.Readings.{read_account, read_branch, read_floor, read_posting, read_reference}
-use Rattle.store_rows.specs.believed.Readings.{read_request, read_teller}
+use Rattle.store_rows.specs.believed.Readings.{read_closing, read_request, read_teller}
 use Rattle.store_rows.specs.believed.Rules.{AccountsFit, AreAbove, EachKeeps, IsBroken, IsWithinCount, KeepsRule}
 use Rattle.store_rows.specs.believed.Rules.{KeepsTogether, NoneBreaks, TellersFit, branch_under}
 use Rattle.store_rows.specs.believed.Rules.{floor_under, row_under}
 use Rattle.store_rows.specs.believed.View.{Shows, account_entry, branch_entry, floor_entry, history_entry}
-use Rattle.store_rows.specs.believed.View.{reference_entry, request_entry, teller_entry}
+use Rattle.store_rows.specs.believed.View.{closing_entry, reference_entry, request_entry, teller_entry}
 use Rattle.store_rows.proofs.Readings.{account_back, branch_back, floor_back, posting_back, reference_back}
-use Rattle.store_rows.proofs.Readings.{request_back, teller_back}
+use Rattle.store_rows.proofs.Readings.{closing_back, request_back, teller_back}
 use Rattle.store_rows.proofs.{RowLists.found_row, RowLists.taken_row_key, StoredRows.holds_shown}
 use Rattle.bank_transactions.proofs.FittingAccounts.{le_number, le_test, same_entry}
 use Rattle.bank_transactions.proofs.SoundRows.{no_branch_beyond, no_floor_beyond, not_below, same_number}
@@ -52,6 +52,7 @@ module _ (t : Tables) (sound : IsUndamaged t) where
     floors = reads floor_entry read_floor rule t.floors (λ r has. (r, floor_back r (sound.each_floor r has)));
     references = reads reference_entry read_reference rule t.references
         (λ r has. (r, reference_back r (sound.each_reference r has)));
+    closings = reads closing_entry read_closing rule t.closings (λ r has. (r, closing_back r (sound.each_closing r has)));
   }
 
   -- ---- rows that belong together

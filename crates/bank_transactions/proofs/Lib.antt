@@ -13,6 +13,7 @@ pub mod NextRow
 pub mod OpeningRows
 pub mod ReadsInTurn
 pub mod SoundRows
+pub mod Sealed
 pub mod ShownSlots
 pub mod Statements
 pub mod Transacted

@@ -114,12 +114,12 @@ held_none rows (s ∷ slots) unkept nowhere = (
 pub known_held : (rows : StoredRows) (p : Overlay) → AllByRecursion (λ s. s.kept ≡ None) p.kept
     → AllByRecursion (IsNowhere rows.requests) p.kept → AreKnown rows p → AreHeld rows p
 known_held rows p unkept nowhere it = record {
-  branches = it.branches;
-  floors = it.floors;
-  tellers = it.tellers;
-  accounts = it.accounts;
+  branches = it.slots.branches;
+  floors = it.slots.floors;
+  tellers = it.slots.tellers;
+  accounts = it.slots.accounts;
   kept = held_none rows p.kept unkept nowhere;
-  decided = it.decided;
+  decided = it.slots.decided;
   runs = it.runs;
 }
 

@@ -55,7 +55,7 @@ module _ {old new : Database} {m : ℕ} {bytes reply : List ℕ} {r : RequestFie
     floor = λ rows holds. (has rows holds).floor;
     kept = λ rows holds. (has rows holds).kept;
     decided = λ rows holds. (it.stored rows holds).1;
-    current = ap (λ (runs : List ClosingRow). books_of runs r.teller r.number) it.current;
+    books = λ rows holds. ap (λ (runs : List ClosingRow). books_of runs r.teller r.number) (it.sealed rows holds);
   }
 
   replied : reply ≡ reply_bytes its r

@@ -48,6 +48,7 @@ use Rattle.bank_transactions.specs.believed.Stored.{HoldsTerms}
 use Rattle.bank_transactions.specs.Filling.{AccountHeld, AreHeld, BranchHeld, FloorHeld, RequestHeld}
 use Rattle.bank_transactions.specs.Filling.{TellerHeld, emptied}
 use Rattle.bank_transactions.proofs.{HeldBatch.filled_over, SoundRows.within_or_none}
+use Rattle.bank_transactions.proofs.Sealed.{runs_are, seal_shown}
 
 -- ---- a row that is read at all is read as it is
 
@@ -288,10 +289,9 @@ module _ (t : Tables) where
         rw (sym is) refl
 
     -- so they are filled from those tables
-    pub held_filled : (o : Overlay) → AreHeld (stored_rows t) o → t.closings ≡ [] → o ≡ filled t o
-    held_filled o held current = rw (
-      current,
-      held.runs,
+    pub held_filled : (o : Overlay) → AreHeld (stored_rows t) o → o.runs ≡ t.closings → o ≡ filled t o
+    held_filled o held closed = rw (
+      sym closed,
       sym (all_same (BranchHeld (stored_rows t)) (branch_filled t) branch_same o.branches held.branches),
       sym (all_same (FloorHeld (stored_rows t)) (floor_filled t) floor_same o.floors held.floors),
       sym (all_same (TellerHeld (stored_rows t)) (teller_filled t) teller_same o.tellers held.tellers),
@@ -304,7 +304,9 @@ module _ (t : Tables) where
 pub shown_filled : (db : Database) (t : Tables) (count : ℕ) (p' p : Overlay) → Shows db t → HasRoomFor count t
     → emptied p' ≡ emptied p → OfRows (λ rows. AreHeld rows p') db → p' ≡ filled t p
 shown_filled db t count p' p shows room same held =
-    held_filled t room p' (held (stored_rows t) (holds_shown db t shows)) shows.current ∙ filled_over t p' p same
+    let has = held (stored_rows t) (holds_shown db t shows) in
+    held_filled t room p' has (has.runs ∙ sym (runs_are (stored_rows t)) ∙ seal_shown db t shows)
+    ∙ filled_over t p' p same
 
 -- what a branch was opened with, of a file that shows these tables
 pub shown_terms : (db : Database) (t : Tables) (b : ℕ) → 1 ≤ b → b ≤ MAX_BRANCH → (terms : Option Terms) → Shows db t

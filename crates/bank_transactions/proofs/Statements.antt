@@ -6,7 +6,7 @@ use Rattle.sqlite.specs.{declared.error.Error.Error, declared.transaction.Transa
 use Rattle.sqlite_trees.specs.declared.store.Store.{Ghosts}
 use Rattle.posting_rules.specs.{believed.Tables.Tables, declared.fault.Rule.Rule}
 use Rattle.posting_rules.specs.declared.fault.Rule.TheVariants.{Meta, Teller, Account, Balance, Request, Value, Key}
-use Rattle.posting_rules.specs.declared.fault.Rule.TheVariants.{Floor, Reference}
+use Rattle.posting_rules.specs.declared.fault.Rule.TheVariants.{Closing, Floor, Reference}
 use Rattle.store_rows.specs.{Calls.AddsRow, Calls.SetsNumber, Failures.Changes, Failures.Puts}
 use Rattle.store_rows.specs.Sparing.{MakesIfOk, SparesIfOk}
 use Rattle.store_rows.specs.believed.Failures.{Additions, HasMet, IsUpdateOf, MeetsNone}
@@ -93,6 +93,7 @@ module _ (Adds : Additions) (text : List ℕ) (values : Row) (own : Adds text va
   has_met old new Key of none = absurd of
   has_met old new Floor of none = absurd of
   has_met old new Reference of none = absurd of
+  has_met old new Closing of none = absurd of
 
   blames_changed : {S : Type 0} (g : Ghosts S) (old new : Held S) (r : Result Bool Error) (rule : Rule)
       → IsUpdateOf rule text → Changes text values (state g old) (state g new) r

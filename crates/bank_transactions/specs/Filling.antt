@@ -1,11 +1,13 @@
 -- What the parts of filling a batch say.
-use Rattle.std.specs.Prelude.{◌≡◌, ℕ, List, [], map, Option, Some, None, IfSome, Result, Ok, Err}
+use Rattle.std.specs.Prelude.{◌≡◌, ℕ, Bool, List, [], map, Option, Some, None, IfSome, Result, Ok, Err}
 use Rattle.std.specs.List.{AllByRecursion}
 use Rattle.message_records.specs.believed.Ranges.{whole_within}
 use Rattle.message_records.specs.declared.limits.TheConstants.{MAX_BRANCH}
 use Rattle.posting_rules.specs.believed.Damage.{IsUndamaged}
 use Rattle.posting_rules.specs.believed.Tables.{Tables, row_at, branch_key}
 use Rattle.posting_rules.specs.declared.rows.BranchRow.{BranchRow}
+use Rattle.posting_rules.specs.declared.rows.ClosingRow.{ClosingRow}
+use Rattle.posting_batch.specs.View.{runs_of}
 use Rattle.posting_batch.specs.declared.slots.AccountSlot.{AccountSlot}
 use Rattle.posting_batch.specs.declared.slots.BranchSlot.{BranchSlot}
 use Rattle.posting_batch.specs.declared.slots.FloorSlot.{FloorSlot}
@@ -18,7 +20,7 @@ use Rattle.store_rows.specs.believed.Readings.{read_branch}
 use Rattle.store_rows.specs.believed.Rules.{StoredRows, branch_under}
 use Rattle.store_rows.specs.believed.Stored.{FindsStored}
 use Rattle.store_rows.specs.declared.fault.TableFault.{TableFault}
-use Rattle.bank_transactions.specs.believed.Stored.{HoldsAccount, HoldsDecided, HoldsFloor, HoldsKept}
+use Rattle.bank_transactions.specs.believed.Stored.{HoldsAccount, HoldsDecided, HoldsFloor, HoldsKept, runs_in}
 use Rattle.bank_transactions.specs.Stored.{HoldsTellerRow}
 
 -- this is the answer, where the call was answered
@@ -34,9 +36,18 @@ HasBranch branch n t = IsUndamaged t × (branch ≡ row_at branch_key t.branches
 abbrev pub TellsBranch : List BranchSlot → Tables → ℕ → Type 0
 TellsBranch slots t n = in_slot row_of_slot (row_at branch_slot_key slots n) ≡ row_at branch_key t.branches n
 
--- the overlay filled from tables, but for what is kept of requests
+-- the rows filled from tables, but for what is kept of requests
+abbrev pub with_rows : Tables → Overlay → Overlay
+with_rows t o = record (filled t o) { kept = o.kept; runs = o.runs }
+
+-- and whether the books are sealed
 abbrev pub known : Tables → Overlay → Overlay
-known t o = record (filled t o) { kept = o.kept; runs = o.runs }
+known t o = record (filled t o) { kept = o.kept }
+
+-- whether they are, as what a batch knows of closed books
+abbrev pub runs_read : Result Bool TableFault → Result (List ClosingRow) TableFault
+runs_read (Ok sealed) = Ok (runs_of sealed)
+runs_read (Err e) = Err e
 
 -- ---- of whatever rows a file holds
 
@@ -64,6 +75,7 @@ emptied o = record o {
   tellers = map emptied_teller o.tellers;
   accounts = map emptied_account o.accounts;
   kept = map emptied_request o.kept;
+  runs = [];
   decided = 0;
 }
 
@@ -88,15 +100,19 @@ abbrev pub RequestHeld : StoredRows → RequestSlot → Type 0
 RequestHeld rows s = HoldsKept rows s.teller s.number s.kept
 
 -- each slot has, but for those of requests, and the count is that of the rows
-pub record AreKnown (rows : StoredRows) (o : Overlay) : Type 0 where
+pub record RowsAreKnown (rows : StoredRows) (o : Overlay) : Type 0 where
   pub branches : AllByRecursion (BranchHeld rows) o.branches
   pub floors : AllByRecursion (FloorHeld rows) o.floors
   pub tellers : AllByRecursion (TellerHeld rows) o.tellers
   pub accounts : AllByRecursion (AccountHeld rows) o.accounts
   pub decided : HoldsDecided rows o.decided
-  pub runs : o.runs ≡ []
 
--- each slot has, and the count is that of the rows; and so far no rows are of closed books
+-- and whether the books are sealed
+pub record AreKnown (rows : StoredRows) (o : Overlay) : Type 0 where
+  pub slots : RowsAreKnown rows o
+  pub runs : o.runs ≡ runs_in rows
+
+-- each slot has, and the count is that of the rows, and so is whether the books are sealed
 pub record AreHeld (rows : StoredRows) (o : Overlay) : Type 0 where
   pub branches : AllByRecursion (BranchHeld rows) o.branches
   pub floors : AllByRecursion (FloorHeld rows) o.floors
@@ -104,7 +120,7 @@ pub record AreHeld (rows : StoredRows) (o : Overlay) : Type 0 where
   pub accounts : AllByRecursion (AccountHeld rows) o.accounts
   pub kept : AllByRecursion (RequestHeld rows) o.kept
   pub decided : HoldsDecided rows o.decided
-  pub runs : o.runs ≡ []
+  pub runs : o.runs ≡ runs_in rows
 
 -- ---- whatever tables a file has
 

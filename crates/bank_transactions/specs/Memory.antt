@@ -15,7 +15,7 @@ use Rattle.store_rows.specs.Failures.{HasReason}
 use Rattle.store_rows.specs.believed.Rules.{StoredRows}
 use Rattle.store_rows.specs.believed.Stored.{FindsStored}
 use Rattle.store_rows.specs.declared.fault.TableFault.{TableFault}
-use Rattle.store_rows.specs.Lying.{AfterWrite, BalanceLies, BranchLies, CountLies, FloorLies, IsBankFile}
+use Rattle.store_rows.specs.Lying.{AfterWrite, BalanceLies, BranchLies, CountLies, FloorLies, IsBankFile, SealLies}
 use Rattle.store_rows.specs.declared.holders.Member.{Member, TheVariants.Account, TheVariants.Teller}
 use Rattle.bank_transactions.specs.Known.{known_under, places}
 use Rattle.bank_transactions.specs.declared.known_rows.table.Known.{Known}
@@ -25,10 +25,11 @@ use Rattle.bank_transactions.specs.Doing.{Stays}
 use Rattle.bank_transactions.specs.declared.memory.Memory.{Memory}
 use Rattle.bank_transactions.specs.declared.memory.TheConstants.{SENT_AGAIN}
 
--- It lies in the database, whatever other rows that has: so many decided requests the row of the bank counts, and the
--- rows that are known, and where it is known that there is none.
+-- It lies in the database, whatever other rows that has: so many decided requests the row of the bank counts, the seal,
+-- and the rows that are known, and where it is known that there is none.
 pub record Fits (db : Database) (memory : Memory) : Type 0 where
   pub decided : IfSome memory.decided (CountLies db)
+  pub seal : IfSome memory.seal (SealLies db)
   pub branches : AllKnown memory.branches (λ branch row. BranchLies branch db row)
   pub floors : AllKnown memory.floors (λ branch row. FloorLies branch db row)
   pub tellers : AllKnown memory.tellers (λ teller balance. BalanceLies (Teller teller) db balance)

@@ -7,7 +7,7 @@ ghost use Rattle.bank_transactions.specs.KnownRows.{AreLow};
 use crate::known_rows::Known;
 use message_records::{Branch, Cents};
 use posting_batch::RequestSlot;
-use posting_rules::{BranchRow, FloorRow};
+use posting_rules::{BranchRow, ClosingRow, FloorRow};
 use std::alloc::Global;
 use std::mem;
 use store_rows::{Holder, Member};
@@ -39,6 +39,8 @@ fn table<V: Copy>(alloc: Global, bits: u32) -> Known<V>
 pub struct Memory {
     // How many requests are decided.
     pub(crate) decided: Option<u64>,
+    // The row that seals the books, or that there is none.
+    pub(crate) seal: Option<Option<ClosingRow>>,
     // The row of a branch, or that it has none.
     pub(crate) branches: Known<Option<BranchRow>>,
     // The row of a branch's floor, or that it has none.
@@ -58,6 +60,7 @@ impl Drop for Memory {
     fn drop(self) {
         let Memory {
             decided: _,
+            seal: _,
             branches: _,
             floors: _,
             tellers: _,
@@ -71,9 +74,10 @@ impl Memory {
     ghost use Rattle.std.specs.Prelude.{◌≡◌, ◌≤ℤ◌, pos, Some};
     ghost use Rattle.bank_transactions.specs.Known.{Knows, known_under, places};
     ghost use Rattle.sqlite.specs.Effect.{Database};
-    ghost use Rattle.store_rows.specs.believed.BankTables.{branch as branch_table, floor as floor_table, meta};
+    ghost use Rattle.store_rows.specs.believed.BankTables.{branch as branch_table, closing as closing_table};
+    ghost use Rattle.store_rows.specs.believed.BankTables.{floor as floor_table, meta};
     ghost use Rattle.store_rows.specs.Holders.{holder_of, holder_table};
-    ghost use Rattle.store_rows.specs.Lying.{BalanceLies, BranchLies, CountLies, FloorLies, LeavesOthers};
+    ghost use Rattle.store_rows.specs.Lying.{BalanceLies, BranchLies, CountLies, FloorLies, LeavesOthers, SealLies};
     ghost use Rattle.store_rows.specs.Lying.{SetsBalance, holder_key};
     ghost use Rattle.store_rows.specs.declared.holders.Holder.TheVariants as holder;
     ghost use Rattle.store_rows.specs.believed.Inserts.{meta_key};
@@ -89,6 +93,7 @@ impl Memory {
     {
         Memory {
             decided: None,
+            seal: None,
             branches: table(alloc, BRANCH_BITS),
             floors: table(alloc, BRANCH_BITS),
             tellers: table(alloc, TELLER_BITS),
@@ -104,6 +109,7 @@ impl Memory {
     {
         Memory {
             decided: None,
+            seal: None,
             branches: Known::none(),
             floors: Known::none(),
             tellers: Known::none(),
@@ -118,6 +124,7 @@ impl Memory {
         ensures room { KeepsRoom self.old self.new }
     {
         self.decided = None;
+        self.seal = None;
         self.branches.forget();
         self.floors.forget();
         self.tellers.forget();
@@ -141,6 +148,23 @@ impl Memory {
             → Fits was self.old → Fits now self.new }
     {
         self.decided = Some(decided);
+    }
+
+    /// The row that seals the books, if it is known.
+    pub(crate) fn seal_row(&self) -> Option<Option<ClosingRow>>
+        ensures value { result ≡ self.now.seal }
+        ensures lies { (db : Database) → Fits db self.now → IfSome result (SealLies db) }
+    {
+        self.seal
+    }
+
+    /// Notes the row that seals the books, as it was read.
+    pub(crate) fn note_seal(&mut self, row: &Option<ClosingRow>)
+        ensures noted { self.new.seal ≡ Some row.now }
+        ensures fits { (was now : Database) → LeavesOthers closing_table 0 was now → SealLies now row.now
+            → Fits was self.old → Fits now self.new }
+    {
+        self.seal = Some(*row);
     }
 
     /// The row of a branch, if it is known.

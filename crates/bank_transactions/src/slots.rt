@@ -11,7 +11,7 @@ ghost use Rattle.posting_rules.specs.believed.Tables.{Tables, row_at, teller_key
 ghost use Rattle.posting_batch.specs.declared.slots.BranchSlot.{BranchSlot};
 ghost use Rattle.posting_batch.specs.declared.slots.FloorSlot.{FloorSlot};
 ghost use Rattle.posting_batch.specs.Batch.{HasHomes, filled};
-ghost use Rattle.bank_transactions.specs.Filling.{known};
+ghost use Rattle.bank_transactions.specs.Filling.{RowsAreKnown, known, with_rows};
 ghost use Rattle.posting_batch.specs.View.{view};
 ghost use Rattle.bank_transactions.specs.Causes.{IsFirstDamaged};
 ghost use Rattle.bank_transactions.specs.Doing.{Reads, ReadsBy, ReadsWhere};
@@ -24,7 +24,7 @@ ghost use Rattle.bank_transactions.specs.Memory.{Remembers};
 ghost use Rattle.bank_transactions.specs.Stored.{HoldsTellerRow};
 
 use crate::floors::{balance_and_floor, is_below, known_floor};
-use crate::known::{known_balance, known_decided};
+use crate::known::{known_balance, known_decided, known_seal};
 use crate::look_ups::known_branch;
 use crate::{Memory, kept_request, teller_balances};
 use message_records::{Account, Cents, Teller};
@@ -324,8 +324,44 @@ fn fill_all<S: Alter, T: Slot>(
     Ok(())
 }
 
-/// Fills an overlay but for what is kept of requests: each other slot with what is in the tables under its key, and
-/// how many requests are decided.
+// Fills the slots of an overlay but for what is kept of requests with what is in the tables under their keys, and how
+// many requests are decided.
+fn fill_rows<S: Alter>(
+    tx: &mut Transaction<'_, S>,
+    memory: &mut Memory,
+    overlay: &mut Overlay,
+) -> Result<(), TableFault>
+    requires { ∥ Remembers S.Store tx.old.conn.now memory.old ∥₁ }
+    ensures new_rows { (overlay.new.history ≡ overlay.old.history)
+        × (overlay.new.requests ≡ overlay.old.requests)
+        × (overlay.new.references ≡ overlay.old.references) × (overlay.new.kept ≡ overlay.old.kept) }
+    ensures says { ReadsBy (IsFirstDamaged S.Store) S.Store tx.old tx.new
+        (λ tables. IsUndamaged tables × HasHomes (view overlay.old))
+        (λ tables. with_rows tables (view overlay.old)) (handing (view overlay.new) result) }
+    ensures same { OnOk result (emptied (view overlay.new) ≡ emptied (view overlay.old)) }
+    // Whatever rows the file holds.
+    ensures stored { OnOk result (HasCleanDisk (state S.Store tx.new.conn.now)
+        → HasHomes (view overlay.old)
+        → OfRows (λ rows. RowsAreKnown rows (view overlay.new)) (state S.Store tx.old.conn.now).now) }
+    ensures own { OnOk result (HasCleanDisk (state S.Store tx.new.conn.now)
+        → AllByRecursion HasOwnRow (view overlay.new).branches) }
+    ensures remembers { OnOk result (∥ Remembers S.Store tx.new.conn.now memory.new ∥₁) }
+{
+    overlay.decided = known_decided(tx, memory)?;
+    fill_all(tx, memory, &mut overlay.branches, &[], &[])?;
+    fill_all(tx, memory, &mut overlay.floors, &[], &[])?;
+    fill_all(tx, memory, &mut overlay.tellers, &overlay.branches, &[])?;
+    fill_all(
+        tx,
+        memory,
+        &mut overlay.accounts,
+        &overlay.branches,
+        &overlay.floors,
+    )
+}
+
+/// Fills an overlay but for what is kept of requests: each other slot with what is in the tables under its key, how many
+/// requests are decided, and whether the books are sealed.
 pub(crate) fn fill_known<S: Alter>(
     tx: &mut Transaction<'_, S>,
     memory: &mut Memory,
@@ -347,20 +383,13 @@ pub(crate) fn fill_known<S: Alter>(
         → AllByRecursion HasOwnRow (view overlay.new).branches) }
     ensures remembers { OnOk result (∥ Remembers S.Store tx.new.conn.now memory.new ∥₁) }
 {
-    overlay.decided = known_decided(tx, memory)?;
-    fill_all(tx, memory, &mut overlay.branches, &[], &[])?;
-    fill_all(tx, memory, &mut overlay.floors, &[], &[])?;
-    fill_all(tx, memory, &mut overlay.tellers, &overlay.branches, &[])?;
-    fill_all(
-        tx,
-        memory,
-        &mut overlay.accounts,
-        &overlay.branches,
-        &overlay.floors,
-    )
+    fill_rows(tx, memory, overlay)?;
+    overlay.sealed = known_seal(tx, memory)?;
+    Ok(())
 }
 
-/// Fills an overlay: each slot with what is in the tables under its key, and how many requests are decided.
+/// Fills an overlay: each slot with what is in the tables under its key, how many requests are decided, and whether the
+/// books are sealed.
 pub fn fill<S: Alter>(
     tx: &mut Transaction<'_, S>,
     memory: &mut Memory,

@@ -109,6 +109,7 @@ impl Overlay {
         empty_all(&mut self.tellers);
         empty_all(&mut self.accounts);
         empty_all(&mut self.kept);
+        self.sealed = false;
         self.decided = 0;
         self.history.clear();
         self.requests.clear();

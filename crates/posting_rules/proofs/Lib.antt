@@ -28,6 +28,7 @@ pub mod SettledReplies
 pub mod StaysSettled
 pub mod Settled
 pub mod Resends
+pub mod SoundClosings
 pub mod SoundEntries
 pub mod Undamaged
 pub mod NextBranch

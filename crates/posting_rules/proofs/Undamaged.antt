@@ -22,12 +22,12 @@ use Rattle.posting_rules.specs.believed.Tables.{Tables, AreTablesOf, HasKeys, ro
 use Rattle.posting_rules.specs.believed.Tables.{account_key, history_key, request_key, branch_row_of, teller_row_of}
 use Rattle.posting_rules.specs.believed.Tables.{account_row_of, history_row, history_row_of, request_row}
 use Rattle.posting_rules.specs.believed.Tables.{request_row_of, floor_key, floor_row_of, reference_key, reference_row}
-use Rattle.posting_rules.specs.believed.Tables.{reference_row_of}
+use Rattle.posting_rules.specs.believed.Tables.{closing_key, reference_row_of}
 use Rattle.posting_rules.specs.believed.Damage.{IsSoundBranch, IsSoundTeller, IsSoundAccount, IsSoundRequest, IsSoundPosting}
 use Rattle.posting_rules.specs.believed.Damage.{IsSoundFloor, IsSoundReference, FieldsAreInRange, IsUndamaged}
 use Rattle.posting_rules.proofs.{Keyed.by_test, Verdicts.when, Ready.ready_shown, Looked.floor_shown}
 use Rattle.posting_rules.proofs.{AboveFloors.stays_above, Totals.each_under_its_key, BalanceLimits.stays_within}
-use Rattle.posting_rules.proofs.NamedOpen.{some_within}
+use Rattle.posting_rules.proofs.{NamedOpen.some_within, SoundClosings.closing_sound}
 use Rattle.posting_rules.proofs.SoundEntries.{IsSoundEntry, AreSound, few_enough, open_within, are_sound}
 
 -- a row of a table is the row under its key
@@ -246,6 +246,9 @@ undamaged t log are shows =
       each_reference = λ r has.
           reference_sound es r.ordinal r all
           (sym (s.references r.ordinal) ∙ row_at-contained reference_key t.references r s.reference_keys has);
+      each_closing = λ r has.
+          closing_sound log are r
+          (sym (s.closings r.last) ∙ row_at-contained closing_key t.closings r s.closing_keys has);
       next_request = ready.next_request;
       next_posting = ready.next_posting;
       next_reference = ready.next_reference;

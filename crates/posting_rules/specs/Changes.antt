@@ -5,6 +5,7 @@ use Rattle.posting_rules.specs.believed.Tables.{Tables, branch_key, teller_key, 
 use Rattle.posting_rules.specs.believed.Tables.{row_at}
 use Rattle.posting_rules.specs.declared.rows.TellerRow.{TellerRow}
 use Rattle.posting_rules.specs.declared.rows.AccountRow.{AccountRow}
+use Rattle.posting_rules.specs.declared.rows.ClosingRow.{ClosingRow}
 use Rattle.message_records.specs.believed.Records.{RequestFields}
 use Rattle.posting_rules.specs.believed.Numbering.{branch_of_teller}
 use Rattle.posting_rules.specs.believed.Changes.{row_put}
@@ -16,6 +17,10 @@ with_teller r t = record t { tellers = row_put teller_key r t.tellers }
 -- an account more
 unfoldable pub with_account : AccountRow → Tables → Tables
 with_account r t = record t { accounts = row_put account_key r t.accounts }
+
+-- closed numbers more
+unfoldable pub with_closing : ClosingRow → Tables → Tables
+with_closing r t = record t { closings = row_put closing_key r t.closings }
 
 -- the rows that a posting changes are there
 pub record HasRowsOf (t : Tables) (r : RequestFields) : Type 0 where

@@ -5,7 +5,7 @@ use Rattle.posting_rules.specs.declared.fault.Fault.{Fault}
 use Rattle.posting_rules.specs.declared.fault.Fault.TheVariants as fault
 use Rattle.posting_rules.specs.declared.fault.Rule.{Rule}
 use Rattle.posting_rules.specs.declared.fault.Rule.TheVariants.{Meta, Teller, Account, Balance, Request}
-use Rattle.posting_rules.specs.declared.fault.Rule.TheVariants.{Value, Key, Floor, Reference}
+use Rattle.posting_rules.specs.declared.fault.Rule.TheVariants.{Value, Key, Floor, Reference, Closing}
 use Rattle.posting_rules.specs.declared.open_fault.BankTable.{BankTable}
 use Rattle.posting_rules.specs.declared.open_fault.BankTable.TheVariants as table
 use Rattle.posting_rules.specs.declared.open_fault.OpenFault.{OpenFault}
@@ -21,6 +21,7 @@ number_of_rule Value = 6
 number_of_rule Key = 7
 number_of_rule Floor = 8
 number_of_rule Reference = 9
+number_of_rule Closing = 10
 
 -- what a counter's fault is written as
 abbrev pub fault_text : Fault → List ℕ
@@ -38,6 +39,7 @@ name_of_table table.History = codes "history"
 name_of_table table.Request = codes "request"
 name_of_table table.Floor = codes "branch_floor"
 name_of_table table.Reference = codes "request_reference"
+name_of_table table.Closing = codes "closing"
 
 -- what a fault is written as that comes where a bank is made or looked for
 abbrev pub open_text : OpenFault → List ℕ

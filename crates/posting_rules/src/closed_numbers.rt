@@ -1,11 +1,12 @@
 //! Numbers that closed books decided.
-ghost use Rattle.std.specs.Prelude.{◌≡◌, ◌≤◌};
+ghost use Rattle.std.specs.Prelude.{◌≡◌, ◌≤◌, Some, None, if◌then◌else◌};
 ghost use Rattle.std.specs.List.{list_any};
-ghost use Rattle.posting_rules.specs.believed.Closings.{books_of, meets, run_of};
+ghost use Rattle.posting_rules.specs.believed.Closings.{books_of, is_closing, is_run, meets, run_of, seal};
 ghost use Rattle.posting_rules.specs.Closings.{closing_for, covers};
 ghost use Rattle.posting_rules.specs.believed.Commands.{IsRun, number_key};
 
 use crate::judgments::Books;
+use crate::limits::NUMBERS_PER_TELLER;
 use crate::numbering::number_key;
 use crate::rows::ClosingRow;
 use message_records::{Number, Teller};
@@ -21,7 +22,38 @@ pub enum Closing {
     Overlaps,
 }
 
+// Tests whether these are keys of two numbers of one teller, the first not above the last.
+fn is_run(first: u64, last: u64) -> bool
+    ensures { result ≡ is_run first last }
+{
+    first <= last
+        && NUMBERS_PER_TELLER <= first
+        && 0 < first % NUMBERS_PER_TELLER
+        && first / NUMBERS_PER_TELLER == last / NUMBERS_PER_TELLER
+}
+
 impl ClosingRow {
+    /// The row that seals the books.
+    #[must_use]
+    pub fn seal() -> Self
+        ensures { result ≡ seal }
+    {
+        ClosingRow { last: 0, first: 0 }
+    }
+
+    /// The numbers between two keys, or the seal from 0 to 0; none where they are keys of different tellers, or in the
+    /// wrong order, or no keys.
+    #[must_use]
+    pub fn of_keys(first: u64, last: u64) -> Option<Self>
+        ensures { result ≡ if is_closing first last then Some (run_of first last) else None }
+    {
+        if (first == 0 && last == 0) || is_run(first, last) {
+            Some(ClosingRow { last, first })
+        } else {
+            None
+        }
+    }
+
     /// The numbers of a teller from the first to the last.
     #[must_use]
     pub fn of_numbers(teller: Teller, first: Number, last: Number) -> Self

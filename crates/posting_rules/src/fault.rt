@@ -27,10 +27,12 @@ pub enum Rule {
     Floor,
     /// A reference is 20 bytes of printable ASCII.
     Reference,
+    /// Closed numbers are numbers of one teller, and none of them is closed twice; or they are the seal.
+    Closing,
 }
 
 impl Rule {
-    /// The number of the rule: 1..=9.
+    /// The number of the rule: 1..=10.
     #[must_use]
     pub fn number(self) -> u8
         ensures { result ≡ number_of_rule self }
@@ -45,6 +47,7 @@ impl Rule {
             Rule::Key => 7,
             Rule::Floor => 8,
             Rule::Reference => 9,
+            Rule::Closing => 10,
         }
     }
 }

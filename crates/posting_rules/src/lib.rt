@@ -56,7 +56,7 @@ pub use laws::{
     tables_are_consistent, tables_are_undamaged, two_years_law,
 };
 pub use limits::{
-    ACCOUNTS_PER_BRANCH, LAST_BRANCH, MAX_ACCOUNTS, MAX_DECIDED, NUMBERS_PER_TELLER,
+    ACCOUNTS_PER_BRANCH, LAST_BRANCH, LAST_KEY, MAX_ACCOUNTS, MAX_DECIDED, NUMBERS_PER_TELLER,
     RECORDS_PER_BATCH, TELLERS_PER_BRANCH,
 };
 pub use numbering::{

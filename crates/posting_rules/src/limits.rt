@@ -15,6 +15,9 @@ pub const ACCOUNTS_PER_BRANCH: u64 = 100_000;
 /// How many numbers a teller has for its requests, with the 0 that none of them has.
 pub const NUMBERS_PER_TELLER: u64 = 10_000_000_000;
 
+/// The greatest key of a number: that of the last number of the last teller.
+pub const LAST_KEY: u64 = 999_999_999_999_999_999;
+
 /// How many accounts a branch can be opened with.
 pub const MAX_ACCOUNTS: u32 = ACCOUNTS_PER_BRANCH as u32;
 

@@ -15,6 +15,7 @@ pub enum BankTable {
     Request,
     Floor,
     Reference,
+    Closing,
 }
 
 impl BankTable {
@@ -34,6 +35,7 @@ impl BankTable {
             BankTable::Request => "request",
             BankTable::Floor => "branch_floor",
             BankTable::Reference => "request_reference",
+            BankTable::Closing => "closing",
         }
     }
 }

@@ -36,7 +36,8 @@ starts old new (Ok count) made h =
       record {
         sound = ∣ done.0.sound ∣₁;
         each = meta_written old new (no_rows all_texts) made.each [] _ refl done.0;
-        current = refl;
+        early = λ _. refl;
+        alone = tt;
       },
       done.2,
       done.0.steps.schema,

@@ -47,7 +47,10 @@ completed (suc zero) old new earlier all lacking =
               d bank.history refl all.1.1.1.1.0,
               (
                 d bank.request refl all.1.1.1.1.1.0,
-                (lacking.empty.each.0.defined, (lacking.empty.each.1.0.defined, tt)),
+                (
+                  lacking.empty.each.0.defined,
+                  (lacking.empty.each.1.0.defined, (lacking.empty.each.1.1.0.defined, tt)),
+                ),
               ),
             ),
           ),
@@ -67,14 +70,40 @@ completed (suc (suc zero)) old new earlier all lacking =
               d bank.history refl all.1.1.1.1.0,
               (
                 d bank.request refl all.1.1.1.1.1.0,
-                (d bank.floor refl all.1.1.1.1.1.1.0, (lacking.empty.each.0.defined, tt)),
+                (
+                  d bank.floor refl all.1.1.1.1.1.1.0,
+                  (lacking.empty.each.0.defined, (lacking.empty.each.1.0.defined, tt)),
+                ),
               ),
             ),
           ),
         ),
       ),
     )
-completed (suc (suc (suc n))) old new earlier all made = absurd (omega (arith, earlier.1))
+completed (suc (suc (suc zero))) old new earlier all lacking =
+    let d = lacking.defines in (
+      d bank.meta refl all.0,
+      (
+        d bank.branch refl all.1.0,
+        (
+          d bank.teller refl all.1.1.0,
+          (
+            d bank.account refl all.1.1.1.0,
+            (
+              d bank.history refl all.1.1.1.1.0,
+              (
+                d bank.request refl all.1.1.1.1.1.0,
+                (
+                  d bank.floor refl all.1.1.1.1.1.1.0,
+                  (d bank.reference refl all.1.1.1.1.1.1.1.0, (lacking.empty.each.0.defined, tt)),
+                ),
+              ),
+            ),
+          ),
+        ),
+      ),
+    )
+completed (suc (suc (suc (suc n)))) old new earlier all made = absurd (omega (arith, earlier.1))
 
 -- the rows of a table that was there lie as they lay
 pub lie_still : (from : ℕ) (old new : Database) → LackingAreMade from old new → (t : Table) → t.references ≡ []
@@ -99,7 +128,10 @@ is_file db sound all = (
             is_stored db bank.request refl sound all.1.1.1.1.1.0,
             (
               is_stored db bank.floor refl sound all.1.1.1.1.1.1.0,
-              (is_stored db bank.reference refl sound all.1.1.1.1.1.1.1.0, tt),
+              (
+                is_stored db bank.reference refl sound all.1.1.1.1.1.1.1.0,
+                (is_stored db bank.closing refl sound all.1.1.1.1.1.1.1.1.0, tt),
+              ),
             ),
           ),
         ),

@@ -10,6 +10,7 @@ use Rattle.store_rows.specs.Creation.{all_texts}
 use Rattle.store_rows.specs.believed.BankTables as bank
 use Rattle.store_rows.specs.declared.texts.TheConstants.{MAKE_META, MAKE_BRANCH, MAKE_TELLER, MAKE_ACCOUNT}
 use Rattle.store_rows.specs.declared.texts.TheConstants.{MAKE_HISTORY, MAKE_REQUEST, MAKE_FLOOR, MAKE_REFERENCE, MAKE_TABLES}
+use Rattle.store_rows.specs.declared.texts.TheConstants.{MAKE_CLOSING}
 
 -- the table that counts for AUTOINCREMENT
 pub sequence : (t : Table) × IsMakeable sequence_text t
@@ -44,6 +45,13 @@ of_references =
     creates_by _ _ (makeable MAKE_REFERENCE.now bank.reference refl refl refl refl refl refl refl refl) refl
     _ _ _ refl refl refl refl refl refl refl (lit≤ tt) refl
 
+-- the numbers that closed books decided
+pub of_closings : CreatesOnly MAKE_CLOSING.now bank.closing
+unfolding everything listing_tests
+of_closings =
+    creates_by _ _ (makeable MAKE_CLOSING.now bank.closing refl refl refl refl refl refl refl refl) refl
+    _ _ _ refl refl refl refl refl refl refl (lit≤ tt) refl
+
 -- what was asked
 of_records : CreatesOnly MAKE_HISTORY.now bank.history × CreatesOnly MAKE_REQUEST.now bank.request
 unfolding everything listing_tests
@@ -71,7 +79,7 @@ each_creates =
                 (r.1, refl),
                 (
                   (of_floors, refl),
-                  ((of_references, refl), tt),
+                  ((of_references, refl), ((of_closings, refl), tt)),
                 ),
               ),
             ),

@@ -8,7 +8,7 @@ use Rattle.sql_meanings.proofs.{Keyed.Gets, Keyed.IsFirst, Keyed.first_key, Keye
 use Rattle.sql_meanings.proofs.Texts.{places_of, select_of}
 use Rattle.store_rows.specs.believed.BankTables as bank
 use Rattle.store_rows.specs.declared.texts.TheConstants.{GET_META, GET_BRANCH, GET_TELLER, GET_ACCOUNT, GET_FLOOR}
-use Rattle.store_rows.specs.declared.texts.TheConstants.{GET_REFERENCE}
+use Rattle.store_rows.specs.declared.texts.TheConstants.{GET_CLOSING, GET_REFERENCE}
 
 -- the key of each is first
 pub record Keys : Type 0 where
@@ -18,6 +18,7 @@ pub record Keys : Type 0 where
   pub account : IsFirst bank.account (codes "aid")
   pub floor : IsFirst bank.floor (codes "bid")
   pub reference : IsFirst bank.reference (codes "ordinal")
+  pub closing : IsFirst bank.closing (codes "last")
 
 unfoldable pub keys : Keys
 unfolding everything
@@ -28,6 +29,7 @@ keys = record {
   account = λ _. first_key (codes "aid") refl refl refl refl;
   floor = λ _. first_key (codes "bid") refl refl refl refl;
   reference = λ _. first_key (codes "ordinal") refl refl refl refl;
+  closing = λ _. first_key (codes "last") refl refl refl refl;
 }
 
 pub record GetsRows : Type 0 where
@@ -37,6 +39,7 @@ pub record GetsRows : Type 0 where
   pub account : Gets bank.account GET_ACCOUNT.now (1 ∷ []) (col 1 2 ∷ [])
   pub floor : Gets bank.floor GET_FLOOR.now (places_of bank.floor) (columns_of bank.floor)
   pub reference : Gets bank.reference GET_REFERENCE.now (places_of bank.reference) (columns_of bank.reference)
+  pub closing : Gets bank.closing GET_CLOSING.now (places_of bank.closing) (columns_of bank.closing)
 
 pub gets : GetsRows
 unfolding everything program.program ungrouped
@@ -64,5 +67,9 @@ gets = record {
   reference = gets_by (select_of bank.reference GET_REFERENCE.now 1 _ _ _ _ _ _ _ _ _ refl refl refl (lit≤ tt)
       refl refl refl refl (λ _. refl) (lit≤ tt))
       _ _ _ _ _ keys.reference refl refl refl refl refl refl (λ _ _ _ has. rw (has.low, has.found))
+      (λ _ _ _ _ has. rw (has.low, has.found));
+  closing = gets_by (select_of bank.closing GET_CLOSING.now 1 _ _ _ _ _ _ _ _ _ refl refl refl (lit≤ tt)
+      refl refl refl refl (λ _. refl) (lit≤ tt))
+      _ _ _ _ _ keys.closing refl refl refl refl refl refl (λ _ _ _ has. rw (has.low, has.found))
       (λ _ _ _ _ has. rw (has.low, has.found));
 }

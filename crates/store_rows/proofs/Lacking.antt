@@ -23,7 +23,7 @@ use Rattle.store_rows.specs.believed.BankTables.{bank_tables}
 use Rattle.store_rows.specs.Creation.{AreGrown, TablesAreMade, all_texts}
 use Rattle.store_rows.specs.Migration.{IsEarlier, LackingAreMade, RefusesLacking, ShowsLess, TakesLacking, lacking}
 use Rattle.store_rows.specs.believed.View.{contents_of, meta_entry, rows_of, tables_of}
-use Rattle.store_rows.specs.declared.texts.TheConstants.{MAKE_FLOOR, MAKE_REFERENCE}
+use Rattle.store_rows.specs.declared.texts.TheConstants.{MAKE_CLOSING, MAKE_FLOOR, MAKE_REFERENCE}
 use Rattle.store_rows.proofs.MadeSoFar.{grows_plainly}
 
 -- ---- they are made
@@ -98,7 +98,7 @@ module _ (from : ℕ) (old new : Database) (made : TablesAreMade (lacking from) 
       sound = made.empty.sound;
       each = ∥∥₁_elim made.empty.sound (HoldsEach-prop new bank_tables ((meta_entry (pos from) t.decided ∷ []) ∷ rows_of t))
           (each t was);
-      current = was.shows.current;
+      alone = was.shows.alone;
     };
   }
 
@@ -158,9 +158,17 @@ reference_plain = record {
   understood = λ schema free. free_understood schema _ _ refl refl refl free MAKE_REFERENCE.now _ refl refl refl;
 }
 
+closing_plain : IsPlain (MAKE_CLOSING.now, bank.closing)
+unfolding everything listing_tests
+closing_plain = record {
+  uniques = refl;
+  uncounted = refl;
+  understood = λ schema free. free_understood schema _ _ refl refl refl free MAKE_CLOSING.now _ refl refl refl;
+}
+
 all_apart : AreApart (lacking 1)
 unfolding everything listing_tests
-all_apart = ((refl, tt), (tt, tt))
+all_apart = ((refl, (refl, tt)), ((refl, tt), (tt, tt)))
 
 apart_later : (its : List (List ℕ × Table)) (n : ℕ) → AreApart its → AreApart (drop n its)
 apart_later [] zero apart = tt
@@ -178,6 +186,6 @@ pub lacking_refused : (from : ℕ) → IsEarlier from → (schema : Schema) → 
 lacking_refused zero earlier schema takes e (now, refuses) = absurd (omega (arith, earlier.0))
 lacking_refused (suc n) earlier schema takes e (now, refuses) =
     let same = after_first n in
-    full (lacking (suc n)) (rw same (all_later IsPlain (lacking 1) n (floor_plain, (reference_plain, tt))))
+    full (lacking (suc n)) (rw same (all_later IsPlain (lacking 1) n (floor_plain, (reference_plain, (closing_plain, tt)))))
     (rw same (apart_later (lacking 1) n all_apart)) schema now takes.free takes.counts refuses.made refuses.next refuses.is_next
     refuses.grown e refuses.refused

@@ -36,7 +36,7 @@ use Rattle.store_rows.proofs.TableKinds.{Kind, table_of}
 -- ---- a bank's file
 
 free : AllByRecursion (λ t. t.references ≡ []) bank_tables
-free = (refl, (refl, (refl, (refl, (refl, (refl, (refl, (refl, tt))))))))
+free = (refl, (refl, (refl, (refl, (refl, (refl, (refl, (refl, (refl, tt)))))))))
 
 -- it keeps the rows of each table
 pub kept : (db : Database) → IsBankFile db → (place : ℕ) (table : Table) → slice_get bank_tables place ≡ Some table

@@ -7,15 +7,15 @@ use base.Stored.{Coded-set}
 use Rattle.sqlite.specs.{Effect.Database, Order.Row, Order.column, Table.Table}
 use Rattle.sqlite_rules.specs.Lists.{Has}
 use Rattle.posting_rules.specs.declared.fault.Rule.{Rule}
-use Rattle.posting_rules.specs.declared.rows.{BranchRow.BranchRow, FloorRow.FloorRow}
+use Rattle.posting_rules.specs.declared.rows.{BranchRow.BranchRow, ClosingRow.ClosingRow, FloorRow.FloorRow}
 use Rattle.sql_meanings.specs.{Entries.listed, Under.rows_under}
 use Rattle.sql_meanings.specs.believed.{Entries.Entry, Entries.has_key, Entries.stored, Tables.Holds}
 use Rattle.store_rows.specs.believed.BankTables as bank
 use Rattle.store_rows.specs.believed.BankTables.{bank_tables}
-use Rattle.store_rows.specs.{Holders.entry_under, Lying.BalanceLies, Lying.BranchLies, Lying.FloorLies, Lying.LiesAs}
+use Rattle.store_rows.specs.{Holders.entry_under, Lying.BalanceLies, Lying.BranchLies, Lying.FloorLies, Lying.LiesAs, Lying.SealLies}
 use Rattle.store_rows.specs.Lying.{IsBankFile}
-use Rattle.store_rows.specs.believed.Readings.{Reading, balance_of, branch_of, floor_of, read_balance, read_branch}
-use Rattle.store_rows.specs.believed.Readings.{read_floor}
+use Rattle.store_rows.specs.believed.Readings.{Reading, balance_of, branch_of, closing_of, floor_of, read_balance, read_branch}
+use Rattle.store_rows.specs.believed.Readings.{read_closing, read_floor}
 use Rattle.store_rows.specs.believed.{Rules.HoldsBank, Rules.StoredRows, Rules.row_under, Rules.stored_lists}
 use Rattle.store_rows.specs.believed.Stored.{FindsStored}
 use Rattle.store_rows.specs.declared.holders.{Member.Member, Member.TheVariants.Account, Member.TheVariants.Teller}
@@ -84,12 +84,21 @@ coded_floor : Coded FloorRow
 coded_floor = code_by (ℕ × ℤ) (coded× coded_ℕ coded_ℤ) (λ r. (r.branch, r.lowest))
     (λ it. record { branch = it.0; lowest = it.1 }) (λ r. refl)
 
+coded_closing : Coded ClosingRow
+coded_closing = code_by (ℕ × ℕ) (coded× coded_ℕ coded_ℕ) (λ r. (r.last, r.first))
+    (λ it. record { last = it.0; first = it.1 }) (λ r. refl)
+
 module _ (db : Database) (rows : StoredRows) (has : HoldsBank db rows) where
   pub finds_branch : (n : ℕ) (o : Option BranchRow) → ∥ BranchLies n db o ∥₁
       → FindsStored (row_under rows.branches n) read_branch (Ok o)
   finds_branch n = finds_lying coded_branch bank.branch (λ row. column row 0 ∷ column row 2 ∷ column row 3 ∷ [])
       branch_of read_branch (λ e. refl) n db rows.branches
       (holds_list db rows has 1 bank.branch rows.branches refl refl)
+
+  pub finds_seal : (o : Option ClosingRow) → ∥ SealLies db o ∥₁
+      → FindsStored (row_under rows.closings 0) read_closing (Ok o)
+  finds_seal = finds_lying coded_closing bank.closing (λ row. column row 0 ∷ column row 2 ∷ []) closing_of read_closing (λ e. refl)
+      0 db rows.closings (holds_list db rows has 8 bank.closing rows.closings refl refl)
 
   pub finds_floor : (n : ℕ) (o : Option FloorRow) → ∥ FloorLies n db o ∥₁
       → FindsStored (row_under rows.floors n) read_floor (Ok o)

@@ -16,23 +16,24 @@ use Rattle.sql_meanings.specs.Under.{rows_under}
 use Rattle.sql_meanings.proofs.{EntryLists.cast_int, Texts.columns_of}
 use Rattle.store_rows.specs.believed.BankTables as bank
 use Rattle.store_rows.specs.{Columns.meta_of, Statements.RunsUnder, believed.Readings.balance_of}
-use Rattle.store_rows.specs.believed.Readings.{branch_of, floor_of, number}
+use Rattle.store_rows.specs.believed.Readings.{branch_of, closing_of, floor_of, number}
 use Rattle.store_rows.specs.declared.fault.TableFault.{TableFault}
 use Rattle.store_rows.specs.declared.holders.Member.TheVariants as member
 use Rattle.store_rows.specs.Failures.{ReadsAnswer}
-use Rattle.posting_rules.specs.declared.rows.FloorRow.{FloorRow}
+use Rattle.posting_rules.specs.declared.rows.{ClosingRow.ClosingRow, FloorRow.FloorRow}
+use Rattle.posting_rules.specs.believed.Closings.{seal}
 use Rattle.store_rows.specs.declared.holders.Holder.TheVariants as holder
 use Rattle.store_rows.specs.declared.metas.{StoredMeta.StoredMeta, TheConstants.META_ID}
 use Rattle.store_rows.specs.declared.texts.TheConstants as text
 use Rattle.store_rows.specs.Lying.{BalanceLies, BranchLies, FindsLying, FloorLies, MetaLies, SetsBalance, SetsDecided, SetsItsVersion, SetsLying}
-use Rattle.store_rows.specs.Lying.{PutsLying}
+use Rattle.store_rows.specs.Lying.{PutsLying, SealLies}
 use Rattle.store_rows.specs.{Statements.PutsRow, believed.SeveralRows.given}
-use Rattle.store_rows.specs.believed.View.{history_entry, reference_entry, request_entry}
+use Rattle.store_rows.specs.believed.View.{closing_entry, history_entry, reference_entry, request_entry}
 use Rattle.posting_rules.specs.believed.Tables.{history_key, request_key}
 use Rattle.posting_rules.specs.declared.rows.{HistoryRow.HistoryRow, ReferenceRow.ReferenceRow, RequestRow.RequestRow}
 use Rattle.sql_meanings.proofs.PutRows.{puts_one}
 use Rattle.store_rows.proofs.{Puts.puts, SeveralTexts.eight_postings, SeveralTexts.eight_requests}
-use Rattle.store_rows.proofs.{SeveralWrites.HoldsOfEight, TheTables.history, TheTables.references, TheTables.requests}
+use Rattle.store_rows.proofs.{SeveralWrites.HoldsOfEight, TheTables.closings, TheTables.history, TheTables.references, TheTables.requests}
 use Rattle.store_rows.proofs.Lying.{finds_lying, in_limit, puts_lying, sets_lying, whole_kept}
 use Rattle.store_rows.proofs.Readings.{balance_back, branch_back, branch_parts, then_ok}
 use Rattle.store_rows.proofs.{Getting.gets, Setting.first_set, Setting.second_set, Setting.version_set}
@@ -65,6 +66,11 @@ module _ {S : Type 0} (g : Ghosts S) (old new : Transaction S) (answer : Result 
       → Asked text.GET_BRANCH.now k → FindsLying g old new (BranchLies k) result
   branch_found k = finds_lying 1 bank.branch refl text.GET_BRANCH.now (columns_of bank.branch) k _ branch_of
       (gets.branch.reads (pos k)) (λ r. refl) g old new answer
+
+  pub seal_found : (result : Result (Option ClosingRow) TableFault) → ReadsAnswer closing_of answer result
+      → Asked text.GET_CLOSING.now 0 → FindsLying g old new SealLies result
+  seal_found = finds_lying 8 bank.closing refl text.GET_CLOSING.now (columns_of bank.closing) 0 _ closing_of
+      (gets.closing.reads (pos 0)) (λ r. refl) g old new answer
 
   pub floor_found : (k : ℕ) (result : Result (Option FloorRow) TableFault) → ReadsAnswer floor_of answer result
       → Asked text.GET_FLOOR.now k → FindsLying g old new (FloorLies k) result
@@ -220,6 +226,11 @@ module _ {S : Type 0} (g : Ghosts S) (old new : Transaction S) (result : Result 
       → PutsLying g old new bank.reference result
   reference_put r short = puts_lying references text.ADD_REFERENCE.now (given (reference_entry r))
       (reference_entry r ∷ []) (puts_one (puts.reference r short)) g old new result
+
+  pub seal_put : PutsRow g old new text.ADD_CLOSING.now (given (closing_entry seal)) result
+      → PutsLying g old new bank.closing result
+  seal_put = puts_lying closings text.ADD_CLOSING.now (given (closing_entry seal)) (closing_entry seal ∷ [])
+      (puts_one (puts.closing seal)) g old new result
 
   pub postings_put : HoldsOfEight history_key history_entry
       (λ values. PutsRow g old new text.ADD_EIGHT_POSTINGS.now values result)

@@ -18,7 +18,7 @@ use Rattle.sql_meanings.proofs.{Means.means, ReadTables.ReadsAs, Statements.HasT
 use Rattle.sql_meanings.proofs.ShownColumns.{outputs_at, shows_named}
 use Rattle.sql_meanings.proofs.Texts.{IsSelect, columns_of, left_over, many, places_of, select_of}
 use Rattle.store_rows.specs.believed.BankTables as bank
-use Rattle.store_rows.specs.declared.texts.TheConstants.{NEXT_BRANCH, NEXT_POSTING, NEXT_REFERENCE, NEXT_REQUEST}
+use Rattle.store_rows.specs.declared.texts.TheConstants.{NEXT_BRANCH, NEXT_CLOSING, NEXT_POSTING, NEXT_REFERENCE, NEXT_REQUEST}
 
 -- SELECT columns FROM table WHERE key > ?1 ORDER BY key LIMIT 1
 nexts_by : {table : Table} {text : List ℕ} (is : IsSelect table text 1 (places_of table)) (key : Name)
@@ -61,6 +61,11 @@ unfolding everything
 is_branch = select_of bank.branch NEXT_BRANCH.now 1 _ _ _ _ _ _ _ _ _ refl refl refl (lit≤ tt) refl refl refl refl
     (λ tree. refl) (lit≤ tt)
 
+pub is_closing : IsSelect bank.closing NEXT_CLOSING.now 1 (places_of bank.closing)
+unfolding everything
+is_closing = select_of bank.closing NEXT_CLOSING.now 1 _ _ _ _ _ _ _ _ _ refl refl refl (lit≤ tt) refl refl refl refl
+    (λ tree. refl) (lit≤ tt)
+
 pub is_request : IsSelect bank.request NEXT_REQUEST.now 1 (places_of bank.request)
 unfolding everything
 is_request = select_of bank.request NEXT_REQUEST.now 1 _ _ _ _ _ _ _ _ _ refl refl refl (lit≤ tt) refl refl refl refl
@@ -79,6 +84,13 @@ is_reference = select_of bank.reference NEXT_REFERENCE.now 1 _ _ _ _ _ _ _ _ _ r
 pub next_branch : (k : ℤ) → ReadsAs bank.branch NEXT_BRANCH.now (Int k ∷ []) (λ t. next_above t (columns_of bank.branch))
 unfolding is_branch everything program.program ungrouped
 next_branch = nexts_by is_branch (codes "bid") (λ _. first_key (codes "bid") refl refl refl refl)
+    refl refl refl refl refl refl refl refl refl refl (λ tree. refl) (λ tree. refl)
+    (λ schema p tree has. rw (has.low, has.found)) (λ k schema p tree has. rw (has.low, has.found))
+
+pub next_closing : (k : ℤ)
+    → ReadsAs bank.closing NEXT_CLOSING.now (Int k ∷ []) (λ t. next_above t (columns_of bank.closing))
+unfolding is_closing everything program.program ungrouped
+next_closing = nexts_by is_closing (codes "last") (λ _. first_key (codes "last") refl refl refl refl)
     refl refl refl refl refl refl refl refl refl refl (λ tree. refl) (λ tree. refl)
     (λ schema p tree has. rw (has.low, has.found)) (λ k schema p tree has. rw (has.low, has.found))
 

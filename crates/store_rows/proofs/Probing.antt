@@ -10,9 +10,10 @@ use Rattle.store_rows.specs.believed.BankTables as bank
 use Rattle.store_rows.specs.Probes.{probe_of}
 use Rattle.posting_rules.specs.declared.open_fault.BankTable.{BankTable}
 use Rattle.posting_rules.specs.declared.open_fault.BankTable.TheVariants.{Meta, Branch, Teller, Account, History, Request}
-use Rattle.posting_rules.specs.declared.open_fault.BankTable.TheVariants.{Floor, Reference}
+use Rattle.posting_rules.specs.declared.open_fault.BankTable.TheVariants.{Closing, Floor, Reference}
 use Rattle.store_rows.specs.declared.texts.TheConstants.{PROBE_META, PROBE_BRANCH, PROBE_TELLER, PROBE_ACCOUNT}
 use Rattle.store_rows.specs.declared.texts.TheConstants.{PROBE_HISTORY, PROBE_REQUEST, PROBE_FLOOR, PROBE_REFERENCE}
+use Rattle.store_rows.specs.declared.texts.TheConstants.{PROBE_CLOSING}
 
 is_meta : IsSelect bank.meta PROBE_META.now 0 (places_of bank.meta)
 unfolding everything
@@ -103,6 +104,17 @@ probes_reference = probes_by bank.reference PROBE_REFERENCE.now _ is_reference (
     refl refl
     (λ schema p tree has. rw (has.low, has.found)) refl
 
+is_closing : IsSelect bank.closing PROBE_CLOSING.now 0 (places_of bank.closing)
+unfolding everything
+is_closing = select_of bank.closing PROBE_CLOSING.now 0 _ _ _ _ _ _ _ _ _ refl refl refl (lit≤ tt) refl refl refl
+    refl
+    (λ tree. refl) (lit≤ tt)
+
+probes_closing : ProbesAs bank.closing PROBE_CLOSING.now
+unfolding is_closing everything listing_schema program.program ungrouped
+probes_closing = probes_by bank.closing PROBE_CLOSING.now _ is_closing (columns_of bank.closing) refl refl refl
+    (λ schema p tree has. rw (has.low, has.found)) refl
+
 -- what the probe of each table reports
 pub probes : (table : BankTable) → ProbesAs (probe_of table).1 (probe_of table).0
 probes Meta = probes_meta
@@ -113,6 +125,7 @@ probes History = probes_history
 probes Request = probes_request
 probes Floor = probes_floor
 probes Reference = probes_reference
+probes Closing = probes_closing
 
 -- none of the tables refers to another
 pub stands_alone : (table : BankTable) → (probe_of table).1.references ≡ []
@@ -124,3 +137,4 @@ stands_alone History = refl
 stands_alone Request = refl
 stands_alone Floor = refl
 stands_alone Reference = refl
+stands_alone Closing = refl

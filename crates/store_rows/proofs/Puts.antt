@@ -2,7 +2,7 @@
 use Rattle.std.proofs.Common.{pos, [], ◌∷◌, ◌≤◌, length, lit≤, refl, List, ℕ}
 use Rattle.posting_rules.specs.declared.rows.{BranchRow.BranchRow, TellerRow.TellerRow, AccountRow.AccountRow}
 use Rattle.posting_rules.specs.declared.rows.{HistoryRow.HistoryRow, RequestRow.RequestRow, FloorRow.FloorRow}
-use Rattle.posting_rules.specs.declared.rows.{ReferenceRow.ReferenceRow}
+use Rattle.posting_rules.specs.declared.rows.{ClosingRow.ClosingRow, ReferenceRow.ReferenceRow}
 use Rattle.sqlite.specs.{Table.Table, declared.types.Value.TheVariants.Null, declared.types.Value.TheVariants.Int}
 use Rattle.sqlite_tied.specs.Compute.{everything}
 use Rattle.sql_meanings.specs.believed.Entries.{Entry}
@@ -10,7 +10,7 @@ use Rattle.sql_meanings.proofs.{PutRows.PutsAs, Texts.puts_by}
 use Rattle.store_rows.specs.believed.BankTables as bank
 use Rattle.store_rows.specs.{believed.SeveralRows.given, declared.metas.TheConstants.VERSION}
 use Rattle.store_rows.specs.believed.View.{meta_entry, branch_entry, teller_entry, account_entry, history_entry}
-use Rattle.store_rows.specs.believed.View.{request_entry, floor_entry, reference_entry}
+use Rattle.store_rows.specs.believed.View.{closing_entry, request_entry, floor_entry, reference_entry}
 use Rattle.store_rows.specs.declared.texts.TheConstants as text
 use Rattle.store_rows.proofs.Checked.{meta_checked}
 
@@ -32,6 +32,7 @@ pub record PutsEntries : Type 0 where
   pub floor : (r : FloorRow) → Puts bank.floor text.ADD_FLOOR.now (floor_entry r)
   pub reference : (r : ReferenceRow) → length r.reference ≤ 1000
       → Puts bank.reference text.ADD_REFERENCE.now (reference_entry r)
+  pub closing : (r : ClosingRow) → Puts bank.closing text.ADD_CLOSING.now (closing_entry r)
 
 pub puts : PutsEntries
 unfolding everything
@@ -54,4 +55,6 @@ puts = record {
   reference = λ r short. puts_by bank.reference text.ADD_REFERENCE.now (given (reference_entry r))
       (reference_entry r) _ _ _ refl refl refl refl (λ _ _. refl) (lit≤ tt) refl (λ _. refl) (refl, refl)
       (short, tt) (λ _. refl) refl;
+  closing = λ r. puts_by bank.closing text.ADD_CLOSING.now (given (closing_entry r)) (closing_entry r) _ _ _ refl
+      refl refl refl (λ _ _. refl) (lit≤ tt) refl (λ _. refl) (refl, refl) tt (λ _. refl) refl;
 }

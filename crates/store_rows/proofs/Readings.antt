@@ -1,9 +1,9 @@
 -- What the columns of a row were, where they were read; and that sound rows read as themselves.
 use Rattle.std.proofs.Common.{◌≡◌, ◌≤◌, ◌≤ℤ◌, ◌*◌, ◌++◌, ℕ, zero, suc, ℤ, pos, negsuc, Bool, true, false, cond, List, []}
-use Rattle.std.proofs.Common.{◌∷◌, Some, None, Result, Ok, Err, refl, ap, subst, ◌∙◌, arith}
-use Rattle.std.specs.{Prelude.◌&&◌, Prelude.int_lt, Prelude.nat_abs, Prelude.nat_le, Prelude.slice_index_or}
+use Rattle.std.proofs.Common.{◌∷◌, Some, None, Result, Ok, Err, refl, ap, subst, ◌∙◌, arith, inl, inr}
+use Rattle.std.specs.{Prelude.◌&&◌, Prelude.◌==◌, Prelude.IsTrue, Prelude.int_lt, Prelude.nat_abs, Prelude.nat_le, Prelude.slice_index_or}
 use Rattle.std.specs.Option.{ok_or}
-use Rattle.std.proofs.lemmas.{Bool.Decides.nat_tests, Int.ints}
+use Rattle.std.proofs.lemmas.{Bool.Decides.nat_tests, Bool.and_parts, Bool.cases_Bool, Bool.eqb-true, Int.ints}
 use Rattle.sqlite.specs.Order.{Row, column}
 use Rattle.sqlite.specs.declared.types.Value.{Value, TheVariants.Blob, TheVariants.Int, TheVariants.Null}
 use Rattle.sqlite.specs.declared.types.Value.TheVariants.{Real, Text}
@@ -13,22 +13,23 @@ use Rattle.message_records.specs.declared.limits.TheConstants.{MAX_ACCOUNT, MAX_
 use Rattle.message_records.specs.declared.limits.TheConstants.{MAX_MOMENT, MAX_NUMBER, MAX_TELLER}
 use Rattle.message_records.proofs.SpelledReplies.{outcome_with-code}
 use Rattle.posting_rules.specs.believed.Damage.{IsSoundAccount, IsSoundBranch, IsSoundFloor, IsSoundPosting}
-use Rattle.posting_rules.specs.believed.Damage.{IsSoundReference, IsSoundRequest, IsSoundTeller}
+use Rattle.posting_rules.specs.believed.Closings.{is_closing}
+use Rattle.posting_rules.specs.believed.Damage.{IsSoundClosing, IsSoundReference, IsSoundRequest, IsSoundTeller}
 use Rattle.posting_rules.specs.declared.fault.Rule.{Rule, TheVariants.Balance, TheVariants.Floor}
 use Rattle.posting_rules.specs.declared.fault.Rule.TheVariants.{Value as OfValue}
 use Rattle.posting_rules.specs.declared.limits.TheConstants.{ACCOUNTS_PER_BRANCH, LAST_BRANCH, MAX_ACCOUNTS}
-use Rattle.posting_rules.specs.declared.limits.TheConstants.{MAX_DECIDED, TELLERS_PER_BRANCH}
-use Rattle.posting_rules.specs.declared.rows.{AccountRow.AccountRow, BranchRow.BranchRow, FloorRow.FloorRow}
+use Rattle.posting_rules.specs.declared.limits.TheConstants.{LAST_KEY, MAX_DECIDED, TELLERS_PER_BRANCH}
+use Rattle.posting_rules.specs.declared.rows.{AccountRow.AccountRow, BranchRow.BranchRow, ClosingRow.ClosingRow, FloorRow.FloorRow}
 use Rattle.posting_rules.specs.declared.rows.{HistoryRow.HistoryRow, ReferenceRow.ReferenceRow, RequestRow.RequestRow}
 use Rattle.posting_rules.specs.declared.rows.TellerRow.{TellerRow}
 use Rattle.sql_meanings.specs.believed.Entries.{Entry, numbers, texts_held}
 use Rattle.store_rows.specs.believed.{Columns.number_at, SeveralRows.given}
 use Rattle.store_rows.specs.believed.Readings.{branch_of, cents, floor_of, lowest}
 use Rattle.store_rows.specs.believed.Readings.{read_account, read_balance, read_branch, read_floor}
-use Rattle.store_rows.specs.believed.Readings.{read_posting, read_reference, read_request, read_teller}
+use Rattle.store_rows.specs.believed.Readings.{read_closing, read_posting, read_reference, read_request, read_teller}
 use Rattle.store_rows.specs.believed.Readings.{whole}
 use Rattle.store_rows.specs.believed.View.{account_entry, branch_entry, floor_entry, history_entry, reference_entry}
-use Rattle.store_rows.specs.believed.View.{request_entry, teller_entry}
+use Rattle.store_rows.specs.believed.View.{closing_entry, request_entry, teller_entry}
 
 -- ---- one column
 
@@ -171,6 +172,12 @@ in_limit limit z le = let test : nat_le (nat_abs z) limit ≡ true = grind (arit
 low_enough : (z : ℤ) → z ≤ℤ pos 0 → int_lt (pos 0) z ≡ false
 low_enough z le = grind (arith, ints)
 
+in_order : (first last : ℕ) → IsTrue (is_closing first last) → first ≤ last
+in_order first last is = elim (cases_Bool (first == 0 && last == 0)) [
+  | inl nought ↦ let two = and_parts (first == 0) (last == 0) nought in omega (arith, eqb-true first 0 two.0)
+  | inr other ↦ le_of first last (and_parts (nat_le first last) _ (rw other at is)).0
+]
+
 pub branch_back : (r : BranchRow) → IsSoundBranch r → read_branch (branch_entry r) ≡ Ok r
 branch_back r is = rw (
   in_range 1 LAST_BRANCH r.branch is.some is.most,
@@ -219,6 +226,13 @@ floor_back r is = rw (
   in_range 1 LAST_BRANCH r.branch is.some is.most,
   in_limit MAX_BALANCE r.lowest is.lowest.1,
   low_enough r.lowest is.lowest.0,
+) refl
+
+pub closing_back : (r : ClosingRow) → IsSoundClosing r → read_closing (closing_entry r) ≡ Ok r
+closing_back r is = rw (
+  in_range 0 LAST_KEY r.last (omega arith) is.last,
+  in_range 0 LAST_KEY r.first (omega arith) (let most = is.last in omega (arith, most, in_order r.first r.last is.numbers)),
+  is.numbers,
 ) refl
 
 pub reference_back : (r : ReferenceRow) → IsSoundReference r → read_reference (reference_entry r) ≡ Ok r

@@ -7,8 +7,8 @@ use Rattle.sql_meanings.proofs.{ReadRows.reads_next, ReadRows.reads_two, Texts.c
 use Rattle.store_rows.specs.{Holders.entry_under, believed.Rules.row_under, believed.SeveralRows.given}
 use Rattle.store_rows.specs.declared.holders.Member.TheVariants.{Account, Teller}
 use Rattle.store_rows.specs.declared.texts.TheConstants.{GET_ACCOUNT, GET_BRANCH, GET_FLOOR, GET_REQUEST, GET_TELLER}
-use Rattle.store_rows.specs.declared.texts.TheConstants.{GET_REFERENCE, NEXT_BRANCH, NEXT_POSTING, NEXT_REFERENCE}
-use Rattle.store_rows.specs.declared.texts.TheConstants.{NEXT_REQUEST}
+use Rattle.store_rows.specs.declared.texts.TheConstants.{GET_CLOSING, GET_REFERENCE, NEXT_BRANCH, NEXT_POSTING, NEXT_REFERENCE}
+use Rattle.store_rows.specs.declared.texts.TheConstants.{NEXT_CLOSING, NEXT_REQUEST}
 use Rattle.store_rows.specs.{Beyond.beyond, declared.beyond.Numbered.TheVariants.Postings}
 use Rattle.store_rows.specs.declared.beyond.Numbered.TheVariants.{References, Requests}
 use Rattle.store_rows.specs.believed.BankTables as bank
@@ -67,6 +67,27 @@ seeks_reference k = record {
   only = only_reads gets.reference.is;
   answers = stored_under 7 bank.reference refl refl (λ rows. rows.references) (λ _. refl) _ _ k
       (gets.reference.reads (pos k)) given (all_columns 0 1);
+}
+
+-- the closed numbers up to a key
+pub seeks_closing : (k : ℕ) → Seeks GET_CLOSING.now (Int (pos k) ∷ []) 1 given (λ rows. row_under rows.closings k)
+seeks_closing k = record {
+  only = only_reads gets.closing.is;
+  answers = stored_under 8 bank.closing refl refl (λ rows. rows.closings) (λ _. refl) _ _ k
+      (gets.closing.reads (pos k)) given (all_columns 1 0);
+}
+
+-- the closed numbers with the least last key above one
+pub seeks_next_closing : (k : ℕ) → Seeks NEXT_CLOSING.now (Int (pos k) ∷ []) 1 given
+    (λ rows. find (is_above (pos k)) rows.closings)
+seeks_next_closing k = record {
+  only = only_reads next.is_closing;
+  answers = λ old new rows has r h.
+      let holds = holds_list old.now rows has 8 bank.closing rows.closings refl refl in
+      subst (λ o. TellsRow old new o r)
+      (shown_as (1, 0) _ given (all_columns 1 0) (is_above (pos k)) rows.closings holds.rows.wide)
+      (reads_next old new bank.closing refl has.sound rows.closings holds NEXT_CLOSING.now (columns_of bank.closing) (pos k)
+      (next.next_closing (pos k)) r h);
 }
 
 -- the branch with the least number above one

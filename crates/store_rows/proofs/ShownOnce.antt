@@ -15,7 +15,8 @@ use Rattle.sql_meanings.specs.believed.{Tables.Holds, Contents.HoldsEach}
 use Rattle.sql_meanings.proofs.Trees.{same_schema}
 use Rattle.store_rows.specs.{believed.BankTables.bank_tables, Creation.new_tables, View.contents}
 use Rattle.store_rows.specs.believed.View.{Shows, ShowsTrees, branch_entry, teller_entry, account_entry}
-use Rattle.store_rows.specs.believed.View.{history_entry, request_entry, floor_entry, reference_entry}
+use Rattle.posting_rules.specs.declared.rows.{ClosingRow.ClosingRow}
+use Rattle.store_rows.specs.believed.View.{closing_entry, history_entry, request_entry, floor_entry, reference_entry}
 
 -- what can be read back is shown by one row alone, and so are lists of it
 module _ {X Y : Type 0} (f : X → Y) (back : Y → X) (same : (x : X) → back (f x) ≡ x) where
@@ -112,6 +113,9 @@ floor_in e = record { branch = nat_abs e.key; lowest = amount e 0 }
 abbrev reference_in : Entry → ReferenceRow
 reference_in e = record { ordinal = nat_abs e.key; reference = slice_index_or e.texts 0 [] }
 
+abbrev closing_in : Entry → ClosingRow
+closing_in e = record { last = nat_abs e.key; first = at e 0 }
+
 abbrev history_in : Entry → HistoryRow
 history_in e = record {
   ordinal = nat_abs e.key;
@@ -153,7 +157,7 @@ request_back r = ap (λ o. let it : RequestRow = record r {
 
 -- the tables of the entries that a file holds
 tables_in : List (List Entry) → Tables
-tables_in (a ∷ b ∷ c ∷ d ∷ e ∷ f ∷ g ∷ h ∷ more) = record {
+tables_in (a ∷ b ∷ c ∷ d ∷ e ∷ f ∷ g ∷ h ∷ i ∷ more) = record {
   decided = decided_in a;
   branches = map branch_in b;
   tellers = map teller_in c;
@@ -162,14 +166,13 @@ tables_in (a ∷ b ∷ c ∷ d ∷ e ∷ f ∷ g ∷ h ∷ more) = record {
   requests = map request_in f;
   floors = map floor_in g;
   references = map reference_in h;
-  closings = [];
+  closings = map closing_in i;
 }
 tables_in _ = new_tables
 
-tables_back : (t : Tables) → t.closings ≡ [] → tables_in (contents t) ≡ t
+tables_back : (t : Tables) → tables_in (contents t) ≡ t
 unfolding tables_in decided_in
-tables_back t current = rw (
-  current,
+tables_back t = rw (
   all_back branch_entry branch_in (λ _. refl) t.branches,
   all_back teller_entry teller_in (λ _. refl) t.tellers,
   all_back account_entry account_in (λ _. refl) t.accounts,
@@ -177,6 +180,7 @@ tables_back t current = rw (
   all_back request_entry request_in request_back t.requests,
   all_back floor_entry floor_in (λ _. refl) t.floors,
   all_back reference_entry reference_in (λ _. refl) t.references,
+  all_back closing_entry closing_in (λ _. refl) t.closings,
 ) refl
 
 entries_once : (db : Database) (table : Table) (xs ys : List Entry) → Holds db table xs → Holds db table ys
@@ -194,8 +198,8 @@ each_once db (t ∷ tables) (x ∷ xs) (y ∷ ys) p q =
     let one = entries_once db t x y p.0 q.0 in let rest = each_once db tables xs ys p.1 q.1 in cc
 
 one_database : (db : Database) (a b : Tables) → Shows db a → Shows db b → a ≡ b
-one_database db a b p q = sym (tables_back a p.current)
-    ∙ ap tables_in (each_once db bank_tables (contents a) (contents b) p.each q.each) ∙ tables_back b q.current
+one_database db a b p q = sym (tables_back a)
+    ∙ ap tables_in (each_once db bank_tables (contents a) (contents b) p.each q.each) ∙ tables_back b
 
 -- what a connection shows its trees show
 pub to_trees : (db : Database) (t : Tables) → Shows db t → ShowsTrees db.trees t

@@ -138,6 +138,9 @@ floor schema t apart = (apart.0, apart.1.1.1.1.1.1.1.0)
 abbrev reference : Among bank.reference.name
 reference schema t apart = (apart.0, apart.1.1.1.1.1.1.1.1.0)
 
+abbrev closing : Among bank.closing.name
+closing schema t apart = (apart.0, apart.1.1.1.1.1.1.1.1.1.0)
+
 -- each text does
 pub record SparesByTexts : Type 1 where
   pub set_meta : Spares text.SET_META.now
@@ -153,6 +156,7 @@ pub record SparesByTexts : Type 1 where
   pub add_eight_requests : Spares text.ADD_EIGHT_REQUESTS.now
   pub add_floor : Spares text.ADD_FLOOR.now
   pub add_reference : Spares text.ADD_REFERENCE.now
+  pub add_closing : Spares text.ADD_CLOSING.now
 
 is_set_meta : IsUpdateOf text.SET_META.now bank.meta.name
 unfolding everything
@@ -210,6 +214,10 @@ is_add_reference : IsInsertInto text.ADD_REFERENCE.now bank.reference.name
 unfolding everything
 is_add_reference = insert_of text.ADD_REFERENCE.now bank.reference.name _ _ _ refl refl
 
+is_add_closing : IsInsertInto text.ADD_CLOSING.now bank.closing.name
+unfolding everything
+is_add_closing = insert_of text.ADD_CLOSING.now bank.closing.name _ _ _ refl refl
+
 pub spares : SparesByTexts
 spares = record {
   set_meta = set_by text.SET_META.now bank.meta.name meta is_set_meta;
@@ -225,6 +233,7 @@ spares = record {
   add_eight_requests = put_by text.ADD_EIGHT_REQUESTS.now bank.request.name request is_add_eight_requests;
   add_floor = put_by text.ADD_FLOOR.now bank.floor.name floor is_add_floor;
   add_reference = put_by text.ADD_REFERENCE.now bank.reference.name reference is_add_reference;
+  add_closing = put_by text.ADD_CLOSING.now bank.closing.name closing is_add_closing;
 }
 
 -- a write of the version leaves every table but `meta`, and a sound database

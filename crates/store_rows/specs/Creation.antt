@@ -30,7 +30,8 @@ all_texts =
     (text.MAKE_META.now, bank.meta) ∷ (text.MAKE_BRANCH.now, bank.branch)
     ∷ (text.MAKE_TELLER.now, bank.teller) ∷ (text.MAKE_ACCOUNT.now, bank.account)
     ∷ (text.MAKE_HISTORY.now, bank.history) ∷ (text.MAKE_REQUEST.now, bank.request)
-    ∷ (text.MAKE_FLOOR.now, bank.floor) ∷ (text.MAKE_REFERENCE.now, bank.reference) ∷ []
+    ∷ (text.MAKE_FLOOR.now, bank.floor) ∷ (text.MAKE_REFERENCE.now, bank.reference)
+    ∷ (text.MAKE_CLOSING.now, bank.closing) ∷ []
 
 -- ---- tables that are made one after another, each by its text
 

@@ -13,11 +13,12 @@ use Rattle.sqlite.specs.declared.types.Value.TheVariants.{Int}
 use Rattle.sqlite_rules.specs.Lists.{Has}
 use Rattle.sqlite_trees.specs.declared.store.Store.{Ghosts}
 use Rattle.posting_rules.specs.declared.rows.BranchRow.{BranchRow}
+use Rattle.posting_rules.specs.declared.rows.ClosingRow.{ClosingRow}
 use Rattle.posting_rules.specs.declared.rows.FloorRow.{FloorRow}
 use Rattle.sql_meanings.specs.Under.{IsStored, rows_under}
 use Rattle.store_rows.specs.believed.BankTables as bank
 use Rattle.store_rows.specs.believed.BankTables.{bank_tables}
-use Rattle.store_rows.specs.believed.Readings.{Reading, balance_of, branch_of, floor_of}
+use Rattle.store_rows.specs.believed.Readings.{Reading, balance_of, branch_of, closing_of, floor_of}
 use Rattle.store_rows.specs.Columns.{meta_of}
 use Rattle.store_rows.specs.declared.holders.Holder.{Holder}
 use Rattle.store_rows.specs.declared.holders.Holder.TheVariants as holder
@@ -51,6 +52,10 @@ FloorLies = LiesAs bank.floor (λ row. column row 0 ∷ column row 2 ∷ []) flo
 abbrev pub BalanceLies : Member → Database → Option ℤ → Type 0
 BalanceLies (Account account) = LiesAs bank.account (λ row. column row 2 ∷ []) balance_of account
 BalanceLies (Teller teller) = LiesAs bank.teller (λ row. column row 2 ∷ []) balance_of teller
+
+-- the row that seals the books
+abbrev pub SealLies : Database → Option ClosingRow → Type 0
+SealLies = LiesAs bank.closing (λ row. column row 0 ∷ column row 2 ∷ []) closing_of 0
 
 -- the row of the bank
 abbrev pub MetaLies : Database → Option StoredMeta → Type 0

@@ -7,7 +7,7 @@ use Rattle.sqlite_resolve.specs.declared.error.CompileError.{CompileError}
 use Rattle.store_rows.specs.believed.BankTables as bank
 use Rattle.posting_rules.specs.declared.open_fault.BankTable.{BankTable}
 use Rattle.posting_rules.specs.declared.open_fault.BankTable.TheVariants.{Meta, Branch, Teller, Account, History}
-use Rattle.posting_rules.specs.declared.open_fault.BankTable.TheVariants.{Request, Floor, Reference}
+use Rattle.posting_rules.specs.declared.open_fault.BankTable.TheVariants.{Request, Floor, Reference, Closing}
 use Rattle.store_rows.specs.declared.texts.TheConstants as text
 
 -- the probe of a table: its text, and the table
@@ -20,10 +20,11 @@ probe_of History = (text.PROBE_HISTORY.now, bank.history)
 probe_of Request = (text.PROBE_REQUEST.now, bank.request)
 probe_of Floor = (text.PROBE_FLOOR.now, bank.floor)
 probe_of Reference = (text.PROBE_REFERENCE.now, bank.reference)
+probe_of Closing = (text.PROBE_CLOSING.now, bank.closing)
 
 -- the tables, in their order
 abbrev pub all_tables : List BankTable
-all_tables = Meta ∷ Branch ∷ Teller ∷ Account ∷ History ∷ Request ∷ Floor ∷ Reference ∷ []
+all_tables = Meta ∷ Branch ∷ Teller ∷ Account ∷ History ∷ Request ∷ Floor ∷ Reference ∷ Closing ∷ []
 
 -- the probes of all of them
 abbrev pub all_probes : List (List ℕ × Table)

@@ -2,7 +2,7 @@
 use Rattle.std.specs.Prelude.{[], ◌∷◌, map}
 use Rattle.posting_rules.specs.believed.Tables.{Tables}
 use Rattle.store_rows.specs.believed.View.{account_entry, branch_entry, floor_entry, history_entry, meta_entry}
-use Rattle.store_rows.specs.believed.View.{reference_entry, request_entry, teller_entry}
+use Rattle.store_rows.specs.believed.View.{closing_entry, reference_entry, request_entry, teller_entry}
 use Rattle.store_rows.specs.declared.metas.TheConstants.{VERSION}
 use Rattle.store_rows.specs.believed.Rules.{StoredRows}
 
@@ -17,4 +17,5 @@ stored_rows t = record {
   requests = map request_entry t.requests;
   floors = map floor_entry t.floors;
   references = map reference_entry t.references;
+  closings = map closing_entry t.closings;
 }

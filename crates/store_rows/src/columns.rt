@@ -1,15 +1,15 @@
 //! Stored numbers and texts as the types that they are read as.
 ghost use Rattle.std.specs.Prelude.{◌≤◌};
 ghost use Rattle.message_records.specs.declared.limits.TheConstants.{MAX_BALANCE};
-ghost use Rattle.posting_rules.specs.declared.fault.Rule.TheVariants.{Value};
-ghost use Rattle.posting_rules.specs.declared.limits.TheConstants.{MAX_ACCOUNTS as MANY};
+ghost use Rattle.posting_rules.specs.declared.fault.Rule.TheVariants.{Closing, Value};
+ghost use Rattle.posting_rules.specs.declared.limits.TheConstants.{LAST_KEY as MOST_KEY, MAX_ACCOUNTS as MANY};
 ghost use Rattle.sqlite.specs.Order.{column};
 ghost use Rattle.store_rows.specs.TableAnswers.{Gives};
 ghost use Rattle.store_rows.specs.believed.Readings.{cents, lowest, number, outcome_of, reference, whole};
 
 use crate::fault::TableFault;
 use message_records::{Cents, MAX_BALANCE as LIMIT, Outcome, Reference, Whole};
-use posting_rules::{MAX_ACCOUNTS, Rule};
+use posting_rules::{LAST_KEY, MAX_ACCOUNTS, Rule};
 use sqlite::Row;
 use sqlite::types::ValueRef;
 
@@ -49,6 +49,17 @@ pub(crate) fn accounts_at(row: &Row, at: usize) -> Result<u32, TableFault>
         return Err(TableFault::Damaged(Rule::Value));
     }
     Ok(value as u32)
+}
+
+// The key of a number in a column, or the 0 of the seal.
+pub(crate) fn key_at(row: &Row, at: usize) -> Result<u64, TableFault>
+    ensures { Gives (whole 0 MOST_KEY Closing (column row.now at)) result }
+{
+    let value = integer_at(row, at)?;
+    if value < 0 || value as u64 > LAST_KEY {
+        return Err(TableFault::Damaged(Rule::Closing));
+    }
+    Ok(value as u64)
 }
 
 // The amount in a column, at most so far from zero, or the rule that it breaks beyond that.

@@ -90,6 +90,13 @@ const REFERENCE: Made = Made {
     kind: Kind::Text,
 };
 
+const CLOSING: Made = Made {
+    name: "closing",
+    key: "last",
+    others: &["first"],
+    kind: Kind::Integer,
+};
+
 fn made_of(table: BankTable) -> Made
     ensures name { result.name.now ≡ (made table).name }
     ensures columns { columns_of result ≡ (made table).columns }
@@ -103,6 +110,7 @@ fn made_of(table: BankTable) -> Made
         BankTable::Request => REQUEST,
         BankTable::Floor => FLOOR,
         BankTable::Reference => REFERENCE,
+        BankTable::Closing => CLOSING,
     }
 }
 

@@ -1,7 +1,8 @@
 //! The tables of a bank in `sqlite`, one statement a function, whatever else the file holds. A posting of
 //! TPC-B (clause 1.2) writes four of them: the account, the teller, the branch and the history. One more
-//! keeps the requests that were decided, with their replies, another the references of those that have one, and
-//! another the floors of branches; and one has a single row of the bank as a whole.
+//! keeps the requests that were decided, with their replies, another the references of those that have one,
+//! another the floors of branches, and another the numbers that closed books decided; and one has a single row of the
+//! bank as a whole.
 //!
 //! A function looks up a row, adds one or writes a number of one, inside a transaction of its caller;
 //! [`commit`] makes last what was written, and a transaction that is dropped without it is undone. The
@@ -48,6 +49,7 @@
 
 mod beyond;
 mod branches;
+mod closings;
 mod columns;
 mod commits;
 mod creation;
@@ -68,6 +70,7 @@ mod texts;
 
 pub use beyond::{Numbered, find_beyond};
 pub use branches::{add_branch, find_branch, next_branch};
+pub use closings::{add_seal, find_seal, next_closing};
 pub use commits::commit;
 pub use creation::{create, create_tables};
 pub use definitions::other_table;
@@ -83,6 +86,6 @@ pub use probes::{AFTER_META, probe_table};
 pub use references::{add_reference, find_reference};
 pub use requests::{add_eight_requests, add_request, find_request};
 pub use texts::{
-    ACCOUNTS_FROM, BRANCHES_FROM, FLOORS_FROM, MAKE_TABLES, METAS_FROM, POSTINGS_FROM, POSTINGS_OF,
-    REFERENCE_UNDER, REFERENCES_FROM, REQUESTS_FROM, TELLERS_FROM,
+    ACCOUNTS_FROM, BRANCHES_FROM, CLOSINGS_FROM, FLOORS_FROM, MAKE_TABLES, METAS_FROM,
+    POSTINGS_FROM, POSTINGS_OF, REFERENCE_UNDER, REFERENCES_FROM, REQUESTS_FROM, TELLERS_FROM,
 };

@@ -35,7 +35,7 @@ use sqlite::{Alter, Error, Row, Transaction};
 pub(crate) const META_ID: u64 = 1;
 
 /// The version of the tables.
-pub const VERSION: i64 = 3;
+pub const VERSION: i64 = 4;
 
 /// What the row of the bank holds, whatever the numbers: another product may have written them.
 #[derive(Clone, Copy)]

@@ -8,8 +8,8 @@ ghost use Rattle.store_rows.specs.Calls.{Probes};
 ghost use Rattle.store_rows.specs.Probes.{probe_of};
 
 use crate::texts::{
-    PROBE_ACCOUNT, PROBE_BRANCH, PROBE_FLOOR, PROBE_HISTORY, PROBE_META, PROBE_REFERENCE,
-    PROBE_REQUEST, PROBE_TELLER,
+    PROBE_ACCOUNT, PROBE_BRANCH, PROBE_CLOSING, PROBE_FLOOR, PROBE_HISTORY, PROBE_META,
+    PROBE_REFERENCE, PROBE_REQUEST, PROBE_TELLER,
 };
 use posting_rules::BankTable;
 use sqlite::{Alter, Connection, Error};
@@ -23,6 +23,7 @@ pub const AFTER_META: &[BankTable] = &[
     BankTable::Request,
     BankTable::Floor,
     BankTable::Reference,
+    BankTable::Closing,
 ];
 
 // What an error says of a text: that it isn't understood, or not even that.
@@ -62,6 +63,7 @@ fn probe_text(table: BankTable) -> &'static str
         BankTable::Request => PROBE_REQUEST,
         BankTable::Floor => PROBE_FLOOR,
         BankTable::Reference => PROBE_REFERENCE,
+        BankTable::Closing => PROBE_CLOSING,
     }
 }
 

@@ -13,12 +13,12 @@ ghost use Rattle.store_rows.specs.Statements.{PutsRow, RunsUnder};
 
 use crate::fault::{TableFault, added};
 use message_records::Cents;
-use posting_rules::MAX_DECIDED;
+use posting_rules::LAST_KEY;
 use sqlite::types::ValueRef;
 use sqlite::{Alter, Error, Row, Transaction, params};
 
-/// The greatest key of a row: no ordinal is greater, and no number of a branch, a teller or an account is.
-pub(crate) const MAX_KEY: u64 = MAX_DECIDED;
+/// The greatest key of a row: no key of a number is greater, no ordinal, and no number of a branch, a teller or an account.
+pub(crate) const MAX_KEY: u64 = LAST_KEY;
 
 // The row that a text shows under a key.
 pub(crate) fn row_under<S: Alter>(

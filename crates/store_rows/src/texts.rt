@@ -35,6 +35,10 @@ pub(crate) const MAKE_FLOOR: &str =
 pub(crate) const MAKE_REFERENCE: &str =
     "CREATE TABLE request_reference (ordinal INTEGER PRIMARY KEY, reference TEXT NOT NULL) STRICT";
 
+/// Makes the table `closing`.
+pub(crate) const MAKE_CLOSING: &str =
+    "CREATE TABLE closing (last INTEGER PRIMARY KEY, first INTEGER NOT NULL) STRICT";
+
 /// The statements that make the tables of a bank, in this order.
 pub const MAKE_TABLES: &[&str] = &[
     MAKE_META,
@@ -45,6 +49,7 @@ pub const MAKE_TABLES: &[&str] = &[
     MAKE_REQUEST,
     MAKE_FLOOR,
     MAKE_REFERENCE,
+    MAKE_CLOSING,
 ];
 
 /// The row of meta.
@@ -134,6 +139,16 @@ pub(crate) const GET_REFERENCE: &str =
 pub(crate) const ADD_REFERENCE: &str =
     "INSERT INTO request_reference (ordinal, reference) VALUES (?1, ?2)";
 
+/// The closed numbers up to a key.
+pub(crate) const GET_CLOSING: &str = "SELECT last, first FROM closing WHERE last = ?1";
+
+/// The closed numbers with the least last key above one.
+pub(crate) const NEXT_CLOSING: &str =
+    "SELECT last, first FROM closing WHERE last > ?1 ORDER BY last LIMIT 1";
+
+/// Closed numbers more.
+pub(crate) const ADD_CLOSING: &str = "INSERT INTO closing (last, first) VALUES (?1, ?2)";
+
 /// The request with the least ordinal above one.
 pub(crate) const NEXT_REQUEST: &str = "SELECT ordinal, tid, number, aid, bid, delta, outcome, \
     balance FROM request WHERE ordinal > ?1 ORDER BY ordinal LIMIT 1";
@@ -171,6 +186,9 @@ pub(crate) const PROBE_FLOOR: &str = "SELECT bid, lowest FROM branch_floor";
 /// Names every column of `request_reference`.
 pub(crate) const PROBE_REFERENCE: &str = "SELECT ordinal, reference FROM request_reference";
 
+/// Names every column of `closing`.
+pub(crate) const PROBE_CLOSING: &str = "SELECT last, first FROM closing";
+
 // ---- the statements of the walks of `walked_rows`. Each but the last shows the rows that come next, by rising keys, at
 // most 64 of them.
 
@@ -205,6 +223,10 @@ pub const FLOORS_FROM: &str =
 /// The references from an ordinal on.
 pub const REFERENCES_FROM: &str =
     "SELECT ordinal, reference FROM request_reference WHERE ordinal >= ?1 ORDER BY ordinal LIMIT 64";
+
+/// The closed numbers from a last key on.
+pub const CLOSINGS_FROM: &str =
+    "SELECT last, first FROM closing WHERE last >= ?1 ORDER BY last LIMIT 64";
 
 /// The postings of an account from an ordinal on.
 pub const POSTINGS_OF: &str =

@@ -13,6 +13,7 @@ use std::process::Abort;
 pub enum Version {
     BeforeFloors,
     BeforeReferences,
+    BeforeClosings,
 }
 
 impl Version {
@@ -21,6 +22,7 @@ impl Version {
         match self {
             Version::BeforeFloors => 1,
             Version::BeforeReferences => 2,
+            Version::BeforeClosings => 3,
         }
     }
 }
@@ -52,6 +54,12 @@ pub const FLOORS: &str = "BEGIN; \
     CREATE TABLE branch_floor (bid INTEGER PRIMARY KEY, lowest INTEGER NOT NULL) STRICT; \
     INSERT INTO branch_floor VALUES (1, -1000); \
     UPDATE meta SET version = 2; \
+    COMMIT";
+
+/// What makes that bank one of the version before closed numbers.
+pub const REFERENCES: &str = "BEGIN; \
+    CREATE TABLE request_reference (ordinal INTEGER PRIMARY KEY, reference TEXT NOT NULL) STRICT; \
+    UPDATE meta SET version = 3; \
     COMMIT";
 
 /// The bank is carried over, or was before, as it is wanted.
@@ -115,6 +123,16 @@ fn a_migration_from_before_references_stops_at_the_log(rt: HostRuntime) {
     migration_stops(&rt, Version::BeforeReferences, false);
 }
 
+#[test]
+fn a_migration_from_before_closed_numbers_stops_at_the_database_file(rt: HostRuntime) {
+    migration_stops(&rt, Version::BeforeClosings, true);
+}
+
+#[test]
+fn a_migration_from_before_closed_numbers_stops_at_the_log(rt: HostRuntime) {
+    migration_stops(&rt, Version::BeforeClosings, false);
+}
+
 // Something else has the name of a table that is made.
 fn stays_as_it_is(rt: &(impl Abort + Alloc<A = Global>), version: Version, beside: &str) {
     let start = earlier(rt, version, beside);
@@ -143,6 +161,14 @@ fn a_name_is_taken(rt: HostRuntime) {
         (
             Version::BeforeReferences,
             "CREATE VIEW request_reference AS SELECT bid FROM branch",
+        ),
+        (
+            Version::BeforeReferences,
+            "CREATE TABLE closing (last INTEGER PRIMARY KEY, first INTEGER NOT NULL) STRICT",
+        ),
+        (
+            Version::BeforeClosings,
+            "CREATE INDEX closing ON request (aid)",
         ),
     ] {
         stays_as_it_is(&rt, version, beside);

@@ -1,7 +1,7 @@
 //! Tasks on the bank of any store, one after another. What a task does with the bank borrows it.
 use crate::calls::{Call, ask, ask_to_the_end};
 use crate::cases::{Case, Way};
-use crate::earlier::{EARLIER, FLOORS, Version, migrated, migrated_again};
+use crate::earlier::{EARLIER, FLOORS, REFERENCES, Version, migrated, migrated_again};
 use crate::readings::{Reading, is_consistent, read};
 use crate::reports::reports_are_cut;
 use crate::sql::batch;
@@ -123,8 +123,11 @@ fn make_earlier<S: Alter>(
     beside: &str,
 ) {
     do_all(rt, conn, EARLIER);
-    if version == Version::BeforeReferences {
+    if version != Version::BeforeFloors {
         do_all(rt, conn, FLOORS);
+    }
+    if version == Version::BeforeClosings {
+        do_all(rt, conn, REFERENCES);
     }
     do_all(rt, conn, beside);
 }

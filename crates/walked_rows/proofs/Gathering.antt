@@ -55,11 +55,11 @@ first_left k (x ∷ xs) e rise some = elim (cases_Bool (is_from k x)) [
       rw (away, low) (first_left k xs e rise.1 later)
 ]
 
-fits : (a : ℕ) → a ≤ 1_000_000_000_000 → FitsSigned w64 (pos a +ℤ pos 1)
+fits : (a : ℕ) → a ≤ 999_999_999_999_999_999 → FitsSigned w64 (pos a +ℤ pos 1)
 fits a low = omega (arith, ints)
 
 -- the number after a key
-pub after_key : (n : ℕ) (key : ℤ) → key ≡ pos n → n ≤ 1_000_000_000_000
+pub after_key : (n : ℕ) (key : ℤ) → key ≡ pos n → n ≤ 999_999_999_999_999_999
     → to_z w64 (of_z w64 (to_z w64 n +ℤ pos 1)) ≡ key +ℤ pos 1
 after_key n key same low =
     ap (λ z. to_z w64 (of_z w64 (z +ℤ pos 1))) (as_integer n n refl low)

@@ -5,7 +5,7 @@ use Rattle.sqlite.specs.Effect.{Database}
 use Rattle.posting_rules.specs.believed.Tables.{Tables}
 use Rattle.store_rows.specs.believed.BankTables as bank
 use Rattle.store_rows.specs.believed.View.{Shows, account_entry, branch_entry, floor_entry, history_entry, meta_entry}
-use Rattle.store_rows.specs.believed.View.{reference_entry, request_entry, teller_entry}
+use Rattle.store_rows.specs.believed.View.{closing_entry, reference_entry, request_entry, teller_entry}
 use Rattle.store_rows.specs.declared.metas.TheConstants.{VERSION}
 use Rattle.store_rows.proofs.TableKinds.{Kind, holds, table_of}
 use Rattle.store_rows.proofs.TheTables as the
@@ -45,6 +45,9 @@ module _ (db : Database) (t : Tables) (shows : Shows db t) where
 
   pub has_floors : HasStoredRows db bank.floor (map floor_entry t.floors)
   has_floors = has_rows the.floors
+
+  pub has_closings : HasStoredRows db bank.closing (map closing_entry t.closings)
+  has_closings = has_rows the.closings
 
   pub has_meta : HasStoredRows db bank.meta (meta_entry (pos (nat_abs VERSION)) t.decided ∷ [])
   has_meta = record { sound = shows.sound; holds = shows.each.0; least = (refl, tt) }

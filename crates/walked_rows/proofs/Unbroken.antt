@@ -12,7 +12,7 @@ use Rattle.posting_rules.specs.believed.{Commands.Command, Commands.AreCommands,
 use Rattle.posting_rules.specs.believed.Tables.{AreTablesOf, Tables}
 use Rattle.posting_rules.specs.declared.fault.Rule.{Rule}
 use Rattle.posting_rules.specs.declared.rows.ReferenceRow.{ReferenceRow}
-use Rattle.posting_rules.specs.declared.limits.TheConstants.{LAST_BRANCH, MAX_DECIDED}
+use Rattle.posting_rules.specs.declared.limits.TheConstants.{LAST_BRANCH, LAST_KEY, MAX_DECIDED}
 use Rattle.posting_rules.proofs.Undamaged.{undamaged}
 use Rattle.sql_meanings.specs.believed.Entries.{Entry}
 use Rattle.store_rows.specs.believed.SeveralRows.{given}
@@ -24,7 +24,7 @@ use Rattle.walked_rows.specs.Pairs.{BreaksPair, pair_with, paired}
 use Rattle.walked_rows.specs.References.{BreaksReference, reference_kind}
 use Rattle.walked_rows.specs.Stored.{account_kind, branch_kind, posting_entry, posting_kind, posting_of, request_kind}
 use Rattle.walked_rows.specs.Stored.{request_of, teller_kind}
-use Rattle.walked_rows.specs.StoredBeside.{floor_kind, meta_kind}
+use Rattle.walked_rows.specs.StoredBeside.{closing_kind, floor_kind, meta_kind}
 use Rattle.walked_rows.specs.declared.limits.TheConstants.{LAST_ACCOUNT, LAST_TELLER, MAX_COUNTED}
 use Rattle.walked_rows.specs.declared.postings.StoredPosting.{StoredPosting}
 
@@ -160,6 +160,10 @@ module _ (t : Tables) (log : List Command) (are : AreCommands log) (shows : AreT
   pub no_floor : HasBroken (BreaksBy floor_kind.reading broken) (map view.floor_entry t.floors) → ⊥
   no_floor = none_broken view.floor_entry (λ r. record { branch = r.branch; lowest = r.lowest }) floor_kind broken _
       (λ r s. rw (in_range 1 LAST_BRANCH r.branch s.some s.most) refl) t.floors sound.each_floor
+
+  pub no_closing : HasBroken (BreaksBy closing_kind.reading broken) (map view.closing_entry t.closings) → ⊥
+  no_closing = none_broken view.closing_entry (λ r. record { last = r.last; first = pos r.first }) closing_kind broken _
+      (λ r s. rw (in_range 0 LAST_KEY r.last (omega arith) s.last) refl) t.closings sound.each_closing
 
   pub no_reference : HasBroken (BreaksBy reference_kind.reading broken) (map view.reference_entry t.references) → ⊥
   no_reference = none_broken view.reference_entry (λ r. record { ordinal = r.ordinal; reference = r.reference })

@@ -25,7 +25,7 @@ use Rattle.store_rows.proofs.ShownValues.{all_columns}
 use Rattle.walked_rows.specs.{OnlyMeta.meta_with, declared.ahead.TheConstants.AHEAD}
 use Rattle.store_rows.specs.declared.texts.TheConstants.{ACCOUNTS_FROM, BRANCHES_FROM, FLOORS_FROM, METAS_FROM}
 use Rattle.store_rows.specs.declared.texts.TheConstants.{POSTINGS_FROM, POSTINGS_OF, REFERENCES_FROM, REQUESTS_FROM}
-use Rattle.store_rows.specs.declared.texts.TheConstants.{TELLERS_FROM}
+use Rattle.store_rows.specs.declared.texts.TheConstants.{CLOSINGS_FROM, TELLERS_FROM}
 use Rattle.walked_rows.proofs.Sought.{Walks}
 
 -- the key of a table, where its name and its column compute
@@ -117,6 +117,11 @@ unfolding everything
 is_floors = select_of bank.floor FLOORS_FROM.now 1 _ _ _ _ _ _ _ _ _ refl refl refl (lit≤ tt) refl refl
     refl refl (λ tree. refl) (lit≤ tt)
 
+is_closings : IsSelect bank.closing CLOSINGS_FROM.now 1 (places_of bank.closing)
+unfolding everything
+is_closings = select_of bank.closing CLOSINGS_FROM.now 1 _ _ _ _ _ _ _ _ _ refl refl refl (lit≤ tt) refl refl
+    refl refl (λ tree. refl) (lit≤ tt)
+
 is_references : IsSelect bank.reference REFERENCES_FROM.now 1 (places_of bank.reference)
 unfolding everything
 is_references = select_of bank.reference REFERENCES_FROM.now 1 _ _ _ _ _ _ _ _ _ refl refl refl (lit≤ tt) refl
@@ -167,6 +172,13 @@ walks_metas checks = walks_by (is_metas checks) (codes "id") (columns_of (meta_w
 pub walks_floors : Walks bank.floor FLOORS_FROM.now
 unfolding is_floors everything program.program ungrouped
 walks_floors = walks_by is_floors (codes "bid") (columns_of bank.floor)
+    refl refl refl refl refl refl refl refl refl refl refl refl (λ tree. refl) (λ tree. refl) (λ tree. refl)
+    (λ tree. refl) (λ tree. refl) (λ schema p tree has. rw (has.low, has.found))
+    (λ k schema p tree has. rw (has.low, has.found)) (λ _. all_columns 1 0)
+
+pub walks_closings : Walks bank.closing CLOSINGS_FROM.now
+unfolding is_closings everything program.program ungrouped
+walks_closings = walks_by is_closings (codes "last") (columns_of bank.closing)
     refl refl refl refl refl refl refl refl refl refl refl refl (λ tree. refl) (λ tree. refl) (λ tree. refl)
     (λ tree. refl) (λ tree. refl) (λ schema p tree has. rw (has.low, has.found))
     (λ k schema p tree has. rw (has.low, has.found)) (λ _. all_columns 1 0)

@@ -14,7 +14,7 @@ ghost use Rattle.walked_rows.specs.Rows.{rows_from};
 
 use crate::ahead::AHEAD;
 use message_records::Account;
-use posting_rules::MAX_DECIDED;
+use posting_rules::LAST_KEY;
 use sqlite::{Alter, Connection, Error, Row};
 use store_rows::TableFault;
 
@@ -46,5 +46,5 @@ pub trait StoredRow: Copy + Default {
     /// The row's key.
     fn key(&self) -> u64
         ensures key { (kind.entry self.now).key ≡ pos result }
-        ensures most { result ≤ MAX_DECIDED };
+        ensures most { result ≤ LAST_KEY };
 }

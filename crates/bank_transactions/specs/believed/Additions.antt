@@ -7,6 +7,7 @@ use Rattle.sqlite_rules.specs.Lists.{Has}
 use Rattle.message_records.specs.believed.Reading.{request_of}
 use Rattle.message_records.specs.believed.Records.{RequestFields}
 use Rattle.posting_rules.specs.believed.Changes.{new_account, new_teller}
+use Rattle.posting_rules.specs.believed.Closings.{seal}
 use Rattle.posting_rules.specs.believed.Commands.{Terms}
 use Rattle.posting_rules.specs.believed.Numbering.{branch_of_account, branch_of_teller, first_account, first_teller}
 use Rattle.posting_rules.specs.believed.Tables.{branch_row_of}
@@ -20,8 +21,8 @@ use Rattle.store_rows.specs.believed.Failures.{Additions}
 use Rattle.store_rows.specs.believed.Rules.{OfRows}
 use Rattle.store_rows.specs.believed.SeveralRows.{given, given_each, under}
 use Rattle.store_rows.specs.believed.View.{account_entry, branch_entry, floor_entry, history_entry, reference_entry}
-use Rattle.store_rows.specs.believed.View.{request_entry, teller_entry}
-use Rattle.store_rows.specs.believed.Inserts.{account_insert, branch_insert, eight_postings_insert}
+use Rattle.store_rows.specs.believed.View.{closing_entry, request_entry, teller_entry}
+use Rattle.store_rows.specs.believed.Inserts.{account_insert, branch_insert, closing_insert, eight_postings_insert}
 use Rattle.store_rows.specs.believed.Inserts.{eight_requests_insert, floor_insert, posting_insert}
 use Rattle.store_rows.specs.believed.Inserts.{reference_insert, request_insert, teller_insert}
 use Rattle.store_rows.specs.believed.Inserts.{account_update, branch_update, meta_key, meta_update, teller_update}
@@ -117,3 +118,9 @@ AddsBranch branch terms text values =
     ⊎ (AddsRange Tellers (first_teller branch) TELLERS_PER_BRANCH text values
     ⊎ (AddsRange Accounts (first_account branch) terms.accounts text values
     ⊎ AddsFloor branch terms.floor text values))
+
+-- ---- the seal
+
+-- its row
+abbrev pub AddsSeal : Additions
+AddsSeal text values = (text ≡ closing_insert) × (values ≡ given (closing_entry seal))

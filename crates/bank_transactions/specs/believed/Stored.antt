@@ -1,6 +1,7 @@
 -- What a look-up, a posting, a batch and an opening answer of whatever rows a file holds, be they a bank's or
 -- not.
-use Rattle.std.specs.Prelude.{◌≡◌, ◌≢◌, ℕ, ℤ, pos, find, length, List, [], Option, Some, None, IsSome, Result, Ok, Err, ⊤}
+use Rattle.std.specs.Prelude.{◌≡◌, ◌≢◌, ℕ, ℤ, pos, find, length, List, [], ◌∷◌, Option, Some, None, IsSome, Result, Ok, Err, ⊤}
+use Rattle.std.specs.Prelude.{if◌then◌else◌, is_some}
 use Rattle.std.specs.List.{AllByRecursion}
 use Rattle.sqlite.specs.Effect.{Database}
 use Rattle.message_records.specs.believed.Reading.{request_of}
@@ -30,7 +31,8 @@ use Rattle.store_rows.specs.believed.Stored.{FindsStored}
 use Rattle.store_rows.specs.believed.View.{Shows}
 use Rattle.posting_batch.specs.believed.Batch.{HasFreeOrdinals}
 use Rattle.bank_transactions.specs.believed.Batches.{DecidesNone}
-use Rattle.posting_rules.specs.declared.judgments.Books.TheVariants.{Current}
+use Rattle.posting_rules.specs.believed.Closings.{books_of, seal}
+use Rattle.posting_rules.specs.declared.rows.ClosingRow.{ClosingRow}
 
 -- the balance that the account's row has, none where it has no row; and it has one just where its branch's
 -- count says so
@@ -83,6 +85,10 @@ abbrev pub HoldsDecided : StoredRows → ℕ → Type 0
 HoldsDecided rows decided =
     (version : ℤ) × (meta_in rows.meta ≡ Some (record { version = version; decided = pos decided }))
 
+-- so far the rows say of closed books only whether these are sealed: by the row under the key 0
+abbrev pub runs_in : StoredRows → List ClosingRow
+runs_in rows = if is_some (row_under rows.closings 0) then seal ∷ [] else []
+
 -- what is found for a request is what the rows of its teller, its account, the account's branch, its teller
 -- and number with the ordinal there, and the bank hold; and its account isn't below the floor there
 pub record IsStoredFound (db : Database) (r : RequestFields) (found : Found) : Type 0 where
@@ -92,8 +98,7 @@ pub record IsStoredFound (db : Database) (r : RequestFields) (found : Found) : T
   pub floor : IsStoredFloor db (branch_of_account r.account) found.floor
   pub kept : OfRows (λ rows. HoldsKept rows r.teller r.number found.kept) db
   pub decided : OfRows (λ rows. HoldsDecided rows found.decided) db
-  -- so far a file knows of no closed books
-  pub current : found.books ≡ Current
+  pub books : OfRows (λ rows. found.books ≡ books_of (runs_in rows) r.teller r.number) db
 
 -- the reply is that of the case which applies to what the rows hold; where the request is kept, all is as it was
 pub record RepliesToStored (old new : Database) (r : RequestFields) (reply : List ℕ) : Type 0 where
@@ -152,13 +157,13 @@ HasRead rows t (Err fault) = ⊤
 HasRead rows t (Ok r) = HasStored rows t r
 
 -- The replies are those to the records one after another, each on what the ones before it left, in tables that
--- had what the rows hold: under the keys of each request, and of how many are decided. The ordinals that follow were
+-- had what the rows hold: under the keys of each request, of how many are decided, and of the seal. The ordinals that follow were
 -- free there. Where none of the records is decided there, all is as it was.
 pub record RepliesToAllStored (old new : Database) (moment : ℕ) (records replies : List (List ℕ)) : Type 0 where
   pub tables : Tables
   pub stored : OfRows (λ rows. AllByRecursion (λ bytes. HasRead rows tables (request_of bytes)) records
       × HoldsDecided rows tables.decided) old
   pub free : HasFreeOrdinals tables (length records)
-  pub current : tables.closings ≡ []
+  pub sealed : OfRows (λ rows. tables.closings ≡ runs_in rows) old
   pub are : replies ≡ replies_past_all tables moment records
   pub stays : DecidesNone tables moment records → new ≡ old

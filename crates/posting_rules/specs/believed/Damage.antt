@@ -1,7 +1,7 @@
 -- What holds of all tables that a log leads to. Tables of which it doesn't hold are damaged.
 use Rattle.std.specs.Prelude.{ℤ, ◌≡◌, ◌≤◌, ◌≤ℤ◌, ℕ, ◌+◌, ◌*◌, nat_abs, List, length, None, is_some, IsTrue, IfSome}
 use Rattle.std.specs.List.{Contains}
-use Rattle.posting_rules.specs.declared.limits.TheConstants.{MAX_DECIDED, LAST_BRANCH, MAX_ACCOUNTS}
+use Rattle.posting_rules.specs.declared.limits.TheConstants.{LAST_KEY, MAX_DECIDED, LAST_BRANCH, MAX_ACCOUNTS}
 use Rattle.posting_rules.specs.declared.limits.TheConstants.{ACCOUNTS_PER_BRANCH, TELLERS_PER_BRANCH}
 use Rattle.message_records.specs.declared.limits.TheConstants.{MAX_ACCOUNT, MAX_TELLER, MAX_BRANCH}
 use Rattle.message_records.specs.declared.limits.TheConstants.{MAX_NUMBER, MAX_MOMENT, MAX_BALANCE, MAX_DELTA}
@@ -13,6 +13,8 @@ use Rattle.posting_rules.specs.declared.rows.HistoryRow.{HistoryRow}
 use Rattle.posting_rules.specs.declared.rows.RequestRow.{RequestRow}
 use Rattle.posting_rules.specs.declared.rows.FloorRow.{FloorRow}
 use Rattle.posting_rules.specs.declared.rows.ReferenceRow.{ReferenceRow}
+use Rattle.posting_rules.specs.declared.rows.ClosingRow.{ClosingRow}
+use Rattle.posting_rules.specs.believed.Closings.{is_closing}
 use Rattle.message_records.specs.believed.Records.{is_printable}
 use Rattle.posting_rules.specs.believed.Commands.{IsFloor, is_within}
 use Rattle.posting_rules.specs.believed.Numbering.{branch_of_teller, branch_of_account, place_of_account}
@@ -99,6 +101,11 @@ pub record IsSoundReference (r : ReferenceRow) : Type 0 where
   -- it is as long as a reference, of printable bytes
   pub reference : (length r.reference ≡ REFERENCE_BYTES) × IsTrue (is_printable r.reference)
 
+-- closed numbers of one teller, or the seal
+pub record IsSoundClosing (r : ClosingRow) : Type 0 where
+  pub last : r.last ≤ LAST_KEY
+  pub numbers : IsTrue (is_closing r.first r.last)
+
 -- ---- the tables
 
 -- every row is sound, and so is what the rows of several tables say together
@@ -131,6 +138,8 @@ pub record IsUndamaged (t : Tables) : Type 0 where
   pub each_posting : (r : HistoryRow) → Contains t.history r → IsSoundPosting r
   -- every row of references has a reference, and an ordinal within its range
   pub each_reference : (r : ReferenceRow) → Contains t.references r → IsSoundReference r
+  -- every row of closings has numbers of one teller, or is the seal
+  pub each_closing : (r : ClosingRow) → Contains t.closings r → IsSoundClosing r
   -- the next ordinal has no request
   pub next_request : row_at request_key t.requests (t.decided + 1) ≡ None
   -- no posting

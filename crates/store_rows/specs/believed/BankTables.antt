@@ -52,9 +52,13 @@ floor = plain_table (codes "branch_floor") (codes "bid") (codes "lowest" ∷ [])
 abbrev pub reference : Table
 reference = text_table (codes "request_reference") (codes "ordinal") [] (codes "reference" ∷ [])
 
+-- the numbers that closed books decided, by the key of the last: from which key on
+abbrev pub closing : Table
+closing = plain_table (codes "closing") (codes "last") (codes "first" ∷ [])
+
 -- all of them; another table of the bank is one more here
 abbrev pub bank_tables : List Table
-bank_tables = meta ∷ branch ∷ teller ∷ account ∷ history ∷ request ∷ floor ∷ reference ∷ []
+bank_tables = meta ∷ branch ∷ teller ∷ account ∷ history ∷ request ∷ floor ∷ reference ∷ closing ∷ []
 
 -- each of them is defined as its CREATE text makes it
 abbrev pub HasBankTables : Schema → Type 0

@@ -22,6 +22,7 @@ use Rattle.store_rows.specs.declared.texts.TheConstants.{MAKE_TELLER, METAS_FROM
 use Rattle.store_rows.specs.declared.texts.TheConstants.{NEXT_REFERENCE, NEXT_REQUEST, POSTINGS_FROM}
 use Rattle.store_rows.specs.declared.texts.TheConstants.{POSTINGS_OF, REFERENCES_FROM, REFERENCE_UNDER}
 use Rattle.store_rows.specs.declared.texts.TheConstants.{REQUESTS_FROM, SET_ACCOUNT, SET_BRANCH, SET_META}
+use Rattle.store_rows.specs.declared.texts.TheConstants.{ADD_CLOSING, CLOSINGS_FROM, GET_CLOSING, MAKE_CLOSING, NEXT_CLOSING}
 use Rattle.store_rows.specs.declared.texts.TheConstants.{SET_TELLER, SET_VERSION, TELLERS_FROM}
 
 -- the texts by which calls ask
@@ -30,20 +31,22 @@ queries =
     GET_META.now ∷ GET_BRANCH.now ∷ NEXT_BRANCH.now ∷ GET_TELLER.now ∷ GET_ACCOUNT.now ∷ GET_FLOOR.now
     ∷ GET_REQUEST.now ∷ GET_REFERENCE.now ∷ BRANCHES_FROM.now ∷ TELLERS_FROM.now ∷ ACCOUNTS_FROM.now
     ∷ POSTINGS_FROM.now ∷ POSTINGS_OF.now ∷ REQUESTS_FROM.now ∷ METAS_FROM.now ∷ FLOORS_FROM.now
-    ∷ REFERENCES_FROM.now ∷ REFERENCE_UNDER.now ∷ NEXT_REQUEST.now ∷ NEXT_POSTING.now ∷ NEXT_REFERENCE.now ∷ []
+    ∷ REFERENCES_FROM.now ∷ REFERENCE_UNDER.now ∷ NEXT_REQUEST.now ∷ NEXT_POSTING.now ∷ NEXT_REFERENCE.now
+    ∷ GET_CLOSING.now ∷ NEXT_CLOSING.now ∷ CLOSINGS_FROM.now ∷ []
 
 -- those by which they make a table, or change a row
 abbrev pub changes : List (List ℕ)
 changes =
     MAKE_META.now ∷ MAKE_BRANCH.now ∷ MAKE_TELLER.now ∷ MAKE_ACCOUNT.now ∷ MAKE_HISTORY.now ∷ MAKE_REQUEST.now
-    ∷ MAKE_FLOOR.now ∷ MAKE_REFERENCE.now ∷ SET_META.now ∷ SET_VERSION.now ∷ SET_BRANCH.now ∷ SET_TELLER.now
+    ∷ MAKE_FLOOR.now ∷ MAKE_REFERENCE.now ∷ MAKE_CLOSING.now ∷ SET_META.now ∷ SET_VERSION.now ∷ SET_BRANCH.now ∷ SET_TELLER.now
     ∷ SET_ACCOUNT.now ∷ []
 
 -- those by which they put rows in
 abbrev pub inserts : List (List ℕ)
 inserts =
     ADD_BRANCH.now ∷ ADD_TELLER.now ∷ ADD_ACCOUNT.now ∷ ADD_FLOOR.now ∷ ADD_HISTORY.now ∷ ADD_REQUEST.now
-    ∷ ADD_REFERENCE.now ∷ ADD_EIGHT_POSTINGS.now ∷ ADD_EIGHT_REQUESTS.now ∷ []
+    ∷ ADD_REFERENCE.now ∷ ADD_EIGHT_POSTINGS.now ∷ ADD_EIGHT_REQUESTS.now
+    ∷ ADD_CLOSING.now ∷ []
 
 -- the call of `sqlite` that led from one state to the other answered this error; what it ran is a text of ours
 pub data HasFailed (old new : State) (e : Error) : Type 0 where

@@ -1,7 +1,7 @@
 -- The texts by which calls put rows in, and change them.
 use Rattle.std.specs.Prelude.{ℕ, List}
 use Rattle.store_rows.specs.declared.metas.TheConstants.{META_ID}
-use Rattle.store_rows.specs.declared.texts.TheConstants.{ADD_ACCOUNT, ADD_BRANCH, ADD_EIGHT_POSTINGS}
+use Rattle.store_rows.specs.declared.texts.TheConstants.{ADD_ACCOUNT, ADD_BRANCH, ADD_CLOSING, ADD_EIGHT_POSTINGS}
 use Rattle.store_rows.specs.declared.texts.TheConstants.{ADD_EIGHT_REQUESTS, ADD_FLOOR, ADD_HISTORY}
 use Rattle.store_rows.specs.declared.texts.TheConstants.{ADD_REFERENCE, ADD_REQUEST, ADD_TELLER, SET_ACCOUNT}
 use Rattle.store_rows.specs.declared.texts.TheConstants.{SET_BRANCH, SET_META, SET_TELLER}
@@ -32,6 +32,9 @@ eight_requests_insert = ADD_EIGHT_REQUESTS.now
 
 abbrev pub reference_insert : List ℕ
 reference_insert = ADD_REFERENCE.now
+
+abbrev pub closing_insert : List ℕ
+closing_insert = ADD_CLOSING.now
 
 abbrev pub account_update : List ℕ
 account_update = SET_ACCOUNT.now

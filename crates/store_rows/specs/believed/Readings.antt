@@ -14,11 +14,14 @@ use Rattle.message_records.specs.declared.limits.TheConstants.{MAX_MOMENT, MAX_N
 use Rattle.message_records.specs.declared.records.Outcome.{Outcome}
 use Rattle.posting_rules.specs.believed.Kept.{DecisionFields, is_kept_with}
 use Rattle.posting_rules.specs.declared.fault.Rule.{Rule}
-use Rattle.posting_rules.specs.declared.fault.Rule.TheVariants.{Balance, Floor, Reference, Request, Value as OfValue}
-use Rattle.posting_rules.specs.declared.limits.TheConstants.{ACCOUNTS_PER_BRANCH, LAST_BRANCH, MAX_ACCOUNTS}
+use Rattle.posting_rules.specs.believed.Closings.{is_closing, run_of}
+use Rattle.posting_rules.specs.declared.fault.Rule.TheVariants.{Balance, Closing, Floor, Reference, Request}
+use Rattle.posting_rules.specs.declared.fault.Rule.TheVariants.{Value as OfValue}
+use Rattle.posting_rules.specs.declared.limits.TheConstants.{ACCOUNTS_PER_BRANCH, LAST_BRANCH, LAST_KEY, MAX_ACCOUNTS}
 use Rattle.posting_rules.specs.declared.limits.TheConstants.{MAX_DECIDED, TELLERS_PER_BRANCH}
 use Rattle.posting_rules.specs.declared.rows.AccountRow.{AccountRow}
 use Rattle.posting_rules.specs.declared.rows.BranchRow.{BranchRow}
+use Rattle.posting_rules.specs.declared.rows.ClosingRow.{ClosingRow}
 use Rattle.posting_rules.specs.declared.rows.FloorRow.{FloorRow}
 use Rattle.posting_rules.specs.declared.rows.ReferenceRow.{ReferenceRow}
 use Rattle.posting_rules.specs.declared.rows.RequestRow.{RequestRow}
@@ -123,6 +126,13 @@ reference_of row = do
   text ← reference (column row 1)
   Ok (record { ordinal = ordinal; reference = text })
 
+-- last, first: numbers of one teller, or the seal
+abbrev pub closing_of : Reading ClosingRow
+closing_of row = do
+  last ← whole 0 LAST_KEY Closing (column row 0)
+  first ← whole 0 LAST_KEY Closing (column row 1)
+  if is_closing first last then Ok (run_of first last) else Err Closing
+
 -- ---- a stored row, whatever values it has
 
 abbrev pub read_branch : Entry → Result BranchRow Rule
@@ -136,6 +146,9 @@ read_floor e = floor_of (given e)
 
 abbrev pub read_reference : Entry → Result ReferenceRow Rule
 read_reference e = reference_of (given e)
+
+abbrev pub read_closing : Entry → Result ClosingRow Rule
+read_closing e = closing_of (given e)
 
 -- the balance of a teller or of an account
 abbrev pub read_balance : Entry → Result ℤ Rule

@@ -1,4 +1,4 @@
--- The rows of a bank's tables as a file holds them, whatever values they have, and the nine rules that the
+-- The rows of a bank's tables as a file holds them, whatever values they have, and the ten rules that the
 -- rows of a bank keep.
 use Rattle.std.specs.Prelude.{◌≡◌, ◌≢◌, ◌≤◌, ◌<◌, ◌≤ℤ◌, ◌+◌, ℕ, ℤ, pos, List, [], ◌∷◌, find, Option}
 use Rattle.std.specs.Prelude.{Some, None, Result, Err, option_and_then, IsSome, ⊤}
@@ -15,7 +15,7 @@ use Rattle.sql_meanings.specs.believed.Entries.{Entry, has_key}
 use Rattle.store_rows.specs.believed.Columns.{number_at}
 use Rattle.store_rows.specs.believed.BankTables.{bank_tables}
 use Rattle.store_rows.specs.believed.Readings.{read_account, read_branch, read_floor, read_posting, read_reference}
-use Rattle.store_rows.specs.believed.Readings.{read_request, read_teller}
+use Rattle.store_rows.specs.believed.Readings.{read_closing, read_request, read_teller}
 use Rattle.store_rows.specs.declared.metas.TheConstants.{META_ID}
 
 -- ---- what a file holds
@@ -30,12 +30,13 @@ pub record StoredRows : Type 0 where
   pub requests : List Entry
   pub floors : List Entry
   pub references : List Entry
+  pub closings : List Entry
 
 -- in the order of `bank_tables`
 abbrev pub stored_lists : StoredRows → List (List Entry)
 stored_lists rows =
     rows.meta ∷ rows.branches ∷ rows.tellers ∷ rows.accounts ∷ rows.history ∷ rows.requests ∷ rows.floors
-    ∷ rows.references ∷ []
+    ∷ rows.references ∷ rows.closings ∷ []
 
 -- a sound database defines the tables of a bank and holds these rows by rising keys, whatever else it has
 pub record HoldsBank (db : Database) (rows : StoredRows) : Type 0 where
@@ -69,6 +70,7 @@ pub record EachKeeps (rule : Rule) (rows : StoredRows) : Type 0 where
   pub requests : NoneBreaks rule read_request rows.requests
   pub floors : NoneBreaks rule read_floor rows.floors
   pub references : NoneBreaks rule read_reference rows.references
+  pub closings : NoneBreaks rule read_closing rows.closings
 
 -- the account isn't below the floor of its branch, where it has one
 abbrev pub IsAbove : StoredRows → ℕ → Type 0
@@ -130,7 +132,7 @@ KeepsTogether Balance rows = AreAbove rows
 KeepsTogether Key rows = AreFree rows
 KeepsTogether _ rows = ⊤
 
--- the nine rules
+-- the ten rules
 abbrev pub KeepsRule : Rule → StoredRows → Type 0
 KeepsRule rule rows = EachKeeps rule rows × KeepsTogether rule rows
 

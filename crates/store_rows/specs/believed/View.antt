@@ -1,10 +1,12 @@
 -- The one view of a database as the tables of a bank.
-use Rattle.std.specs.Prelude.{◌≡◌, ◌+◌, ℕ, ℤ, pos, nat_abs, List, [], ◌∷◌, map, take}
+use Rattle.std.specs.Prelude.{◌≡◌, ◌<◌, ◌+◌, ℕ, ℤ, pos, nat_abs, List, [], ◌∷◌, map, take}
+use Rattle.std.specs.List.{AllByRecursion}
 use Rattle.sqlite.specs.Schema.{Schema}
 use Rattle.sqlite.specs.Table.{Table}
 use Rattle.sqlite.specs.Tree.{Trees}
 use Rattle.sqlite.specs.Effect.{Database, IsDatabase}
 use Rattle.message_records.specs.believed.Outcomes.{code_of}
+use Rattle.posting_rules.specs.believed.Closings.{seal}
 use Rattle.posting_rules.specs.believed.Tables.{Tables}
 use Rattle.posting_rules.specs.declared.rows.BranchRow.{BranchRow}
 use Rattle.posting_rules.specs.declared.rows.TellerRow.{TellerRow}
@@ -13,6 +15,7 @@ use Rattle.posting_rules.specs.declared.rows.HistoryRow.{HistoryRow}
 use Rattle.posting_rules.specs.declared.rows.RequestRow.{RequestRow}
 use Rattle.posting_rules.specs.declared.rows.FloorRow.{FloorRow}
 use Rattle.posting_rules.specs.declared.rows.ReferenceRow.{ReferenceRow}
+use Rattle.posting_rules.specs.declared.rows.ClosingRow.{ClosingRow}
 use Rattle.sql_meanings.specs.believed.Entries.{Entry}
 use Rattle.sql_meanings.specs.believed.Contents.{HoldsEach}
 use Rattle.store_rows.specs.declared.metas.TheConstants.{META_ID, VERSION}
@@ -62,12 +65,16 @@ floor_entry r = record { key = pos r.branch; values = r.lowest ∷ []; texts = [
 abbrev pub reference_entry : ReferenceRow → Entry
 reference_entry r = record { key = pos r.ordinal; values = []; texts = r.reference ∷ [] }
 
+-- a row of `closing`
+abbrev pub closing_entry : ClosingRow → Entry
+closing_entry r = record { key = pos r.last; values = pos r.first ∷ []; texts = [] }
+
 -- the rows of each table but `meta` as a file holds them, in the order of `bank_tables`
 abbrev pub rows_of : Tables → List (List Entry)
 rows_of t =
     map branch_entry t.branches ∷ map teller_entry t.tellers ∷ map account_entry t.accounts
     ∷ map history_entry t.history ∷ map request_entry t.requests ∷ map floor_entry t.floors
-    ∷ map reference_entry t.references ∷ []
+    ∷ map reference_entry t.references ∷ map closing_entry t.closings ∷ []
 
 -- the tables of a version: those of the version before it, and one more after them
 abbrev pub tables_of : ℕ → List Table
@@ -77,12 +84,17 @@ tables_of version = take (5 + version) bank_tables
 abbrev pub contents_of : ℕ → Tables → List (List Entry)
 contents_of version t = (meta_entry (pos version) t.decided ∷ []) ∷ take (4 + version) (rows_of t)
 
--- a sound database defines the tables of a version and holds these rows by rising keys, whatever else it has; so far no
--- version has a table of closed books
+-- so far no numbers are closed: the seal alone may stand among them
+abbrev pub HasSealAlone : List ClosingRow → Type 0
+HasSealAlone rows = AllByRecursion (λ r. r ≡ seal) rows
+
+-- a sound database defines the tables of a version and holds these rows by rising keys, whatever else it has; before
+-- version 4 no books were sealed
 pub record ShowsAs (version : ℕ) (db : Database) (t : Tables) : Type 0 where
   pub sound : ∥ IsDatabase db ∥₁
   pub each : HoldsEach db (tables_of version) (contents_of version t)
-  pub current : t.closings ≡ []
+  pub early : version < 4 → t.closings ≡ []
+  pub alone : HasSealAlone t.closings
 
 -- a sound database has the tables of a bank with these rows
 abbrev pub Shows : Database → Tables → Type 0

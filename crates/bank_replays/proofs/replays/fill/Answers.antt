@@ -8,7 +8,7 @@ use Rattle.store_rows.specs.believed.BankTables.{floor}
 use Rattle.walked_rows.specs.{KeptRows.HasKept, KeptRows.kept_all, Rows.HasStoredRows}
 use Rattle.bank_store.specs.{believed.Seen.database_of, declared.bank.Bank.Bank}
 use Rattle.bank_replays.specs.Refilling.{Holds, IsPlan, OpensRest}
-use Rattle.bank_replays.specs.{Replayed.ShowsReplay}
+use Rattle.bank_replays.specs.{Replayed.ShowsFilled}
 use Rattle.bank_replays.specs.declared.{fault.ReplayFault.ReplayFault, refill.Refill.Refill}
 use Rattle.bank_replays.proofs.FilledBank.{filled, has_kept_of}
 use Rattle.bank_replays.proofs.{Read.clean_before, Read.read_any, Read.read_then, Whys.why_memories, Whys.why_then}
@@ -51,7 +51,7 @@ finished : {S T W : Type 0} {g : Ghosts S} {h : Ghosts T} (old : Bank S g) (last
     → ((plan : ℕ → Option Terms) → IsPlan plan → (log : List Command) → Holds h plan log end
     → OnOk r (OpensRest h plan log last))
     → (((plan : ℕ → Option Terms) → IsPlan plan → (log : List Command) → Holds h plan log end → OpensRest h plan log last)
-    → ShowsReplay g h old last) → OnOk r (ShowsReplay g h old last)
+    → ShowsFilled g h old last) → OnOk r (ShowsFilled g h old last)
 finished old last end (Ok done) rest then = then rest
 finished old last end (Err fault) rest then = tt
 

@@ -26,7 +26,7 @@ pieces-init g c = record {
   still = λ clean. (refl, refl, refl, refl);
   survives = nothing_called (state g.S.Store c.args.conn.now);
   answers = λ clean all has.
-      rw (after_key c.args.after (pos c.args.after) refl c.requires.after)
+      rw (after_key c.args.after (pos c.args.after) refl (omega (arith, c.requires.after)))
       (none_yet (items_from kept_key (pos (c.args.after + 1)) all) c.args.entries.now.items);
 }
 

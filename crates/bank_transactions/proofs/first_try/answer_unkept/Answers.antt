@@ -77,7 +77,7 @@ returns-in-Err-2 g c =
           refused_new c.in-Err.fault (search rules) (does_look (reads_ok fk.says)) (does_adds (λ clean.
           let first = clean_at puts.says.survives clean in
           adds_records c.args.batch records (view c.fill_known.new.overlay) (view c.judge-judged.result.overlay) _ made
-          fk.same (λ rows has. (fk.stored first (homes_made c.args.batch records made) rows has).decided)
+          fk.same (λ rows has. (fk.stored first (homes_made c.args.batch records made) rows has).slots.decided)
           c.judge-judged.ensures.next c.judge-judged.ensures.again.keys) puts);
       count = tt;
       busy = tt;
@@ -117,7 +117,7 @@ returns-in_err-write_after-in-Ok g c =
           let before = clean_at end.says.survives clean in
           let first = clean_at c.in-Ok.ensures.puts.says.survives before in
           adds_records c.args.batch records p' o _ made fk.same
-          (λ rows has. (fk.stored first (homes_made c.args.batch records made) rows has).decided) j.next j.again.keys)
+          (λ rows has. (fk.stored first (homes_made c.args.batch records made) rows has).slots.decided) j.next j.again.keys)
           (all_written o (requests_first o c.deref.ensures c.in-Ok.ensures.puts) end));
       count = tt;
       busy = tt;
@@ -153,7 +153,7 @@ returns-in_ok-write_after-in-Ok-clause-says g c records made =
     let before = clean_at end.says.survives clean in
     let first = clean_at c.in-Ok.ensures.puts.says.survives before in
     adds_records c.args.batch records p' o _ made fk.same
-    (λ rows has. (fk.stored first (homes_made c.args.batch records made) rows has).decided) j.next j.again.keys)
+    (λ rows has. (fk.stored first (homes_made c.args.batch records made) rows has).slots.decided) j.next j.again.keys)
     (all_written o (requests_first o c.deref.ensures c.in-Ok.ensures.puts) end)))
 
 pub returns-in_ok-write_after-in-Ok-clause-busy : goal.returns-in_ok-write_after-in-Ok-clause-busy
@@ -200,7 +200,7 @@ returns-in_ok-write_after-in-Ok-clause-stored g c clean live records made =
     made refl fk.same (fk.own first) held j.judged
     (λ same. absurd (all.0 same)) j.rising
     (inr (ran_since stays.now (adds_records c.args.batch records p' o _ made fk.same
-    (λ rows has. (fk.stored first (homes_made c.args.batch records made) rows has).decided) j.next j.again.keys)
+    (λ rows has. (fk.stored first (homes_made c.args.batch records made) rows has).slots.decided) j.next j.again.keys)
     (ran.ran clean on))))
 
 pub returns-in_ok-write_after-in-Ok-clause-quiet : goal.returns-in_ok-write_after-in-Ok-clause-quiet

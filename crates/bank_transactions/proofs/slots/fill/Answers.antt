@@ -1,5 +1,5 @@
 -- What is kept of requests is filled after the rest.
-use Rattle.std.proofs.Common.{List, map, refl, sym, ap, subst, ◌∙◌}
+use Rattle.std.proofs.Common.{List, map, sym, ap, subst, ◌∙◌}
 use Rattle.std.specs.List.{AllByRecursion}
 use Rattle.std.proofs.lemmas.Result.{on_ok_weaker}
 use Rattle.sqlite.specs.Effect.{Database}
@@ -39,7 +39,7 @@ returns-clause-says g c =
     (put_back kv _ c.fill_all.new.slots c.deref_mut.ensures.value c.fill_all.auto.slots) in
     let known = reads_ok c.in_ok-fill_known.ensures.says in
     reads_wider (handed_last c.fill_all.result known c.fill_all.ensures.says (λ last.
-    reads_so (kept_after known refl (c.deref_mut.ensures.value ∙ kept) last)
+    reads_so (kept_after known (c.deref_mut.ensures.value ∙ kept) last)
     (λ t so. (so, λ e. held ∙ e))))
 
 -- ---- of whatever rows a file holds
@@ -61,15 +61,15 @@ returns-clause-stored g c = on_ok_weaker c.fill_all.result (λ stored clean home
     let first = one.stored before homes rows has in
     let has1 = subst (λ (db : Database). HoldsBank db rows) (sym (one.says.says.leaves before).0.now) has in
     record {
-      branches = first.branches;
-      floors = first.floors;
-      tellers = first.tellers;
-      accounts = first.accounts;
+      branches = first.slots.branches;
+      floors = first.slots.floors;
+      tellers = first.slots.tellers;
+      accounts = first.slots.accounts;
       kept = subst (λ (slots : List RequestSlot). AllByRecursion (RequestHeld rows) slots)
           (sym (put_back kv _ c.fill_all.new.slots c.deref_mut.ensures.value c.fill_all.auto.slots))
           (stored clean rows has1 (nothing_asked _));
-      decided = first.decided;
-      runs = refl;
+      decided = first.slots.decided;
+      runs = first.runs;
     }) c.fill_all.ensures.stored
 
 pub returns-clause-own : goal.returns-clause-own

@@ -49,7 +49,10 @@ all_ours = (
             inr (inr (inr (inr (inr (inl refl))))),
             (
               inr (inr (inr (inr (inr (inr (inl refl)))))),
-              (inr (inr (inr (inr (inr (inr (inr (inl refl))))))), tt),
+              (
+                inr (inr (inr (inr (inr (inr (inr (inl refl))))))),
+                (inr (inr (inr (inr (inr (inr (inr (inr (inl refl)))))))), tt),
+              ),
             ),
           ),
         ),

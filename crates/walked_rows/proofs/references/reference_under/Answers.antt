@@ -1,5 +1,5 @@
 -- What is found is the row under the ordinal.
-use Rattle.std.proofs.Common.{◌≡◌, pos, refl, w64, to_z}
+use Rattle.std.proofs.Common.{arith, ◌≡◌, pos, refl, w64, to_z}
 use Rattle.sqlite.specs.Held.{state}
 use Rattle.store_rows.proofs.Lookups.{as_integer}
 use Rattle.std.proofs.lemmas.Result.{IfErr-weaker}
@@ -14,7 +14,7 @@ rows_shown-requires-clause-only g c = only_references
 pub returns-in-Ok-clause-answers : goal.returns-in-Ok-clause-answers
 returns-in-Ok-clause-answers g c clean all has =
     let n = c.args.ordinal in
-    let same : to_z w64 n ≡ pos n = as_integer n n refl c.requires in
+    let same : to_z w64 n ≡ pos n = as_integer n n refl (omega (arith, c.requires)) in
     tells_reference (state g.S.Store c.args.conn.now) (state g.S.Store c.rows_shown.new.conn) all has n
     c.in-Ok.found.items (rw (c.params-to_sql.ensures, same) at (c.in-Ok.ensures.shown clean))
     c.first_reference.result (rw c.deref.ensures.value at c.first_reference.ensures)
@@ -37,6 +37,6 @@ returns-in-Err-clause-reads g c = fails_too c.in-Err.ensures.reads
 pub returns-in-Err-clause-answers : goal.returns-in-Err-clause-answers
 returns-in-Err-clause-answers g c clean all has =
     let n = c.args.ordinal in
-    let same : to_z w64 n ≡ pos n = as_integer n n refl c.requires in
+    let same : to_z w64 n ≡ pos n = as_integer n n refl (omega (arith, c.requires)) in
     tells_failure (state g.S.Store c.args.conn.now) (state g.S.Store c.rows_shown.new.conn) all has n
     c.in-Err.e (rw (c.params-to_sql.ensures, same) at (c.in-Err.ensures.shown clean))

@@ -32,7 +32,7 @@ loop-row-preserved g c =
     let ordinal = c.ordinal-ordinal.result in
     let keyed : entry_key (g.R.Referred.entry (mine r)) ≡ pos ordinal =
     g.met.R.Referred.keyed r ∙ ap (λ n. pos n) (sym c.ordinal-ordinal.ensures.value) in
-    let key = after_key ordinal (entry_key (g.R.Referred.entry (mine r))) keyed c.ordinal-ordinal.ensures.most in
+    let key = after_key ordinal (entry_key (g.R.Referred.entry (mine r))) keyed (omega (arith, c.ordinal-ordinal.ensures.most)) in
     let low : at < length own = search rules in
     let left = next_left own at r low c.row-item.is in
     let keys = subst (λ l. RisesFrom next (map (λ o. entry_key (g.R.Referred.entry (mine o))) l) c.args.rest) left

@@ -18,7 +18,7 @@ returns-in-Some-Some-clause-fits c was now left sets fits =
     let got : c.get.result ≡ Some (Some c.in-Some-Some.row) = search rules in
     let answers : known_under c.args.self.now.branches c.args.branch ≡ Some (Some c.in-Some-Some.row) =
     sym (rw c.get-key.ensures.value at c.get.ensures) ∙ got in
-    branches_noted c.args.self.now _ was now fits c.args.branch refl refl refl refl left (λ still.
+    branches_noted c.args.self.now _ was now fits c.args.branch refl refl refl refl refl left (λ still.
     known_put (λ k row. BranchLies k was row) (λ k row. BranchLies k now row) c.args.branch still
     c.args.self.now.branches c.put.new.self (Some (record c.in-Some-Some.row { balance = c.args.balance }))
     (rw c.get-key.ensures.value at c.put.ensures.true_after)
@@ -26,14 +26,14 @@ returns-in-Some-Some-clause-fits c was now left sets fits =
 
 pub returns-in-Some-None-clause-fits : goal.returns-in-Some-None-clause-fits
 returns-in-Some-None-clause-fits c was now left sets fits =
-    branches_noted c.args.self.now _ was now fits c.args.branch refl refl refl refl left (λ still.
+    branches_noted c.args.self.now _ was now fits c.args.branch refl refl refl refl refl left (λ still.
     known_none (λ k row. BranchLies k now row) c.forget.new.self c.forget.ensures.nothing)
 
 pub returns-in-None-clause-fits : goal.returns-in-None-clause-fits
 returns-in-None-clause-fits c was now left sets fits =
     let answers : known_under c.args.self.now.branches c.args.branch ≡ None =
     sym (rw c.get-key.ensures.value at c.get.ensures) ∙ c.in-None.is in
-    branches_noted c.args.self.now c.args.self.now was now fits c.args.branch refl refl refl refl left (λ still.
+    branches_noted c.args.self.now c.args.self.now was now fits c.args.branch refl refl refl refl refl left (λ still.
     known_apart (λ k row. BranchLies k was row) (λ k row. BranchLies k now row) c.args.branch still
     c.args.self.now.branches answers fits.branches)
 

@@ -4,4 +4,4 @@ use Rattle.bank_transactions.proofs.Fitting.{count_noted}
 use Rattle.bank_transactions.proofs.memory.Memory.note.Goals as goal
 
 pub returns-clause-fits : goal.returns-clause-fits
-returns-clause-fits c was now left lies fits = count_noted c.args.self.now _ was now fits refl refl refl refl left lies
+returns-clause-fits c was now left lies fits = count_noted c.args.self.now _ was now fits refl refl refl refl refl left lies

@@ -10,6 +10,6 @@ invariant_of-self-clause-low c = low_noted c.args.self.now.floors c.put.new.self
 
 pub returns-clause-fits : goal.returns-clause-fits
 returns-clause-fits c was now left lies fits =
-    floors_noted c.args.self.now _ was now fits c.args.branch refl refl refl refl left (λ still.
+    floors_noted c.args.self.now _ was now fits c.args.branch refl refl refl refl refl left (λ still.
     known_put (λ k row. FloorLies k was row) (λ k row. FloorLies k now row) c.args.branch still c.args.self.now.floors
     c.put.new.self c.args.row.now (rw c.get.ensures.value at c.put.ensures.true_after) lies fits.floors)
