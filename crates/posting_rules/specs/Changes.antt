@@ -2,7 +2,7 @@
 use Rattle.std.specs.Prelude.{ℕ, ◌≡◌}
 use Rattle.std.specs.Prelude.{IsSome}
 use Rattle.posting_rules.specs.believed.Tables.{Tables, branch_key, teller_key, account_key}
-use Rattle.posting_rules.specs.believed.Tables.{row_at}
+use Rattle.posting_rules.specs.believed.Tables.{closing_key, row_at}
 use Rattle.posting_rules.specs.declared.rows.TellerRow.{TellerRow}
 use Rattle.posting_rules.specs.declared.rows.AccountRow.{AccountRow}
 use Rattle.posting_rules.specs.declared.rows.ClosingRow.{ClosingRow}
