@@ -1,7 +1,7 @@
 -- No row is beyond a number where none was found beyond it.
-use Rattle.std.proofs.Common.{◌≡◌, ℕ, ℤ, pos, false, true, List, [], ◌∷◌, None, arith, inl, inr, int_cmp, refl}
+use Rattle.std.proofs.Common.{◌≡◌, ℕ, ℤ, pos, false, List, [], ◌∷◌, None, arith, inl, inr, int_cmp, refl}
 use Rattle.std.specs.Prelude.{◌≤ℤ◌}
-use Rattle.std.specs.Ordering.{is_gt, match_ordering}
+use Rattle.std.specs.Ordering.{is_gt}
 use Rattle.std.specs.List.{AllByRecursion, find}
 use Rattle.std.proofs.lemmas.Int.{ints}
 use Rattle.posting_rules.proofs.Keyed.{by_test}

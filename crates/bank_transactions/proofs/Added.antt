@@ -1,6 +1,6 @@
 -- The rows that records put in are under ordinals that follow the count which the file holds, and those that they
 -- change are theirs.
-use Rattle.std.proofs.Common.{◌≡◌, ◌∙◌, ℕ, List, None, length, map, refl, sym, ap, subst, inl, inr}
+use Rattle.std.proofs.Common.{◌≡◌, ◌∙◌, ℕ, List, length, map, refl, sym, ap, subst, inl, inr}
 use Rattle.std.proofs.lemmas.List.{length-map}
 use Rattle.std.specs.List.{AllByRecursion}
 use Rattle.sqlite.specs.{Effect.Database, Order.Row}

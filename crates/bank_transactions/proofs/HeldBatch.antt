@@ -42,11 +42,7 @@ use Rattle.bank_transactions.specs.{Running.Leads, Writing.AreBranchNumbers, Wri
 use Rattle.bank_transactions.specs.believed.{Additions.AddsForRecords, Answered.AnswersAll, Ran.LeadTo, Ran.Runs}
 use Rattle.bank_transactions.proofs.{HeldRows.both_held, HeldSlots.at_key}
 use Rattle.bank_transactions.proofs.Running.{runs_for, runs_same}
-use Rattle.sqlite_rules.specs.Lists.{Has}
-use Rattle.sqlite_rules.proofs.ListLemmas.{all_has}
 use Rattle.posting_batch.specs.Overlay.{tables_over}
-use Rattle.posting_rules.specs.believed.LookUps.{kept_of_row}
-use Rattle.posting_rules.specs.declared.rows.RequestRow.{RequestRow}
 
 -- ---- an overlay that is filled again
 

@@ -1,5 +1,5 @@
 -- Tables on which any number of records can build show no stray row, so that no damage is told of them.
-use Rattle.std.proofs.Common.{◌≡◌, ◌<◌, ℕ, ℤ, pos, eqb, nat_lt, true, false, arith, List, [], ◌∷◌, map, nat_abs}
+use Rattle.std.proofs.Common.{◌≡◌, ◌<◌, ℕ, ℤ, pos, eqb, nat_lt, true, arith, List, [], ◌∷◌, map, nat_abs}
 use Rattle.std.proofs.Common.{None, Option, Some}
 use Rattle.std.proofs.Common.{option_map, inl, inr, refl, ap, sym, subst, ◌∙◌}
 use Rattle.std.specs.List.{find}

@@ -1,5 +1,5 @@
 -- What one slot writes.
-use Rattle.std.proofs.Common.{◌≡◌, ◌++◌, ℕ, List, [], ◌∷◌, Option, Result, Some, None, false, refl, sym, ap, subst, ◌∙◌}
+use Rattle.std.proofs.Common.{◌≡◌, ℕ, List, [], ◌∷◌, Option, Result, Some, None, false, refl, sym, ap, subst, ◌∙◌}
 use Rattle.std.proofs.Common.{inl, inr}
 use Rattle.std.specs.{List.AllByRecursion, Prelude.ℤ, Prelude.is_some}
 use Rattle.sqlite.specs.{Table.Table, declared.transaction.Transaction.Transaction}

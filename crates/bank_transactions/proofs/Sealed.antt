@@ -1,5 +1,5 @@
 -- What the row of the seal says of the closed numbers.
-use Rattle.std.proofs.Common.{◌≡◌, ℤ, pos, List, [], ◌∷◌, map, Bool, true, false, Less, int_cmp, refl, ap, ◌∙◌}
+use Rattle.std.proofs.Common.{◌≡◌, pos, List, [], ◌∷◌, map, Bool, true, false, Less, int_cmp, refl}
 use Rattle.std.specs.Prelude.{is_some, if◌then◌else◌}
 use Rattle.sqlite.specs.Effect.{Database}
 use Rattle.posting_rules.specs.believed.{Closings.seal, Tables.Tables}

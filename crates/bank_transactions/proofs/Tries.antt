@@ -1,8 +1,8 @@
 -- A try that was given up, and then a call: it is as if there had been the call alone.
-use Rattle.std.proofs.Common.{◌≡◌, ◌∙◌, ℕ, List, Result, Ok, Err, refl, sym, ap, subst, arith, inl, inr}
+use Rattle.std.proofs.Common.{◌≡◌, ◌∙◌, ℕ, List, Result, Ok, Err, refl, sym, ap, subst, arith}
 use Rattle.std.specs.Prelude.{false, true, length, None, IfOk, IfSome, IsTrue, OnOk}
 use Rattle.std.proofs.lemmas.Result.{IfOk-weaker, on_err_weaker, on_ok_weaker}
-use Rattle.sqlite.specs.{Effect.Database, Held.Held, Held.state, Order.Row, Tree.Trees}
+use Rattle.sqlite.specs.{Effect.Database, Held.Held, Held.state, Tree.Trees}
 use Rattle.sqlite.specs.declared.error.Error.{Error}
 use Rattle.sqlite.specs.State.{Fails, IsRolledBack, IsUnchanged, KeepsCommit, State, HasCleanDisk, Survives}
 use Rattle.sqlite.proofs.{Callers.survives_begin, StateLemmas.survives_then}

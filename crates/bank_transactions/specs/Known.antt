@@ -1,6 +1,6 @@
 -- What is known under a key. Each key has one place, and a place holds one value, under its key. What was put there
 -- before all was forgotten has an older stamp than the table.
-use Rattle.std.specs.Prelude.{◌≡◌, ◌≤◌, ◌-◌, ◌==◌, ◌&&◌, ℕ, List, [], length, slice_index_or, bit_and}
+use Rattle.std.specs.Prelude.{◌≡◌, ◌-◌, ◌==◌, ◌&&◌, ℕ, List, length, slice_index_or, bit_and}
 use Rattle.std.specs.Prelude.{Option, Some, None, if◌then◌else◌}
 use Rattle.bank_transactions.specs.declared.known_rows.entry.Entry.{Entry}
 use Rattle.bank_transactions.specs.declared.known_rows.table.Table.{Table}

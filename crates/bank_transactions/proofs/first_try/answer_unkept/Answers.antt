@@ -5,7 +5,7 @@ use Rattle.smallvec.specs.SmallVec.{SmallVec}
 use Rattle.posting_rules.specs.believed.Tables.{Tables}
 use Rattle.posting_batch.specs.{Overlay.Overlay, View.view, declared.slots.RequestSlot.RequestSlot}
 use Rattle.bank_transactions.proofs.{Added.adds_records, JudgedSlots.judging_all, ShownSlots.shown_filled}
-use Rattle.bank_transactions.proofs.{Chained.acts_read, Chained.does_adds, HeldBatch.homes_made}
+use Rattle.bank_transactions.proofs.{Chained.does_adds, HeldBatch.homes_made}
 use Rattle.bank_transactions.proofs.{Remembered.followed_next, Remembered.keeps_followed}
 use Rattle.bank_transactions.proofs.{Remembered.recalls_read, Remembered.recalls_then}
 use Rattle.bank_transactions.proofs.{Chained.still_in, Running.ran_since, Together.all_ran, Together.requests_ran}

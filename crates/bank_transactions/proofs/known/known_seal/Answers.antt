@@ -1,6 +1,5 @@
 -- What the row of the seal tells.
 use Rattle.std.proofs.Common.{sym, ap, ◌∙◌}
-use Rattle.std.specs.Prelude.{is_some}
 use Rattle.sqlite.specs.Held.{state}
 use Rattle.posting_batch.specs.View.{runs_of}
 use Rattle.store_rows.specs.believed.{Readings.read_closing, Rules.row_under}

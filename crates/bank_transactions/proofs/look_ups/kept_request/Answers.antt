@@ -1,5 +1,5 @@
 -- What the row of a kept request tells, and the row of its reference.
-use Rattle.std.proofs.Common.{◌≡◌, ℕ, pos, find, List, Option, Ok, Some, refl, sym, ap, subst, ◌∙◌}
+use Rattle.std.proofs.Common.{ℕ, pos, find, List, Option, Ok, Some, refl, sym, ap, subst, ◌∙◌}
 use Rattle.std.specs.Prelude.{option_map}
 use Rattle.sqlite.specs.Effect.{Database}
 use Rattle.posting_rules.specs.believed.{Kept.KeptFields, Kept.kept_with, LookUps.kept_of_row}

@@ -1,8 +1,7 @@
 -- Whether the books are sealed is looked up after the rows.
-use Rattle.std.proofs.Common.{◌∙◌, refl, sym, subst}
-use Rattle.std.proofs.lemmas.Result.{on_ok_weaker}
-use Rattle.sqlite.specs.{Effect.Database, Held.state}
-use Rattle.posting_batch.specs.View.{runs_of, view}
+use Rattle.std.proofs.Common.{sym, subst}
+use Rattle.sqlite.specs.{Effect.Database}
+use Rattle.posting_batch.specs.View.{runs_of}
 use Rattle.store_rows.specs.believed.Rules.{HoldsBank}
 use Rattle.bank_transactions.proofs.LookUps.{reads_but, reads_ok, reads_wider}
 use Rattle.bank_transactions.proofs.FilledBatch.{runs_after}

@@ -191,4 +191,4 @@ returns-clause-own g c = on_ok_weaker c.fill_all-4.result (λ _ clean.
     let clean2 = clean_at c.in_ok-fill_all-3.ensures.says.says.survives clean3 in
     let clean1 = clean_at c.in_ok-fill_all-2.ensures.says.says.survives clean2 in
     subst (λ (slots : List BranchSlot). AllByRecursion HasOwnRow slots)
-    (sym (put_back bv _ c.fill_all.new.slots c.deref_mut.ensures.value c.fill_all.auto.slots)) (one.shown clean1)) c.fill_all-4.ensures.remembers
+    (sym (put_back bv _ c.fill_all.new.slots c.deref_mut.ensures.value c.fill_all.auto.slots)) (one.own clean1)) c.fill_all-4.ensures.remembers

@@ -1,5 +1,5 @@
 -- A row beyond the count is stray.
-use Rattle.std.proofs.Common.{◌≡◌, ℕ, Err, None, Ok, Some, inr, refl, sym, ◌∙◌}
+use Rattle.std.proofs.Common.{None, Ok, Some, inr, refl, sym, ◌∙◌}
 use Rattle.posting_rules.specs.declared.fault.Rule.TheVariants.{Key}
 use Rattle.store_rows.specs.Beyond.{beyond}
 use Rattle.bank_transactions.proofs.{Above.none_of, Broken.find_broken}

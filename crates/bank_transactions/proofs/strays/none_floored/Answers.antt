@@ -1,7 +1,6 @@
 -- A floor without its branch is stray.
-use Rattle.std.proofs.Common.{◌≡◌, None, Some, inr, refl, subst, sym, ◌∙◌}
+use Rattle.std.proofs.Common.{None, Some, inr, refl, subst, sym, ◌∙◌}
 use Rattle.posting_rules.specs.declared.fault.Rule.TheVariants.{Key}
-use Rattle.store_rows.specs.believed.Rules.{StoredRows}
 use Rattle.bank_transactions.specs.believed.Stored.{HoldsFloor}
 use Rattle.bank_transactions.proofs.LookUps.{finds_so, reads_met, reads_wider}
 use Rattle.bank_transactions.proofs.Exits.{clean_at, handed_on, reads_fail}

@@ -1,7 +1,7 @@
 -- One table after another.
 use Rattle.std.proofs.Common.{subst, sym, ◌∙◌}
 use Rattle.std.proofs.lemmas.Result.{on_ok_weaker}
-use Rattle.sqlite.specs.{Effect.Database, Held.state}
+use Rattle.sqlite.specs.{Effect.Database}
 use Rattle.store_rows.specs.believed.Rules.{HoldsBank, OfRows}
 use Rattle.bank_transactions.proofs.Above.{none_found}
 use Rattle.bank_transactions.specs.believed.Stored.{HoldsDecided}
