@@ -2,7 +2,7 @@
 use Rattle.std.proofs.Common.{◌≡◌, ℕ, List, [], ◌∷◌, Ok, Err, Result, length, sym, ap, subst, ◌∙◌}
 use Rattle.message_records.specs.believed.{Reading.request_of, Records.RequestFields, Spelling.reply_spelling}
 use Rattle.message_records.specs.declared.fault.Bad.{Bad}
-use Rattle.posting_rules.specs.believed.AnyTables.{AnswersByTables, HasRoom}
+use Rattle.posting_rules.specs.believed.AnyTables.{HasRoom}
 use Rattle.posting_rules.specs.believed.Changes.{reply_read, tables_read}
 use Rattle.posting_rules.specs.believed.{Counter.LeavesOnly, Entries.malformed_reply, Tables.Tables}
 use Rattle.bank_transactions.specs.believed.Batches.{HasRoomFor}

@@ -12,7 +12,7 @@ use Rattle.posting_rules.specs.believed.Tables.{Tables, branch_key, row_at}
 use Rattle.store_rows.specs.{believed.Failures.Additions, declared.fault.TableFault.TableFault}
 use Rattle.bank_transactions.specs.{believed.Causes.Damage, Doing.MayLeaveAfter, Doing.TransactsBy}
 use Rattle.bank_store.specs.{believed.NoneOrAll.LeavesEither, declared.bank.Bank.Bank}
-use Rattle.bank_store.specs.believed.NoneOrAll.{RefusesOpening, RefusesRecords}
+use Rattle.bank_store.specs.believed.NoneOrAll.{RefusesOpening, RefusesRecords, RefusesSeal}
 use Rattle.bank_store.specs.believed.Seen.{bank_seen, connection_of}
 
 -- nothing was tried
@@ -68,3 +68,6 @@ module _ {S : Type 0} (g : Ghosts S) (bank : Bank S g) where
   pub untried_opening : (b : ℕ) (terms : Terms) (fault : Fault) → fault ≡ Down
       → RefusesOpening g b terms bank bank fault
   untried_opening b terms fault is = rw is (record { damage = tt; left = λ t shows so. either_same g bank t _ })
+
+  pub untried_seal : (fault : Fault) → fault ≡ Down → RefusesSeal g bank bank fault
+  untried_seal fault is = rw is (record { damage = tt; left = λ t shows so. either_same g bank t _ })

@@ -5,8 +5,7 @@ use Rattle.std.proofs.Math.Logic.{∥∥₁_elim, ∥∥₁_map}
 use Rattle.sqlite.specs.{Effect.Database, Held.Held, Held.state, State.HasCleanDisk, State.State, State.Survives}
 use Rattle.sqlite.specs.Tree.{Trees}
 use Rattle.sqlite_trees.specs.declared.store.Store.{Ghosts}
-use Rattle.posting_rules.specs.believed.Tables.{Tables}
-use Rattle.store_rows.specs.{believed.BankTables.HasBankTables, believed.Sparing.SparesOthers, believed.View.Shows}
+use Rattle.store_rows.specs.{believed.BankTables.HasBankTables, believed.Sparing.SparesOthers}
 use Rattle.store_rows.specs.declared.fault.TableFault.{TableFault}
 use Rattle.store_rows.proofs.BankTables.{HasBankTables-prop}
 use Rattle.bank_transactions.specs.{Doing.SparesTheirs, Undone.IsUndone, Undone.UndoesFaults}

@@ -9,7 +9,6 @@ ghost use Rattle.bank_transactions.specs.Memory.{Remembers};
 ghost use Rattle.bank_store.specs.believed.FileTables.{HasFileTables};
 ghost use Rattle.message_records.specs.believed.Spelling.{reply_spelling};
 ghost use Rattle.posting_rules.specs.Branches.{IsNextBranch, IsLineAbove};
-ghost use Rattle.posting_rules.specs.Closings.{closing_after};
 ghost use Rattle.posting_rules.specs.believed.AnyTables.{OpensByTables};
 ghost use Rattle.posting_rules.specs.believed.Commands.{Close, Command, Open, Post, opened_with};
 ghost use Rattle.posting_rules.specs.believed.Counter.{StandsAt, opening_after};
@@ -165,15 +164,19 @@ impl<S: Alter> Bank<S> {
 }
 
 impl<S: Alter> Bank<S> {
-    ghost use Rattle.std.specs.Prelude.{◌++◌, filter, is_some, map, MatchResult};
+    ghost use Rattle.std.specs.Prelude.{◌++◌, filter, if◌then◌else◌, is_some, map, MatchResult};
     ghost use Rattle.sqlite.specs.State.{HasCleanDisk};
     ghost use Rattle.sql_meanings.specs.StatementAnswers.{IsStoreError};
     ghost use Rattle.walked_rows.specs.StepOutcomes.{BreaksFirst};
     ghost use Rattle.walked_rows.specs.Rising.{RisesFrom};
     ghost use Rattle.walked_rows.specs.Rows.{items_after, items_from};
     ghost use Rattle.bank_store.specs.believed.BankSparing.{SparesOtherTables};
+    ghost use Rattle.posting_rules.specs.believed.Closings.{sealed};
+    ghost use Rattle.posting_rules.specs.declared.closed_numbers.Closing.TheVariants.{Already, Closed};
+    ghost use Rattle.bank_transactions.specs.believed.Answered.{KeepsSeal, SealsAll};
     ghost use Rattle.bank_store.specs.believed.Down.{AnswersBy, IsBankCall};
-    ghost use Rattle.bank_store.specs.believed.Seen.{connection_of};
+    ghost use Rattle.bank_store.specs.believed.NoneOrAll.{OnAnyRows, RefusesSeal};
+    ghost use Rattle.bank_store.specs.believed.Seen.{connection_of, database_of};
     ghost use Rattle.bank_store.specs.Seen.{alloc_of};
     ghost use Rattle.bank_store.specs.Walks.{IsStill, IsUntouchedIfOpen};
 
@@ -195,14 +198,20 @@ impl<S: Alter> Bank<S> {
     /// or `Already` where they were sealed. See [`Bank`] for what holds after each fault.
     pub fn seal(&mut self) -> Result<Closing, Fault>
         ensures answer { AnswersBy S.Store self.old self.new result
-            (λ log closing. closing ≡ closing_after log 0 0) }
+            (λ log closing. closing ≡ if sealed log then Already else Closed) }
         ensures call { IsBankCall S.Store self.old self.new (Close 0 0 ∷ []) result }
         ensures frugal { result ≢ Err fault.Memory }
+        // Whatever rows the file holds: the row of the seal is written where there is none, and nothing else; a crash
+        // leaves it or nothing.
+        ensures stored { OnAnyRows S.Store self.old self.new (SealsAll (database_of S.Store self.old)
+            (database_of S.Store self.new)) (KeepsSeal (database_of S.Store self.old)) result }
+        ensures own { IfErr result (RefusesSeal S.Store self.old self.new) }
         ensures spares { SparesOtherTables S.Store self.old self.new }
     {
         if self.is_down() {
             return Err(Fault::Down);
         }
+        // A posting that was answered may have noted that there is no seal.
         self.memory.forget();
         match seal(&mut self.conn) {
             Ok(closing) => Ok(closing),

@@ -4,15 +4,17 @@ use Rattle.sqlite.specs.State.{Survives}
 use Rattle.sqlite.specs.Tree.{Trees}
 use Rattle.message_records.specs.believed.{Reading.request_of, Records.RequestFields}
 use Rattle.posting_rules.specs.believed.AnyTables.{AnswersByTables, IsReadyToOpen}
-use Rattle.posting_rules.specs.believed.Changes.{replies_past_all, tables_opened, tables_past_all}
+use Rattle.posting_rules.specs.believed.Changes.{replies_past_all, tables_closed, tables_opened, tables_past_all}
 use Rattle.posting_rules.specs.believed.Commands.{Command, Terms}
 use Rattle.posting_rules.specs.believed.Counter.{Seen, LeavesOnly, StandsAt}
+use Rattle.posting_rules.specs.believed.Damage.{IsUndamaged}
 use Rattle.posting_rules.specs.believed.Runs.{followed_by}
 use Rattle.posting_rules.specs.believed.Tables.{Tables, AreTablesOf}
 use Rattle.posting_rules.specs.declared.fault.Fault.{Fault}
+use Rattle.bank_transactions.specs.believed.Additions.{AddsSeal}
 use Rattle.bank_transactions.specs.believed.Batches.{DecidesNone, HasRoomFor}
 use Rattle.sqlite_trees.specs.declared.store.Store.{Ghosts}
-use Rattle.bank_store.specs.believed.Down.{BreaksOpening, BreaksRule, OfDamage}
+use Rattle.bank_store.specs.believed.Down.{BreaksOpening, BreaksRule, OfDamage, WasBrokenOrMet}
 use Rattle.bank_store.specs.believed.Seen.{bank_seen, database_of, file_of}
 use Rattle.bank_store.specs.declared.bank.Bank.{Bank}
 
@@ -49,6 +51,11 @@ pub record RefusesOpening {S : Type 0} (g : Ghosts S) (branch : ℕ) (terms : Te
   pub damage : OfDamage fault (BreaksOpening g branch terms old new)
   pub left : (t : Tables) → (bank_seen g old).tables t → IsReadyToOpen branch terms t
       → LeavesEither g old new t (tables_opened t branch terms)
+
+-- so of a seal, on undamaged tables
+pub record RefusesSeal {S : Type 0} (g : Ghosts S) (old new : Bank S g) (fault : Fault) : Type 0 where
+  pub damage : OfDamage fault (WasBrokenOrMet g AddsSeal old new)
+  pub left : (t : Tables) → (bank_seen g old).tables t → IsUndamaged t → LeavesEither g old new t (tables_closed t 0 0)
 
 -- on these tables, of a log or not, an answered call left what the records leave of them, and everything that a crash
 -- may leave has that alone; the replies are those to the records

@@ -1,14 +1,12 @@
 -- What the entries after a number come to.
-use Rattle.std.proofs.Common.{◌≡◌, ◌<◌, ◌∙◌, [], ℕ, None, Err, false, refl, sym, subst, arith}
+use Rattle.std.proofs.Common.{◌≡◌, ◌<◌, ◌∙◌, [], ℕ, None, Err, false, refl, sym, arith}
 use Rattle.std.proofs.lemmas.Result.{err_from_is_err_and}
 use Rattle.std.specs.Prelude.{nat_le}
 use Rattle.std.proofs.lemmas.Bool.Decides.{nat_tests}
-use Rattle.sqlite.specs.Effect.{Database}
 use Rattle.walked_rows.specs.KeptRows.{holds_kept}
 use Rattle.bank_store.specs.believed.Seen.{database_of}
 use Rattle.bank_store.proofs.LogRows.{has_kept, kept_of}
 use Rattle.posting_rules.proofs.{Calls.stays, ChangesByKey.sound_tables}
-use Rattle.store_rows.specs.believed.View.{Shows}
 use Rattle.bank_store.proofs.AsFound.{idle_reads, reads_done, reads_down}
 use Rattle.bank_store.proofs.OtherTables.{spares_done, spares_down, spares_untouched}
 use Rattle.bank_store.proofs.Refusing.{answered_call, committed_call, consult_refused, of_memory, is_up, refused_call}

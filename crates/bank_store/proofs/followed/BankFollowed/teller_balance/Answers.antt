@@ -1,8 +1,6 @@
 -- What a teller's balance comes to.
-use Rattle.std.proofs.Common.{[], ◌∙◌, Err, ap, subst, sym}
+use Rattle.std.proofs.Common.{[], ◌∙◌, Err, ap, sym}
 use Rattle.std.specs.{Option.option_map}
-use Rattle.sqlite.specs.Effect.{Database}
-use Rattle.store_rows.specs.believed.View.{Shows}
 use Rattle.posting_rules.proofs.{Calls.stays, ChangesByKey.sound_tables}
 use Rattle.bank_store.specs.Tills.{own_balance}
 use Rattle.posting_rules.specs.declared.fault.Fault.TheVariants.{Down}
