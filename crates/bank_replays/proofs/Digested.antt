@@ -6,9 +6,9 @@ use Rattle.posting_rules.specs.declared.fault.{Fault.Fault, Rule.Rule}
 use Rattle.posting_rules.specs.declared.fault.Fault.TheVariants.{Damaged, Down, Memory, Store}
 use Rattle.sqlite.specs.Effect.{Database}
 use Rattle.posting_rules.specs.believed.{Commands.Command, Tables.AreTablesOf, Tables.Tables}
-use Rattle.store_rows.specs.believed.View.{Shows, branch_entry, floor_entry}
+use Rattle.store_rows.specs.believed.View.{Shows, branch_entry, closing_entry, floor_entry}
 use Rattle.walked_rows.specs.KeptRows.{KeptItem}
-use Rattle.walked_rows.proofs.Shown.{has_branches, has_floors}
+use Rattle.walked_rows.proofs.Shown.{has_branches, has_closings, has_floors}
 use Rattle.bank_replays.specs.Digests.{DigestsFirst, DigestsRows, IsDigestIn, IsDigestOf}
 use Rattle.posting_core.specs.believed.LogEntries.{AnsweredRequest}
 use Rattle.bank_store.specs.KeptEntries.{answered_in}
@@ -36,7 +36,7 @@ module _ (count : ℕ) (all : List KeptItem) (requests : List AnsweredRequest) (
   )
   digests_log None it = omega (arith, it, count_same)
 
--- all of them are, and the plan is that of the tables
+-- all of them are, and the plan and the closed numbers are those of the tables
 module _ (db : Database) (log : List Command) (t : Tables) (in_file : Shows db t) (shows : AreTablesOf t log) where
   pub agrees_log : (result : Result Replay Fault) → OnAgrees result (AreDigestsIn db) → OnAgrees result (AreDigestsOf log t)
   agrees_log (Ok (Agrees a)) are = record {
@@ -44,6 +44,7 @@ module _ (db : Database) (log : List Command) (t : Tables) (in_file : Shows db t
         (are.requests (kept_of db t log in_file shows) (has_kept db t log in_file shows)).0;
     plan = are.plan (map floor_entry t.floors) (map branch_entry t.branches) (has_floors db t in_file)
         (has_branches db t in_file);
+    closings = are.closings (map closing_entry t.closings) (has_closings db t in_file);
   }
   agrees_log (Ok (Differs d)) are = tt
   agrees_log (Err fault) are = tt

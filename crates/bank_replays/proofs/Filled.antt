@@ -246,7 +246,13 @@ module _ {S W : Type 0} {g : Ghosts S} (plan : ℕ → Option Terms) (is : IsPla
       }
     where
       within : (b : ℕ) → 1 ≤ b → b ≤ LAST_BRANCH → (leb 1 b && leb b LAST_BRANCH) ≡ false → ⊥
-      within b low most f = grind (arith, low, most, f)
+      within b low most f = elim (cases_Bool (leb 1 b)) [
+        | inl t ↦ elim (cases_Bool (leb b LAST_BRANCH)) [
+          | inl u ↦ let bad : true ≡ false = rw (t, u) at f in cc
+          | inr v ↦ let high = leb-false b LAST_BRANCH v in omega (arith, most, high)
+        ]
+        | inr z ↦ let under = leb-false 1 b z in omega (arith, low, under)
+      ]
 
       none_there : {b : ℕ} (o : Option Terms) → IfSome o (λ terms. IsCommand (Open b terms))
           → ((1 ≤ b) × (b ≤ LAST_BRANCH) → ⊥) → o ≡ None

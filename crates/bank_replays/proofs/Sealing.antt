@@ -1,6 +1,7 @@
 -- What a second bank shows once it is sealed, where the rows of a file have the seal.
 use Rattle.std.proofs.Common.{◌≡◌, ◌++◌, ℕ, pos, Bool, true, false, List, [], ◌∷◌, map, Less, int_cmp}
-use Rattle.std.proofs.Common.{refl}
+use Rattle.std.proofs.Common.{refl, sym, ap, ◌∙◌}
+use Rattle.std.proofs.lemmas.List.{map-append}
 use Rattle.std.specs.Prelude.{◌||◌, if◌then◌else◌}
 use Rattle.posting_rules.specs.believed.Closings.{closings}
 use Rattle.posting_rules.specs.believed.Commands.{Close, Command, opened}
@@ -8,6 +9,11 @@ use Rattle.posting_rules.specs.believed.Entries.{decided}
 use Rattle.posting_rules.specs.declared.rows.ClosingRow.{ClosingRow}
 use Rattle.sql_meanings.specs.believed.Entries.{Entry, Rise}
 use Rattle.store_rows.specs.believed.View.{HasSealAlone, closing_entry}
+use Rattle.walked_rows.specs.StoredBeside.{closing_entry as stored_entry}
+use Rattle.walked_rows.specs.declared.closings.StoredClosing.{StoredClosing}
+use Rattle.bank_replays.specs.{ClosingDigests.closing_line, ClosingDigests.closing_lines}
+use Rattle.report_contents.specs.Lines.{text_of}
+use Rattle.report_contents.proofs.Joined.{text_of-snoc}
 use Rattle.bank_replays.specs.Sealing.{is_seal_row, sealed_by, sealed_in}
 
 -- one row more
@@ -15,6 +21,14 @@ pub sealed_more : (before : Bool) (rows : List Entry) (row : Entry)
     → sealed_in before (rows ++ row ∷ []) ≡ (sealed_in before rows || is_seal_row row)
 sealed_more before [] row = refl
 sealed_more before (r ∷ rows) row = sealed_more (before || is_seal_row r) rows row
+
+pub closing_more : (rows : List StoredClosing) (row : StoredClosing)
+    → closing_lines (map stored_entry rows) ++ closing_line (stored_entry row)
+    ≡ closing_lines (map stored_entry (rows ++ row ∷ []))
+closing_more rows row =
+    sym (text_of-snoc (map closing_line (map stored_entry rows)) (closing_line (stored_entry row)))
+    ∙ ap text_of (sym (map-append closing_line (map stored_entry rows) (stored_entry row ∷ [])))
+    ∙ ap closing_lines (sym (map-append stored_entry rows (row ∷ [])))
 
 decides_if : (b : Bool) (log : List Command) → decided (if b then Close 0 0 ∷ log else log) ≡ decided log
 decides_if false log = refl

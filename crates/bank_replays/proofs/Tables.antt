@@ -1,5 +1,5 @@
 -- Two files with the same rows show the same tables.
-use Rattle.std.proofs.Common.{arith, subst}
+use Rattle.std.proofs.Common.{List, arith, subst}
 use Rattle.sqlite.specs.{Effect.Database, State.State}
 use Rattle.posting_rules.specs.{believed.Commands.Command, believed.Counter.ShowsLog, believed.Tables.Tables}
 use Rattle.store_rows.specs.believed.View.{HasSealAlone, Shows}

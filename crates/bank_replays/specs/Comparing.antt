@@ -4,6 +4,8 @@ use Rattle.sqlite.specs.Effect.{Database}
 use Rattle.sqlite.specs.State.{HasCleanDisk}
 use Rattle.sqlite_trees.specs.declared.store.Store.{Ghosts}
 use Rattle.posting_rules.specs.declared.fault.Fault.{Fault}
+use Rattle.store_rows.specs.believed.BankTables.{account, branch, floor, teller}
+use Rattle.walked_rows.specs.Rows.{HasStoredRows}
 use Rattle.bank_store.specs.believed.Seen.{database_of, file_of}
 use Rattle.bank_store.specs.declared.bank.Bank.{Bank}
 use Rattle.bank_replays.specs.Damaged.{TellsWhy}
@@ -54,3 +56,9 @@ Both One Other db due = One db due × Other db due
 abbrev pub Either : (Same : Database → Database → Type 0) → (First Second : Database → Database → Difference → Type 0)
     → Database → Database → Difference → Type 0
 Either Same First Second db due d = First db due d ⊎ (Same db due × Second db due d)
+
+-- branches, floors, accounts and tellers have the same rows in both
+abbrev pub SameStanding : Database → Database → Type 0
+SameStanding =
+    Both (Both (SameRows (λ db rows. HasStoredRows db branch rows)) (SameRows (λ db rows. HasStoredRows db floor rows)))
+    (Both (SameRows (λ db rows. HasStoredRows db account rows)) (SameRows (λ db rows. HasStoredRows db teller rows)))

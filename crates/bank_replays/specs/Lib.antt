@@ -14,6 +14,7 @@ pub mod Damaged
 pub mod Digests
 pub mod Writing
 pub mod PlanDigests
+pub mod ClosingDigests
 pub mod Replays
 pub mod Logs
 pub mod Refusing

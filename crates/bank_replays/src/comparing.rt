@@ -1,10 +1,10 @@
 //! The rows of two banks, side by side.
-ghost use Rattle.std.specs.Prelude.{◌≡◌, List, None, Some, Ok, IfErr};
+ghost use Rattle.std.specs.Prelude.{◌≡◌, List, None, Some, Ok, IfErr, ⊤};
 ghost use Rattle.sqlite.specs.State.{HasCleanDisk};
 ghost use Rattle.bank_store.specs.Failures.{HasFailedToRead};
 ghost use Rattle.bank_store.specs.Walking.{HasToldFault, items_to_come, lent, lent_state, loan_of};
 ghost use Rattle.bank_store.specs.believed.Seen.{connection_of};
-ghost use Rattle.bank_replays.specs.Comparing.{Both, Compares, DiffersAmong, DiffersIn, Either, SameRows};
+ghost use Rattle.bank_replays.specs.Comparing.{Both, Compares, DiffersAmong, DiffersIn, Either, SameRows, SameStanding};
 ghost use Rattle.bank_replays.specs.Damaged.{Stops};
 ghost use Rattle.bank_replays.specs.Differences.{DiffersBetween};
 ghost use Rattle.bank_replays.specs.FileTables.{SameTables};
@@ -116,6 +116,27 @@ fn compare_four<S: Alter, T: Alter, A: Compared, B: Compared, C: Compared, D: Co
         Ok(Some(difference)) => Ok(Some(difference)),
         Err(fault) => Err(fault),
     }
+}
+
+/// Compares the branches, floors, accounts and tellers of two banks, up to the first difference.
+///
+/// # Errors
+///
+/// None of them brings a bank down, and none changes a file. A fault of the second bank is told as [`Fault::Memory`].
+///
+/// | Error | What happened |
+/// |---|---|
+/// | [`Fault::Memory`] | the second bank refused a read |
+/// | [`Fault::Store`] | a read of the first failed: the disk did, or memory or steps were refused |
+/// | [`Fault::Down`] | the first bank was down, and nothing was read |
+/// | [`Fault::Damaged`] | a row of the first can't be read: a number of it is out of its column's range |
+pub fn compare_standing<S: Alter, T: Alter>(
+    bank: &mut Bank<S>,
+    due: &mut Bank<T>,
+) -> Result<Option<Difference>, Fault>
+    ensures { Compares S.Store T.Store bank.old bank.new due.old due.new SameStanding (λ db other d. ⊤) result }
+{
+    compare_four::<S, T, StoredBranch, StoredFloor, StoredAccount, StoredTeller>(bank, due)
 }
 
 // Compares the rows of five kinds.

@@ -26,12 +26,14 @@ pub enum Difference {
     Closing(Sides<StoredClosing>),
 }
 
-/// What can be written down of a bank that agrees: the digest of its requests, and SHA-256 of the plan of its branches
-/// ([`write_plan`](crate::write_plan)).
+/// What can be written down of a bank that agrees: the digest of its requests, SHA-256 of the plan of its branches
+/// ([`write_plan`](crate::write_plan)), and that of its closed numbers: a line `LAST,FIRST` for each row of `closing`, by
+/// their keys.
 #[derive(Clone, Copy)]
 pub struct Agreed {
     pub digest: Digest,
     pub plan: [u8; 32],
+    pub closings: [u8; 32],
 }
 
 /// What a replay says of a bank.

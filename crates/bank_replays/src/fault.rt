@@ -44,7 +44,7 @@ impl From<WriteFault> for ReplayFault {
 }
 
 /// The fault of a bank that is read, where nothing is written.
-pub(crate) fn bank_fault(fault: ReplayFault) -> Fault
+pub fn bank_fault(fault: ReplayFault) -> Fault
     ensures { result ≡ fault_in fault }
 {
     match fault {

@@ -25,14 +25,15 @@
 //! whatever order branches were opened. So a file that shows a log never differs.
 //!
 //! [`Replay::Agrees`] has the [`Digest`] of the requests, in which a changed moment, a changed reference, a cut-off
-//! end and a rewritten past show, none of which a replay can see by itself; and that of the plan, in which a branch, its
-//! accounts and its floor show. [`digest`] gives that of the first requests of any file, to be compared with one that
+//! end and a rewritten past show, none of which a replay can see by itself; that of the plan, in which a branch, its
+//! accounts and its floor show; and that of the closed numbers, in which a seal shows that was taken off. [`digest`] gives that of the first requests of any file, to be compared with one that
 //! was written down. [`export`] writes the kept requests as the records that they came as, [`write_log`] as entries of a
 //! log with their replies and moments, and [`write_plan`] the open branches as a plan, so that another bank can be given
 //! them. A [`Difference`] is shown as a line, as `account 2 stands 0 due -100`.
 #![tactic(auto)]
 
 mod chain;
+mod closing_digests;
 mod compared;
 mod comparing;
 mod difference;
@@ -54,12 +55,14 @@ mod watch;
 mod writes;
 
 pub use chain::Digest;
+pub use comparing::compare_standing;
 pub use difference::{Agreed, Difference, Replay, Sides};
 pub use digests::digest;
 pub use exports::export;
-pub use fault::ReplayFault;
+pub use fault::{ReplayFault, bank_fault};
 pub use laws::given_back_law;
 pub use logs::{count_requests, write_log};
 pub use plan::write_plan;
 pub use replays::replay;
+pub use visitors::{SmallRow, Visitor, visit_all};
 pub use watch::{Unwatched, Watch};

@@ -14,6 +14,7 @@ ghost use Rattle.bank_replays.specs.Refilling.{IsNeverInDoubt, IsUnplanned};
 ghost use Rattle.bank_replays.specs.Replayed.{ShowsFilled, ShowsReplay};
 ghost use Rattle.bank_replays.specs.Replays.{AreDigestsIn, IsOfNoLog, OnAgrees, OnDiffers, Replays};
 
+use crate::closing_digests::digest_closings;
 use crate::comparing::compare_all;
 use crate::difference::{Agreed, Replay};
 use crate::digests::digest_all;
@@ -68,14 +69,19 @@ fn refilled<S: Alter, T: Alter + Drop, W: Watch + Drop>(
 }
 
 // The digests of a bank.
-fn digest_both<S: Alter>(bank: &mut Bank<S>) -> Result<Agreed, Fault>
+fn digest_each<S: Alter>(bank: &mut Bank<S>) -> Result<Agreed, Fault>
     ensures bank { ReadsBank S.Store bank.old bank.new result }
     ensures rows { HasCleanDisk (file_of bank.new) → IfOk result (AreDigestsIn (database_of S.Store bank.old)) }
     ensures why { TellsWhy S.Store (λ fault. fault) bank.old bank.new result }
 {
     let digest = digest_all(bank)?;
     let plan = digest_plan(bank)?;
-    Ok(Agreed { digest, plan })
+    let closings = digest_closings(bank)?;
+    Ok(Agreed {
+        digest,
+        plan,
+        closings,
+    })
 }
 
 // A new bank in a store that holds nothing.
@@ -118,7 +124,7 @@ fn replay_over<S: Alter, T: Alter + Drop, W: Watch + Drop>(
     if let Some(difference) = compare_all(bank, &mut due)? {
         return Ok(Replay::Differs(difference));
     }
-    Ok(Replay::Agrees(digest_both(bank)?))
+    Ok(Replay::Agrees(digest_each(bank)?))
 }
 
 // How the second bank is held. Its files lie in memory, so that its log is copied back early.
@@ -145,7 +151,7 @@ fn memory_pages(alloc: Global) -> Result<Connection<FileStore<Ram>>, Fault>
 }
 
 /// Replays a bank: a second bank is made in memory and given what
-/// the file's rows say, and all tables of the two are compared. Where they agree, the requests and the plan are digested. `watch`
+/// the file's rows say, and all tables of the two are compared. Where they agree, the requests, the plan and the closed numbers are digested. `watch`
 /// is told how far it is.
 ///
 /// # Errors

@@ -21,12 +21,12 @@ use walked_rows::{
 };
 
 /// A row that a walk has room for.
-pub(crate) trait SmallRow: WalkedRow {
+pub trait SmallRow: WalkedRow {
     ghost few_bytes: { TakesFewBytes Self.row };
 }
 
 /// What is done with each row of a kind, one after another, and what comes of it in a target.
-pub(crate) trait Visitor<R: WalkedRow, V> {
+pub trait Visitor<R: WalkedRow, V> {
     ghost use Rattle.std.specs.Prelude.{Option, ⊤};
     ghost use Rattle.bank_replays.specs.declared.fault.ReplayFault.{ReplayFault};
     ghost use Rattle.posting_rules.specs.declared.fault.Fault.{Fault};
@@ -108,7 +108,7 @@ pub(crate) fn visit_first<S: Alter, R: SmallRow, V, P: Visitor<R, V>>(
 }
 
 /// Visits all rows of a kind that a bank has. A fault leaves the bank as it was.
-pub(crate) fn visit_all<S: Alter, R: SmallRow, V, P: Visitor<R, V>>(
+pub fn visit_all<S: Alter, R: SmallRow, V, P: Visitor<R, V>>(
     bank: &mut Bank<S>,
     visitor: &P,
     target: &mut V,

@@ -7,7 +7,7 @@ use Rattle.bank_replays.proofs.comparing.compare_all.Goals as goal
 pub returns-in-Ok-None : goal.returns-in-Ok-None
 returns-in-Ok-None g c =
     compared_as all_same (λ db other d it f due has has_due. any_differs db other d f due has has_due it)
-    (compared_both (rw c.in-Ok-None.field-0-is at c.in-Ok-None.ensures) c.compare_five-in-Ok-None.ensures)
+    (compared_both (rw c.in-Ok-None.field-0-is at c.in-Ok-None.ensures) c.compare_five.ensures)
 
 pub returns-in-Ok-Some : goal.returns-in-Ok-Some
 returns-in-Ok-Some g c =

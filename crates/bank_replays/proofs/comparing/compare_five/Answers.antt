@@ -5,7 +5,7 @@ use Rattle.bank_replays.proofs.comparing.compare_five.Goals as goal
 
 pub returns-in-Ok-None : goal.returns-in-Ok-None
 returns-in-Ok-None g c =
-    compared_both (rw c.in-Ok-None.field-0-is at c.in-Ok-None.ensures) c.compare-in-Ok-None.ensures
+    compared_both (rw c.in-Ok-None.field-0-is at c.in-Ok-None.ensures) c.compare.ensures
 
 pub returns-in-Ok-Some : goal.returns-in-Ok-Some
 returns-in-Ok-Some g c =

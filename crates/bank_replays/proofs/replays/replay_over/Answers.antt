@@ -92,19 +92,19 @@ returns-in-Some g c =
           (tables_same log it.0 same db due shown.tables it.1.tables shown.are it.1.are shown.shows it.1.shows));
     }
 
-pub returns-in_err-digest_both : goal.returns-in_err-digest_both
-returns-in_err-digest_both g c =
-    let fault = c.in_err-digest_both.field-0.0 in
-    let is = err_from_is_err_and c.from_residual-in_err-digest_both.result
-    c.from_residual-in_err-digest_both.ensures.1 in
-    let same : c.from_residual-in_err-digest_both.result ≡ Err fault = is.1 ∙ ap Err is.2 in
+pub returns-in_err-digest_each : goal.returns-in_err-digest_each
+returns-in_err-digest_each g c =
+    let fault = c.in_err-digest_each.field-0.0 in
+    let is = err_from_is_err_and c.from_residual-in_err-digest_each.result
+    c.from_residual-in_err-digest_each.ensures.1 in
+    let same : c.from_residual-in_err-digest_each.result ≡ Err fault = is.1 ∙ ap Err is.2 in
     record {
       bank = rw same (read_fails fault
           (read_then (read_then c.in_ok-due.ensures.bank c.in_ok-difference.ensures.bank)
-          c.in_err-digest_both.ensures.bank));
+          c.in_err-digest_each.ensures.bank));
       why = rw same (why_err fault fault refl
-          (why_then (read_then c.in_ok-due.ensures.bank c.in_ok-difference.ensures.bank) c.in_err-digest_both.ensures.bank
-          c.in_err-digest_both.ensures.why));
+          (why_then (read_then c.in_ok-due.ensures.bank c.in_ok-difference.ensures.bank) c.in_err-digest_each.ensures.bank
+          c.in_err-digest_each.ensures.why));
       agrees = λ clean f has. rw same tt;
       digest = λ clean. rw same tt;
       differs = λ clean. rw same tt;
@@ -115,7 +115,7 @@ pub returns : goal.returns
 returns g c =
     let filled = c.in_ok-due.ensures in
     let compared = c.in_ok-difference.ensures in
-    let digested = c.in_ok-digest_both.ensures in
+    let digested = c.in_ok-digest_each.ensures in
     let both = read_then filled.bank compared.bank in
     let sure = c.requires.clean.clean in
     record {
@@ -130,7 +130,7 @@ returns g c =
           let it = filled.replays earlier c.requires.clean (c.in_ok-empty.ensures.shows c.requires.clean) f has in
           (it.0, same_log (file_of c.args.bank.now) due _ _ f has same it.0 it.1);
       digest = λ clean.
-          subst (λ (d : Database). AreDigestsIn d c.in_ok-digest_both.field-0) (both.still (clean_before digested.bank clean)).0 (digested.rows clean);
+          subst (λ (d : Database). AreDigestsIn d c.in_ok-digest_each.field-0) (both.still (clean_before digested.bank clean)).0 (digested.rows clean);
       differs = λ clean. tt;
       same = λ clean. tt;
     }

@@ -9,7 +9,7 @@ use Rattle.posting_rules.specs.declared.fault.Fault.TheVariants.{Memory}
 use Rattle.sql_meanings.specs.believed.Entries.{Entry}
 use Rattle.bank_store.specs.{believed.Seen.bank_seen, declared.bank.Bank.Bank}
 use Rattle.bank_replays.specs.{Damaged.TellsWhy, Sealing.sealed_by, Sealing.sealed_in}
-use Rattle.bank_replays.proofs.{Read.read_any, Whys.why_err, Whys.why_memory, Whys.why_none}
+use Rattle.bank_replays.proofs.{Read.read_any, Read.read_fails, Whys.why_err, Whys.why_memory, Whys.why_none}
 use Rattle.bank_replays.proofs.Exits.{fails_by}
 use Rattle.bank_replays.proofs.seals.seal_as.Goals as goal
 
@@ -30,7 +30,7 @@ returns-in_err-sealed g c =
     let fault = c.in_err-sealed.field-0.0 in
     let same : c.from_residual.result ≡ Err fault = fails_by c.from_residual.ensures.1 in
     record {
-      bank = rw same c.in_err-sealed.ensures.bank;
+      bank = rw same (read_fails fault c.in_err-sealed.ensures.bank);
       seals = λ clean sure rows has log shows. rw same tt;
       why = rw same (why_err fault fault refl c.in_err-sealed.ensures.why);
     }
