@@ -21,7 +21,6 @@ use Rattle.posting_batch.specs.Slots.{account_slot_key, branch_slot_key, floor_s
 use Rattle.posting_batch.specs.Slots.{empty_account, empty_branch, empty_floor, empty_request, empty_teller, is_for}
 use Rattle.posting_batch.specs.Slots.{slots_kept, with_account_changed, with_branch_changed, with_teller_changed}
 use Rattle.posting_batch.proofs.Orders.{all-placed}
-use Rattle.posting_rules.specs.declared.rows.ClosingRow.{ClosingRow}
 
 abbrev branch_blank : BranchSlot → BranchSlot
 branch_blank s = empty_branch s.branch
@@ -92,7 +91,6 @@ record AreBare (o : Overlay) : Type 0 where
   pub tellers : AllByRecursion (IsBare teller_blank) o.tellers
   pub accounts : AllByRecursion (IsBare account_blank) o.accounts
   pub kept : AllByRecursion (IsBare request_blank) o.kept
-  pub runs : o.runs ≡ []
   pub undecided : o.decided ≡ 0
   pub history : o.history ≡ []
   pub requests : o.requests ≡ []
@@ -117,7 +115,6 @@ bare_with o (Ok r) bare =
           (empty_account r.account) (IsBare account_blank) o.accounts refl bare.accounts;
       kept = all-placed request_below request_same (empty_request r.teller r.number) (IsBare request_blank) o.kept
           refl bare.kept;
-      runs = bare.runs;
       undecided = bare.undecided;
       history = bare.history;
       requests = bare.requests;
@@ -135,7 +132,6 @@ bare_all reads = bare_on no_slots reads (record {
   tellers = tt;
   accounts = tt;
   kept = tt;
-  runs = refl;
   undecided = refl;
   history = refl;
   requests = refl;
@@ -150,15 +146,14 @@ map_bare {S} blank (s ∷ slots) bare =
 
 -- overlays with the same fields
 same_fields : (b b' : List BranchSlot) (f f' : List FloorSlot) (e e' : List TellerSlot) (a a' : List AccountSlot)
-    (k k' : List RequestSlot) (c c' : List ClosingRow) (d d' : ℕ) (h h' : List HistoryRow) (q q' : List RequestRow) (r r' : List ReferenceRow)
-    → b ≡ b' → f ≡ f' → e ≡ e' → a ≡ a' → k ≡ k' → c ≡ c' → d ≡ d' → h ≡ h' → q ≡ q' → r ≡ r'
+    (k k' : List RequestSlot) (d d' : ℕ) (h h' : List HistoryRow) (q q' : List RequestRow) (r r' : List ReferenceRow)
+    → b ≡ b' → f ≡ f' → e ≡ e' → a ≡ a' → k ≡ k' → d ≡ d' → h ≡ h' → q ≡ q' → r ≡ r'
     → ◌≡◌ {A = Overlay} (record {
       branches = b;
       floors = f;
       tellers = e;
       accounts = a;
       kept = k;
-      runs = c;
       decided = d;
       history = h;
       requests = q;
@@ -169,14 +164,13 @@ same_fields : (b b' : List BranchSlot) (f f' : List FloorSlot) (e e' : List Tell
       tellers = e';
       accounts = a';
       kept = k';
-      runs = c';
       decided = d';
       history = h';
       requests = q';
       references = r';
     })
-same_fields b b' f f' e e' a a' k k' c c' d d' h h' q q' r r' eb ef ee ea ek ec ed eh eq er =
-    rw (eb, ef, ee, ea, ek, ec, ed, eh, eq, er) refl
+same_fields b b' f f' e e' a a' k k' d d' h h' q q' r r' eb ef ee ea ek ed eh eq er =
+    rw (eb, ef, ee, ea, ek, ed, eh, eq, er) refl
 
 -- so that they are as they were made
 pub blank_made : (reads : List (Result RequestFields Bad))
@@ -184,10 +178,10 @@ pub blank_made : (reads : List (Result RequestFields Bad))
 blank_made reads =
     let o = covering_all no_slots reads in
     let bare = bare_all reads in
-    same_fields _ _ _ _ _ _ _ _ _ _ _ _ _ _ _ _ _ _ _ _
+    same_fields _ _ _ _ _ _ _ _ _ _ _ _ _ _ _ _ _ _
     (map_bare branch_blank o.branches bare.branches) (map_bare floor_blank o.floors bare.floors)
     (map_bare teller_blank o.tellers bare.tellers) (map_bare account_blank o.accounts bare.accounts)
-    (map_bare request_blank o.kept bare.kept) (sym bare.runs) (sym bare.undecided) (sym bare.history) (sym bare.requests)
+    (map_bare request_blank o.kept bare.kept) (sym bare.undecided) (sym bare.history) (sym bare.requests)
     (sym bare.references)
 
 bare_unkept : (slots : List RequestSlot) → AllByRecursion (IsBare request_blank) slots

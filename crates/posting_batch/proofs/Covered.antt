@@ -4,6 +4,7 @@ use Rattle.std.proofs.Common.{ap, subst, ◌∙◌, inl, inr}
 use Rattle.std.specs.{Prelude.IsSome, Prelude.IfSome, List.find, List.AllByRecursion, Option.option_map}
 use Rattle.std.proofs.lemmas.Bool.{and_parts, eqb-true}
 use Rattle.message_records.specs.{declared.fault.Bad.Bad, believed.Records.RequestFields}
+use Rattle.posting_rules.specs.believed.Closings.{books_of}
 use Rattle.posting_rules.specs.believed.Numbering.{branch_of_teller, branch_of_account}
 use Rattle.posting_rules.specs.believed.LookUps.{kept_in, account_balance_in, balance_of_teller, floor_in}
 use Rattle.posting_rules.specs.believed.Tables.{Tables, row_at, branch_key, teller_key, account_key}
@@ -135,17 +136,19 @@ filled_at key f P makes (s ∷ slots) n =
       | inr g ↦ rw g (filled_at key f P makes slots n)
     ]
 
-kept_at_key : (t : Tables) (slots : List RequestSlot) (n m : ℕ)
-    → IfSome (find (is_for n m) (map (request_filled t) slots))
-    (λ s. s.kept ≡ kept_in t.requests t.references n m)
-kept_at_key t [] n m = tt
-kept_at_key t (s ∷ slots) n m =
+-- what the slot of a teller and a number is filled with is theirs
+filled_for : {X : Type 0} (t : Tables) (tells : RequestSlot → X) (of : ℕ → ℕ → X)
+    → ((s : RequestSlot) → tells (request_filled t s) ≡ of s.teller s.number)
+    → (slots : List RequestSlot) (n m : ℕ)
+    → IfSome (find (is_for n m) (map (request_filled t) slots)) (λ s. tells s ≡ of n m)
+filled_for t tells of is [] n m = tt
+filled_for t tells of is (s ∷ slots) n m =
     elim (by_test (is_for n m s)) [
       | inl h ↦
           let both = and_parts (eqb s.teller n) (eqb s.number m) h in
-          rw h (ap (λ (j : ℕ). kept_in t.requests t.references j s.number) (eqb-true s.teller n both.0)
-          ∙ ap (λ (j : ℕ). kept_in t.requests t.references n j) (eqb-true s.number m both.1))
-      | inr g ↦ rw g (kept_at_key t slots n m)
+          rw h (is s ∙ ap (λ (j : ℕ). of j s.number) (eqb-true s.teller n both.0)
+          ∙ ap (λ (j : ℕ). of n j) (eqb-true s.number m both.1))
+      | inr g ↦ rw g (filled_for t tells of is slots n m)
     ]
 
 -- an overlay in which nothing is changed leaves rows as they are
@@ -219,8 +222,9 @@ stands t reads =
         accounts = λ n. filled_at account_slot_key (account_filled t)
             (λ k s. s.stored ≡ account_balance_in t k) (λ s. refl) o.accounts n;
         kept = λ n m. subst (λ (u : Tables). IfSome (find (is_for n m) (filled t o).kept)
-            (λ s. s.kept ≡ kept_in u.requests u.references n m)) (sym is) (kept_at_key t o.kept n m);
-        runs = refl;
+            (λ s. s.kept ≡ kept_in u.requests u.references n m)) (sym is)
+            (filled_for t (λ s. s.kept) (kept_in t.requests t.references) (λ s. refl) o.kept n m);
+        books = λ n m. filled_for t (λ s. s.books) (books_of t.closings) (λ s. refl) o.kept n m;
       };
       same = is;
       unchanged = un;

@@ -4,6 +4,7 @@ use Rattle.std.proofs.Common.{sym, ap, subst, ◌∙◌, inl, inr}
 use Rattle.std.specs.Prelude.{◌&&◌, IfSome, IsSome}
 use Rattle.std.specs.{List.find, Option.option_map}
 use Rattle.std.proofs.lemmas.Bool.{and_parts, eqb-true, eq-eqb}
+use Rattle.posting_rules.specs.declared.judgments.Books.{Books}
 use Rattle.posting_rules.specs.declared.rows.{ReferenceRow.ReferenceRow, RequestRow.RequestRow}
 use Rattle.posting_rules.specs.believed.{Changes.row_put, Changes.reference_put, Kept.KeptFields, Kept.kept_with}
 use Rattle.posting_rules.specs.believed.LookUps.{kept_in, kept_of_row, reference_in, text_of_reference}
@@ -141,6 +142,19 @@ with_kept-same n m k a b s = elim (by_test (is_for n m s)) [ inl t ↦ rw t refl
 pub slot_for-kept : (n m : ℕ) (k : KeptFields) (slots : List RequestSlot) (a b : ℕ)
     → find (is_for a b) (slots_kept n m k slots) ≡ option_map (with_kept n m k) (find (is_for a b) slots)
 slot_for-kept n m k slots a b = find-map (is_for a b) (with_kept n m k) (with_kept-same n m k a b) slots
+
+-- what closed books say stays in the slots
+pub books_fit : (n m : ℕ) (k : KeptFields) (slots : List RequestSlot) (a b : ℕ) (x : Books)
+    → IfSome (find (is_for a b) slots) (λ s. s.books ≡ x)
+    → IfSome (find (is_for a b) (slots_kept n m k slots)) (λ s. s.books ≡ x)
+books_fit n m k slots a b x fits =
+    subst (λ (o : Option RequestSlot). IfSome o (λ s. s.books ≡ x)) (sym (slot_for-kept n m k slots a b))
+    (by_slots (find (is_for a b) slots) fits)
+  where
+    by_slots : (o : Option RequestSlot) → IfSome o (λ s. s.books ≡ x)
+        → IfSome (option_map (with_kept n m k) o) (λ s. s.books ≡ x)
+    by_slots None is = tt
+    by_slots (Some s) is = elim (by_test (is_for n m s)) [ inl t ↦ rw t is | inr f ↦ rw f is ]
 
 -- one request more is kept with its reference, in its slot and among the rows, under an ordinal that is free
 pub kept_fits : (slots : List RequestSlot) (rows : List RequestRow) (references : List ReferenceRow)

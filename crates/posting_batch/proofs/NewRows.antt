@@ -1,5 +1,5 @@
 -- The rows that a batch changes are there, and the keys of its new rows are free.
-use Rattle.std.proofs.Common.{◌≡◌, ℕ, ◌+◌, eqb, List, [], ◌∷◌, ◌++◌, map, length, Option, Some, None, Result, Ok, Err}
+use Rattle.std.proofs.Common.{◌≡◌, ℕ, ◌+◌, eqb, List, [], ◌∷◌, ◌++◌, length, Option, Some, None, Result, Ok, Err}
 use Rattle.std.proofs.Common.{refl, suc, sym, ap, subst, ◌∙◌, inl, inr, arith}
 use Rattle.std.specs.{Prelude.ℤ, Prelude.IsSome, Prelude.IfSome, List.AllByRecursion, Option.option_map}
 use Rattle.std.proofs.lemmas.Bool.{eqb-true}

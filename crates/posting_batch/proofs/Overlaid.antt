@@ -1,7 +1,7 @@
 -- Over tables that its slots fit, an overlay tells what the tables with it tell, and a record changes both
 -- alike.
 use Rattle.std.proofs.Common.{◌≡◌, ℕ, ◌+◌, List, [], ◌∷◌, ◌++◌, Option, Some, None, refl, ap, ◌∙◌}
-use Rattle.std.specs.{Prelude.ℤ, Prelude.IsSome, Prelude.IfSome, List.find, Option.option_map}
+use Rattle.std.specs.{Prelude.ℤ, Prelude.IsSome, Prelude.IfSome, List.find, Option.option_map, Option.unwrap_or}
 use Rattle.message_records.specs.believed.Records.{RequestFields}
 use Rattle.posting_rules.specs.declared.{judgments.Found.Found, judgments.Verdict.Verdict, rows.BranchRow.BranchRow}
 use Rattle.posting_rules.specs.declared.{rows.TellerRow.TellerRow, rows.AccountRow.AccountRow}
@@ -24,13 +24,13 @@ use Rattle.posting_batch.specs.declared.slots.{FloorSlot.FloorSlot, RequestSlot.
 use Rattle.posting_batch.specs.Batch.{Covers}
 use Rattle.posting_batch.specs.Judging.{found_over, reference_after, overlay_kept, overlay_posted, overlay_after}
 use Rattle.posting_batch.specs.Overlay.{Overlay, changed_to, each_put, tables_over}
-use Rattle.posting_batch.specs.Slots.{in_slot, slot_balance, kept_in_slots, kept_of_slot, is_for, account_slot_key}
+use Rattle.posting_batch.specs.Slots.{books_in_slots, books_of_slot, in_slot, slot_balance, kept_in_slots, kept_of_slot, is_for, account_slot_key}
 use Rattle.posting_batch.specs.Slots.{account_slot_balance, with_account_changed, teller_slot_key}
 use Rattle.posting_batch.specs.Slots.{teller_slot_balance, with_teller_changed, branch_slot_key, branch_slot_balance}
 use Rattle.posting_batch.specs.Slots.{with_branch_changed, floor_of_slot, floor_slot_key, slot_floor}
 use Rattle.posting_batch.proofs.OverlaidRows.{over-changed, put_same, put_again, balance_is}
 use Rattle.posting_rules.specs.declared.rows.ClosingRow.{ClosingRow}
-use Rattle.posting_rules.specs.declared.judgments.Books.{Books}
+use Rattle.posting_rules.specs.declared.judgments.Books.{Books, TheVariants.Current}
 use Rattle.posting_rules.specs.believed.Closings.{books_of}
 
 -- each slot tells what is in the tables under its key
@@ -47,7 +47,8 @@ pub record Fits (o : Overlay) (t : Tables) : Type 0 where
   pub kept : (n m : ℕ)
       → IfSome (find (is_for n m) o.kept)
       (λ s. s.kept ≡ kept_in (tables_over o t).requests (tables_over o t).references n m)
-  pub runs : o.runs ≡ t.closings
+  -- and what closed books say
+  pub books : (n m : ℕ) → IfSome (find (is_for n m) o.kept) (λ s. s.books ≡ books_of t.closings n m)
 
 account_now : (o : Overlay) (t : Tables) (n : ℕ) → Fits o t → IsSome (row_at account_slot_key o.accounts n)
     → slot_balance account_slot_key account_slot_balance o.accounts n ≡ option_map balance_of_account
@@ -99,6 +100,15 @@ kept_now o t n m fits there = by_slots (find (is_for n m) o.kept) there (fits.ke
     by_slots None there is = absurd cc
     by_slots (Some s) there is = is
 
+books_now : (o : Overlay) (t : Tables) (n m : ℕ) → Fits o t → IsSome (find (is_for n m) o.kept)
+    → books_in_slots o.kept n m ≡ books_of t.closings n m
+books_now o t n m fits there = by_slots (find (is_for n m) o.kept) there (fits.books n m)
+  where
+    by_slots : (at : Option RequestSlot) → IsSome at → IfSome at (λ s. s.books ≡ books_of t.closings n m)
+        → unwrap_or (option_map books_of_slot at) Current ≡ books_of t.closings n m
+    by_slots None there is = absurd cc
+    by_slots (Some s) there is = is
+
 -- all that is looked up for a request whose keys have their slots
 pub found_is : (o : Overlay) (t : Tables) (r : RequestFields) → Fits o t → Covers o r
     → found_over o r ≡ found_in (tables_over o t) r
@@ -110,7 +120,7 @@ found_is o t r fits covers =
     (branch_now o t (branch_of_teller r.teller) fits covers.branch)
     )
     (kept_now o t r.teller r.number fits covers.kept)
-    (ap (λ (runs : List ClosingRow). books_of runs r.teller r.number) fits.runs)
+    (books_now o t r.teller r.number fits covers.kept)
     (account_now o t r.account fits covers.account)
     (floor_now o t (branch_of_account r.account) fits covers.its_floor)
   where

@@ -8,7 +8,8 @@ use Rattle.posting_rules.specs.declared.judgments.Verdict.TheVariants.{Unkept, A
 use Rattle.posting_rules.specs.declared.rows.ReferenceRow.{ReferenceRow}
 use Rattle.posting_rules.specs.believed.{Cases.case_of, Numbering.branch_of_teller}
 use Rattle.posting_rules.specs.believed.Changes.{row_changed, row_put, tables_after, tables_read}
-use Rattle.posting_rules.specs.believed.Entries.{DecidedRequest, refused_entry, posted_entry}
+use Rattle.posting_rules.specs.believed.Closings.{books_of}
+use Rattle.posting_rules.specs.believed.Entries.{DecidedRequest, kept_fields, refused_entry, posted_entry}
 use Rattle.posting_rules.specs.believed.LookUps.{kept_in, account_balance_in, balance_of_teller, found_in}
 use Rattle.posting_rules.specs.believed.Tables.{Tables, row_at, branch_key, teller_key, request_key, request_row_of}
 use Rattle.posting_rules.specs.believed.Tables.{reference_key}
@@ -18,7 +19,7 @@ use Rattle.posting_batch.specs.{Batch.CoversRead, believed.Batch.HasFreeOrdinals
 use Rattle.posting_batch.specs.Judging.{found_over, overlay_kept, overlay_after, overlay_with}
 use Rattle.posting_batch.specs.Slots.{is_for, account_slot_key, with_account_changed, teller_slot_key}
 use Rattle.posting_batch.specs.Slots.{with_teller_changed, branch_slot_key, with_branch_changed}
-use Rattle.posting_batch.proofs.{FreeOrdinals.free_read, KeptSlots.kept_fits}
+use Rattle.posting_batch.proofs.{FreeOrdinals.free_read, KeptSlots.books_fit, KeptSlots.kept_fits}
 use Rattle.posting_batch.proofs.Overlaid.{Fits, found_is, each_put-append, reference_put-append, after_is}
 
 -- ---- the slots go on telling what is in the tables
@@ -80,6 +81,11 @@ more_kept o t e fits free none n m =
     (kept_fits o.kept over.requests over.references row e.request.reference free.request free.reference none
     fits.kept n m))
 
+more_books : (o : Overlay) (t : Tables) (e : DecidedRequest) → Fits o t → (n m : ℕ)
+    → IfSome (find (is_for n m) (overlay_kept o e).kept) (λ s. s.books ≡ books_of t.closings n m)
+more_books o t e fits n m = books_fit e.request.teller e.request.number (kept_fields e) o.kept n m
+    (books_of t.closings n m) (fits.books n m)
+
 -- a verdict on what was looked up leaves slots that tell what is in the tables
 after_fits : (o : Overlay) (t : Tables) (m : ℕ) (r : RequestFields) (v : Verdict) → Fits o t
     → IsFreeNext (tables_over o t) → IsNewIn (found_in (tables_over o t) r) v → Fits (overlay_after o m r v) t
@@ -92,7 +98,7 @@ after_fits o t m r (Refused x) fits free new =
       tellers = fits.tellers;
       accounts = fits.accounts;
       kept = more_kept o t (refused_entry m r x) fits free new;
-      runs = fits.runs;
+      books = more_books o t (refused_entry m r x) fits;
     }
 after_fits o t m r (Posted a te b) fits free new = record {
   branches = λ n. fits_changed branch_slot_key (branch_of_teller r.teller) (with_branch_changed b) (λ s. refl)
@@ -104,7 +110,7 @@ after_fits o t m r (Posted a te b) fits free new = record {
   accounts = λ n. fits_changed account_slot_key r.account (with_account_changed a) (λ s. refl)
       (λ s. s.stored ≡ account_balance_in t n) (λ s h. h) o.accounts n (fits.accounts n);
   kept = more_kept o t (posted_entry m r a) fits free new;
-  runs = fits.runs;
+  books = more_books o t (posted_entry m r a) fits;
 }
 
 -- ---- a record

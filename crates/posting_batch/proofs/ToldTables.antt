@@ -10,6 +10,7 @@ use Rattle.posting_rules.specs.believed.LookUps.{lowest_of, text_of_reference}
 use Rattle.posting_rules.specs.believed.Tables.{Tables, row_at, account_key, account_row_of, branch_key, floor_key}
 use Rattle.posting_rules.specs.believed.Tables.{floor_row_of, reference_key, reference_row_of, request_key}
 use Rattle.posting_rules.specs.believed.Tables.{teller_key, teller_row_of}
+use Rattle.posting_rules.specs.{believed.Closings.books_of, declared.judgments.Books.Books, declared.rows.ClosingRow.ClosingRow}
 use Rattle.posting_rules.specs.declared.rows.{AccountRow.AccountRow, BranchRow.BranchRow, FloorRow.FloorRow}
 use Rattle.posting_rules.specs.declared.rows.{ReferenceRow.ReferenceRow, RequestRow.RequestRow, TellerRow.TellerRow}
 use Rattle.posting_batch.specs.declared.slots.{AccountSlot.AccountSlot, BranchSlot.BranchSlot, FloorSlot.FloorSlot}
@@ -268,9 +269,10 @@ make_floor s z = floor_row_of s.branch z
 abbrev floor_told : FloorSlot → Option FloorRow
 floor_told s = option_map (make_floor s) s.floor
 
--- the tables that have what the slots tell, and nothing else; so many ordinals from the next on are free
-abbrev pub tables_told : ℕ → Overlay → Tables
-tables_told free o = let slots = numbered (suc (o.decided + free)) o.kept in record {
+-- the tables that have what the slots tell, with these closings, and nothing else; so many ordinals from the next on are
+-- free
+abbrev pub tables_told : ℕ → List ClosingRow → Overlay → Tables
+tables_told free closings o = let slots = numbered (suc (o.decided + free)) o.kept in record {
   decided = o.decided;
   branches = rows_told branch_told o.branches;
   tellers = rows_told teller_told o.tellers;
@@ -279,11 +281,12 @@ tables_told free o = let slots = numbered (suc (o.decided + free)) o.kept in rec
   requests = rows_told request_told slots;
   floors = rows_told floor_told o.floors;
   references = rows_told reference_told slots;
-  closings = o.runs;
+  closings = closings;
 }
 
-pub told_free : (free : ℕ) (o : Overlay) → HasFreeOrdinals (tables_told free o) free
-told_free free o = record {
+pub told_free : (free : ℕ) (closings : List ClosingRow) (o : Overlay)
+    → HasFreeOrdinals (tables_told free closings o) free
+told_free free closings o = record {
   requests = λ k is. above_told request_key request_told
       (λ p. if_made (make_request p.0 p.1) (λ r. request_key r ≡ p.0) (λ a. refl) p.1.kept)
       (suc (o.decided + free)) k o.kept (omega (arith, is.1));
@@ -295,6 +298,10 @@ told_free free o = record {
 }
 
 -- ---- the overlay is filled from them
+
+-- a slot tells what these closings say of its number
+abbrev pub TellsBooks : List ClosingRow → RequestSlot → Type 0
+TellsBooks closings s = s.books ≡ books_of closings s.teller s.number
 
 -- the row that a slot of a branch is filled with is that branch's
 abbrev pub IsOwn : BranchSlot → Type 0
@@ -335,9 +342,9 @@ account_is : (s : AccountSlot) (balance : Option ℤ) → balance ≡ s.stored
     → ◌≡◌ {A = AccountSlot} (record s { stored = balance }) s
 account_is s balance same = rw same refl
 
-request_is : (s : RequestSlot) (kept : Option KeptFields) → kept ≡ s.kept
-    → ◌≡◌ {A = RequestSlot} (record s { kept = kept }) s
-request_is s kept same = rw same refl
+request_is : (s : RequestSlot) (kept : Option KeptFields) (books : Books) → kept ≡ s.kept → s.books ≡ books
+    → ◌≡◌ {A = RequestSlot} (record s { kept = kept; books = books }) s
+request_is s kept books same its = rw (same, sym its) refl
 
 overlay_is : (o : Overlay) (b : List BranchSlot) (f : List FloorSlot) (t : List TellerSlot)
     (a : List AccountSlot) (k : List RequestSlot) → b ≡ o.branches → f ≡ o.floors → t ≡ o.tellers
@@ -345,10 +352,11 @@ overlay_is : (o : Overlay) (b : List BranchSlot) (f : List FloorSlot) (t : List 
     → ◌≡◌ {A = Overlay} (record o { branches = b; floors = f; tellers = t; accounts = a; kept = k }) o
 overlay_is o b f t a k eb ef et ea ek = rw (eb, ef, et, ea, ek) refl
 
-pub told_filled : (free : ℕ) (o : Overlay) → HasRisingSlots o → AllByRecursion IsOwn o.branches
-    → filled (tables_told free o) o ≡ o
-told_filled free o rises own =
-    let t = tables_told free o in
+pub told_filled : (free : ℕ) (closings : List ClosingRow) (o : Overlay) → HasRisingSlots o
+    → AllByRecursion IsOwn o.branches → AllByRecursion (TellsBooks closings) o.kept
+    → filled (tables_told free closings o) o ≡ o
+told_filled free closings o rises own books =
+    let t = tables_told free closings o in
     let first = suc (o.decided + free) in
     overlay_is o _ _ _ _ _
     (all_same (branch_filled t) (λ s. row_at branch_key t.branches s.branch ≡ branch_told s) IsOwn
@@ -379,7 +387,7 @@ told_filled free o rises own =
     rises.accounts)
     (every o.accounts))
     (all_same (request_filled t) (λ s. kept_in t.requests t.references s.teller s.number ≡ s.kept)
-    (λ _. Unit {0}) (λ s is its. request_is s _ is) o.kept
+    (TellsBooks closings) (λ s is its. request_is s _ _ is its) o.kept
     (kept_found first o.kept t.requests t.references (requests_found first o.kept rises.kept)
     (references_found first o.kept))
-    (every o.kept))
+    books)

@@ -1,11 +1,12 @@
 -- The slots of a batch: what they cover, and what its records change in them.
-use Rattle.std.specs.Prelude.{◌≡◌, ◌≤◌, ◌<◌, ℕ, ◌+◌, List, [], ◌∷◌, map, None, IfSome, IsSome, Result, Ok}
+use Rattle.std.specs.Prelude.{◌≡◌, ℕ, List, [], ◌∷◌, map, None, IfSome, IsSome, Result, Ok}
 use Rattle.std.specs.Prelude.{◌==◌, ◌&&◌, Bool, Err, is_none}
 use Rattle.std.specs.List.{find, list_any, AllByRecursion}
 use Rattle.std.specs.Option.{option_map}
 use Rattle.message_records.specs.declared.fault.Bad.{Bad}
 use Rattle.message_records.specs.believed.Records.{RequestFields}
 use Rattle.posting_rules.specs.believed.Changes.{row_put, tables_past_all, replies_past_all}
+use Rattle.posting_rules.specs.believed.Closings.{books_of}
 use Rattle.posting_rules.specs.believed.Numbering.{branch_of_teller, branch_of_account}
 use Rattle.posting_rules.specs.believed.LookUps.{kept_in, account_balance_in, balance_of_teller, floor_in}
 use Rattle.posting_rules.specs.believed.Tables.{Tables, row_at, branch_key, teller_key, account_key}
@@ -69,7 +70,6 @@ no_slots = record {
   tellers = [];
   accounts = [];
   kept = [];
-  runs = [];
   decided = 0;
   history = [];
   requests = [];
@@ -133,7 +133,10 @@ abbrev pub account_filled : Tables → AccountSlot → AccountSlot
 account_filled t s = record s { stored = account_balance_in t s.account }
 
 abbrev pub request_filled : Tables → RequestSlot → RequestSlot
-request_filled t s = record s { kept = kept_in t.requests t.references s.teller s.number }
+request_filled t s = record s {
+  kept = kept_in t.requests t.references s.teller s.number;
+  books = books_of t.closings s.teller s.number;
+}
 
 -- each slot with what is in the tables under its key
 abbrev pub filled : Tables → Overlay → Overlay
@@ -143,7 +146,6 @@ filled t o = record o {
   tellers = map (teller_filled t) o.tellers;
   accounts = map (account_filled t) o.accounts;
   kept = map (request_filled t) o.kept;
-  runs = t.closings;
   decided = t.decided;
 }
 
@@ -194,7 +196,6 @@ blanked o = record {
   tellers = map (λ s. empty_teller s.teller) o.tellers;
   accounts = map (λ s. empty_account s.account) o.accounts;
   kept = map (λ s. empty_request s.teller s.number) o.kept;
-  runs = [];
   decided = 0;
   history = [];
   requests = [];

@@ -14,11 +14,10 @@ use Rattle.posting_rules.specs.believed.Entries.{malformed_reply}
 use Rattle.posting_rules.specs.believed.LookUps.{both_of}
 use Rattle.posting_rules.specs.believed.Tables.{request_row_of, history_row_of, reference_row_of}
 use Rattle.posting_batch.specs.Overlay.{Overlay}
-use Rattle.posting_batch.specs.Slots.{slot_balance, kept_in_slots, slots_kept, account_slot_key}
+use Rattle.posting_batch.specs.Slots.{books_in_slots, slot_balance, kept_in_slots, slots_kept, account_slot_key}
 use Rattle.posting_batch.specs.Slots.{account_slot_balance, with_account_changed, teller_slot_key}
 use Rattle.posting_batch.specs.Slots.{teller_slot_balance, with_teller_changed, branch_slot_key}
 use Rattle.posting_batch.specs.Slots.{branch_slot_balance, with_branch_changed, slot_floor}
-use Rattle.posting_rules.specs.believed.Closings.{books_of}
 
 -- all that is looked up for a request
 abbrev pub found_over : Overlay → RequestFields → Found
@@ -26,7 +25,7 @@ found_over o r = record {
   teller = both_of (slot_balance teller_slot_key teller_slot_balance o.tellers r.teller)
       (slot_balance branch_slot_key branch_slot_balance o.branches (branch_of_teller r.teller));
   kept = kept_in_slots o.kept r.teller r.number;
-  books = books_of o.runs r.teller r.number;
+  books = books_in_slots o.kept r.teller r.number;
   decided = o.decided;
   account = slot_balance account_slot_key account_slot_balance o.accounts r.account;
   floor = slot_floor o.floors (branch_of_account r.account);
@@ -55,7 +54,6 @@ overlay_posted o e teller branch = record {
   tellers = row_changed teller_slot_key (with_teller_changed teller) e.request.teller o.tellers;
   accounts = row_changed account_slot_key (with_account_changed e.balance) e.request.account o.accounts;
   kept = slots_kept e.request.teller e.request.number (kept_fields e) o.kept;
-  runs = o.runs;
   decided = o.decided + 1;
   history = o.history ++ history_row_of (o.decided + 1) e ∷ [];
   requests = o.requests ++ request_row_of (o.decided + 1) e ∷ [];

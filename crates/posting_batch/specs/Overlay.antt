@@ -16,7 +16,6 @@ use Rattle.posting_batch.specs.declared.slots.BranchSlot.{BranchSlot}
 use Rattle.posting_batch.specs.declared.slots.FloorSlot.{FloorSlot}
 use Rattle.posting_batch.specs.declared.slots.RequestSlot.{RequestSlot}
 use Rattle.posting_batch.specs.Slots.{account_slot_key, teller_slot_key, branch_slot_key}
-use Rattle.posting_rules.specs.declared.rows.ClosingRow.{ClosingRow}
 
 pub record Overlay : Type 0 where
   pub branches : List BranchSlot
@@ -24,8 +23,6 @@ pub record Overlay : Type 0 where
   pub tellers : List TellerSlot
   pub accounts : List AccountSlot
   pub kept : List RequestSlot
-  -- the numbers that closed books decided
-  pub runs : List ClosingRow
   -- how many requests are decided
   pub decided : ℕ
   -- the rows that are new, in the order of their ordinals

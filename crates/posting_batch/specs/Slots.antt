@@ -2,6 +2,7 @@
 use Rattle.std.specs.Prelude.{ℕ, ℤ, List, map, Option, Some, None, Bool, ◌==◌, ◌&&◌, if◌then◌else◌}
 use Rattle.std.specs.List.{find}
 use Rattle.std.specs.Option.{option_map, option_flatten, unwrap_or}
+use Rattle.posting_rules.specs.declared.judgments.Books.{Books, TheVariants.Current}
 use Rattle.posting_rules.specs.declared.rows.BranchRow.{BranchRow}
 use Rattle.posting_rules.specs.believed.Kept.{KeptFields}
 use Rattle.posting_rules.specs.believed.Tables.{row_at}
@@ -83,9 +84,17 @@ kept_of_slot s = s.kept
 abbrev pub kept_in_slots : List RequestSlot → ℕ → ℕ → Option KeptFields
 kept_in_slots slots t n = in_slot kept_of_slot (find (is_for t n) slots)
 
+abbrev pub books_of_slot : RequestSlot → Books
+books_of_slot s = s.books
+
+-- what closed books say of a teller's number: nothing where there is no slot
+abbrev pub books_in_slots : List RequestSlot → ℕ → ℕ → Books
+books_in_slots slots t n = unwrap_or (option_map books_of_slot (find (is_for t n) slots)) Current
+
 -- the slot, with this request kept where it is that of the teller and the number
 abbrev pub with_kept : ℕ → ℕ → KeptFields → RequestSlot → RequestSlot
-with_kept t n k s = if is_for t n s then record { teller = s.teller; number = s.number; kept = Some k } else s
+with_kept t n k s =
+    if is_for t n s then record { teller = s.teller; number = s.number; kept = Some k; books = s.books } else s
 
 abbrev pub slots_kept : ℕ → ℕ → KeptFields → List RequestSlot → List RequestSlot
 slots_kept t n k slots = map (with_kept t n k) slots
@@ -105,4 +114,4 @@ abbrev pub empty_floor : ℕ → FloorSlot
 empty_floor n = record { branch = n; floor = None }
 
 abbrev pub empty_request : ℕ → ℕ → RequestSlot
-empty_request n m = record { teller = n; number = m; kept = None }
+empty_request n m = record { teller = n; number = m; kept = None; books = Current }

@@ -1,11 +1,9 @@
 -- What a batch holds, without where it lies in memory.
-use Rattle.std.specs.Prelude.{◌≡◌, ◌*◌, ℕ, Bool, true, false, List, [], ◌∷◌, map, Result}
+use Rattle.std.specs.Prelude.{◌≡◌, ◌*◌, ℕ, List, map, Result}
 use Rattle.message_records.specs.declared.fault.Bad.{Bad}
 use Rattle.message_records.specs.believed.Reading.{request_of}
 use Rattle.message_records.specs.believed.Records.{RequestFields}
-use Rattle.posting_rules.specs.believed.Closings.{seal}
 use Rattle.posting_rules.specs.believed.Tables.{Tables}
-use Rattle.posting_rules.specs.declared.rows.ClosingRow.{ClosingRow}
 use Rattle.posting_batch.specs.declared.overlay.Overlay as held
 use Rattle.posting_batch.specs.declared.batch.Batch.{Batch}
 use Rattle.posting_batch.specs.declared.batch.Judged.{Judged}
@@ -13,11 +11,6 @@ use Rattle.posting_batch.specs.Overlay.{Overlay}
 use Rattle.posting_batch.specs.Reads.{reads_in}
 use Rattle.posting_batch.specs.Room.{IsRoomFor}
 use Rattle.posting_batch.specs.Batch.{KeepsNew, blanked, covering_all, no_slots, filled}
-
--- so far a batch knows of closed books only whether these are sealed
-abbrev pub runs_of : Bool → List ClosingRow
-runs_of false = []
-runs_of true = seal ∷ []
 
 -- the overlay
 abbrev pub view : held.Overlay → Overlay
@@ -27,7 +20,6 @@ view o = record {
   tellers = o.tellers.items;
   accounts = o.accounts.items;
   kept = o.kept.items;
-  runs = runs_of o.sealed;
   decided = o.decided;
   history = o.history.items;
   requests = o.requests.items;
@@ -41,7 +33,6 @@ pub record IsForRecords (count : ℕ) (o : held.Overlay) : Type 0 where
   pub tellers : IsRoomFor count o.tellers
   pub accounts : IsRoomFor count o.accounts
   pub kept : IsRoomFor count o.kept
-  pub unsealed : o.sealed ≡ false
   pub undecided : o.decided ≡ 0
   pub history : IsRoomFor count o.history
   pub requests : IsRoomFor count o.requests

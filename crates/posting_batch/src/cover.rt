@@ -11,7 +11,7 @@ use crate::overlay::{Overlay, put};
 use crate::placement::place;
 use crate::slots::{AccountSlot, BranchSlot, FloorSlot, RequestSlot, TellerSlot};
 use message_records::{Bad, REQUEST_BYTES, Request, decode_request};
-use posting_rules::{branch_of_account, branch_of_teller};
+use posting_rules::{Books, branch_of_account, branch_of_teller};
 use smallvec::SmallVec;
 
 // Places an empty slot for a branch, for which there is room.
@@ -61,6 +61,7 @@ impl Overlay {
             teller: request.teller(),
             number: request.number(),
             kept: None,
+            books: Books::Current,
         };
         place(&mut self.kept, kept);
     }

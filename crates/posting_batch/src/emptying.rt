@@ -3,6 +3,7 @@ ghost use Rattle.std.specs.Prelude.{◌≡◌, [], map};
 
 use crate::overlay::Overlay;
 use crate::slots::{AccountSlot, BranchSlot, FloorSlot, RequestSlot, TellerSlot};
+use posting_rules::Books;
 
 /// A slot that can be emptied.
 pub(crate) trait Emptied: Copy {
@@ -78,6 +79,7 @@ impl Emptied for RequestSlot {
             teller: self.teller,
             number: self.number,
             kept: None,
+            books: Books::Current,
         }
     }
 }
@@ -109,7 +111,6 @@ impl Overlay {
         empty_all(&mut self.tellers);
         empty_all(&mut self.accounts);
         empty_all(&mut self.kept);
-        self.sealed = false;
         self.decided = 0;
         self.history.clear();
         self.requests.clear();

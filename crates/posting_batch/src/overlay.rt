@@ -11,12 +11,12 @@ ghost use Rattle.posting_batch.specs.Judging.{reference_after};
 
 use crate::batch::Replies;
 use crate::changes::{change_at, keep_at};
-use crate::search::{balance_at, kept_at, stored_floor};
+use crate::search::{balance_at, books_at, kept_at, stored_floor};
 use crate::slots::{AccountSlot, BranchSlot, FloorSlot, RequestSlot, TellerSlot};
 use message_records::{Bad, Cents, Moment, Outcome, REPLY_BYTES, Reference, Request, encode_reply};
 use posting_rules::{
-    Books, ClosingRow, Found, HistoryRow, MAX_DECIDED, Ordinal, ReferenceRow, RequestRow, Verdict,
-    books_of, branch_of_account, branch_of_teller, judge, malformed_reply, reply_to,
+    Found, HistoryRow, MAX_DECIDED, Ordinal, ReferenceRow, RequestRow, Verdict, branch_of_account,
+    branch_of_teller, judge, malformed_reply, reply_to,
 };
 use smallvec::SmallVec;
 use std::alloc::{AllocError, Global};
@@ -68,10 +68,8 @@ pub struct Overlay {
     pub tellers: SmallVec<TellerSlot, 1>,
     /// Their accounts, by rising numbers.
     pub accounts: SmallVec<AccountSlot, 1>,
-    /// What is kept of their requests, by rising tellers and numbers.
+    /// What is kept of their requests, and what closed books say of them, by rising tellers and numbers.
     pub kept: SmallVec<RequestSlot, 1>,
-    /// Whether the books are sealed, so that they decide nothing more.
-    pub sealed: bool,
     /// How many requests are decided: 0..=`MAX_DECIDED`.
     pub decided: u64,
     /// The postings that are new, in the order of their ordinals.
@@ -92,7 +90,6 @@ impl Drop for Overlay {
             tellers: _,
             accounts: _,
             kept: _,
-            sealed: _,
             decided: _,
             history: _,
             requests: _,
@@ -105,7 +102,6 @@ impl Overlay {
     ghost use Rattle.posting_batch.specs.Judging.{found_over, overlay_kept, overlay_posted, overlay_after};
     ghost use Rattle.posting_batch.specs.Judging.{overlay_with, reply_over, overlay_with_all, replies_over};
     ghost use Rattle.posting_batch.specs.Batch.{has_gap};
-    ghost use Rattle.posting_rules.specs.believed.Closings.{books_of};
     ghost use Rattle.posting_batch.specs.View.{view, IsForRecords};
 
     // One without a slot and without a new row, with room for what a single record comes to.
@@ -118,7 +114,6 @@ impl Overlay {
             tellers: SmallVec::new(alloc),
             accounts: SmallVec::new(alloc),
             kept: SmallVec::new(alloc),
-            sealed: false,
             decided: 0,
             history: SmallVec::new(alloc),
             requests: SmallVec::new(alloc),
@@ -160,17 +155,6 @@ impl Overlay {
         self.kept.iter().any(|slot| slot.kept.is_none())
     }
 
-    // What closed books say of a request.
-    fn books(&self, request: &Request) -> Books
-        ensures { result ≡ books_of (view self.now).runs request.now.teller request.now.number }
-    {
-        if self.sealed {
-            books_of(&[ClosingRow::seal()], request.teller(), request.number())
-        } else {
-            Books::Current
-        }
-    }
-
     // All that is looked up for a request.
     fn look_up(&self, request: &Request) -> Found
         ensures value { result ≡ found_over (view self.now) request.now }
@@ -181,7 +165,7 @@ impl Overlay {
         Found {
             teller: teller.zip(branch),
             kept: kept_at(&self.kept, request.teller(), request.number()),
-            books: self.books(request),
+            books: books_at(&self.kept, request.teller(), request.number()),
             decided: self.decided,
             account: balance_at(&self.accounts, request.account().get()),
             floor: stored_floor(&self.floors, branch_of_account(request.account())),

@@ -1,15 +1,16 @@
 //! Rows and slots are found by walking: a batch has few of them.
 ghost use Rattle.std.specs.Prelude.{◌≡◌};
 ghost use Rattle.std.specs.List.{find};
-ghost use Rattle.std.specs.Option.{option_map};
+ghost use Rattle.std.specs.Option.{option_map, unwrap_or};
 ghost use Rattle.posting_rules.specs.believed.Tables.{row_at};
-ghost use Rattle.posting_batch.specs.Slots.{slot_balance, kept_in_slots, is_for, kept_of_slot, row_of_slot};
+ghost use Rattle.posting_batch.specs.Slots.{books_in_slots, books_of_slot, slot_balance, kept_in_slots, is_for};
+ghost use Rattle.posting_batch.specs.Slots.{kept_of_slot, row_of_slot};
 ghost use Rattle.posting_batch.specs.Slots.{in_slot, branch_slot_key, floor_of_slot, floor_slot_key, slot_floor};
 
 use crate::balances::BalanceRow;
 use crate::slots::{BranchSlot, FloorSlot, RequestSlot};
 use message_records::{Cents, Number, Teller};
-use posting_rules::{BranchRow, Kept};
+use posting_rules::{Books, BranchRow, Kept};
 
 // What the row under a number tells of its balance.
 fn told_at<R: BalanceRow>(rows: &[R], number: u64) -> Option<Option<Cents>>
@@ -90,4 +91,21 @@ pub(crate) fn kept_at(slots: &[RequestSlot], teller: Teller, number: Number) -> 
     ensures { result ≡ kept_in_slots slots.now teller number }
 {
     told_for(slots, teller, number).flatten()
+}
+
+// What the slot of a teller and a number tells of closed books.
+fn told_books(slots: &[RequestSlot], teller: Teller, number: Number) -> Option<Books>
+    ensures { result ≡ option_map books_of_slot (find (is_for teller number) slots.now) }
+{
+    slots
+        .iter()
+        .find(|slot| slot.is_for(teller, number))
+        .map(|slot| slot.books)
+}
+
+/// What closed books say of a teller's number; nothing where there is no slot.
+pub(crate) fn books_at(slots: &[RequestSlot], teller: Teller, number: Number) -> Books
+    ensures { result ≡ books_in_slots slots.now teller number }
+{
+    told_books(slots, teller, number).unwrap_or(Books::Current)
 }

@@ -1,6 +1,6 @@
 //! Slots: what is known of the rows that a batch can touch, one for each key.
 use message_records::{Account, Cents, Number, Teller};
-use posting_rules::{BranchRow, Kept};
+use posting_rules::{Books, BranchRow, Kept};
 
 /// What is known of an account.
 #[derive(Clone, Copy)]
@@ -96,6 +96,8 @@ pub struct RequestSlot {
     pub number: Number,
     /// What is kept; none where no request was decided under the two.
     pub kept: Option<Kept>,
+    /// What closed books say of the number.
+    pub books: Books,
 }
 
 /// What fills a place that no slot has taken yet.
@@ -105,6 +107,7 @@ impl Default for RequestSlot {
             teller: Teller::new(1).unwrap(),
             number: Number::new(1).unwrap(),
             kept: None,
+            books: Books::Current,
         }
     }
 }

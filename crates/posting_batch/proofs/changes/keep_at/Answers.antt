@@ -8,7 +8,7 @@ pub loop-slot-preserved : goal.loop-slot-preserved
 loop-slot-preserved c =
     let test = is_for c.args.teller c.args.number in
     let change = λ (s : RequestSlot). let t : RequestSlot =
-    record { teller = s.teller; number = s.number; kept = Some c.args.kept } in t in
+    record { teller = s.teller; number = s.number; kept = Some c.args.kept; books = s.books } in t in
     let xs = c.args.slots.now in
     let ys = c.loop-slot.slots in
     let i = c.loop-slot.slot-index in
