@@ -37,7 +37,6 @@ starts old new (Ok count) made h =
         sound = ∣ done.0.sound ∣₁;
         each = meta_written old new (no_rows all_texts) made.each [] _ refl done.0;
         early = λ _. refl;
-        alone = tt;
       },
       done.2,
       done.0.steps.schema,

@@ -98,7 +98,6 @@ module _ (from : ℕ) (old new : Database) (made : TablesAreMade (lacking from) 
       sound = made.empty.sound;
       each = ∥∥₁_elim made.empty.sound (HoldsEach-prop new bank_tables ((meta_entry (pos from) t.decided ∷ []) ∷ rows_of t))
           (each t was);
-      alone = was.shows.alone;
     };
   }
 

@@ -21,7 +21,6 @@ use Rattle.store_rows.specs.declared.fault.TableFault.{TableFault}
 use Rattle.store_rows.specs.declared.holders.Member.TheVariants as member
 use Rattle.store_rows.specs.Failures.{ReadsAnswer}
 use Rattle.posting_rules.specs.declared.rows.{ClosingRow.ClosingRow, FloorRow.FloorRow}
-use Rattle.posting_rules.specs.believed.Closings.{seal}
 use Rattle.store_rows.specs.declared.holders.Holder.TheVariants as holder
 use Rattle.store_rows.specs.declared.metas.{StoredMeta.StoredMeta, TheConstants.META_ID}
 use Rattle.store_rows.specs.declared.texts.TheConstants as text
@@ -227,10 +226,10 @@ module _ {S : Type 0} (g : Ghosts S) (old new : Transaction S) (result : Result 
   reference_put r short = puts_lying references text.ADD_REFERENCE.now (given (reference_entry r))
       (reference_entry r ∷ []) (puts_one (puts.reference r short)) g old new result
 
-  pub seal_put : PutsRow g old new text.ADD_CLOSING.now (given (closing_entry seal)) result
+  pub closing_put : (r : ClosingRow) → PutsRow g old new text.ADD_CLOSING.now (given (closing_entry r)) result
       → PutsLying g old new bank.closing result
-  seal_put = puts_lying closings text.ADD_CLOSING.now (given (closing_entry seal)) (closing_entry seal ∷ [])
-      (puts_one (puts.closing seal)) g old new result
+  closing_put r = puts_lying closings text.ADD_CLOSING.now (given (closing_entry r)) (closing_entry r ∷ [])
+      (puts_one (puts.closing r)) g old new result
 
   pub postings_put : HoldsOfEight history_key history_entry
       (λ values. PutsRow g old new text.ADD_EIGHT_POSTINGS.now values result)

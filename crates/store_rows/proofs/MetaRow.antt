@@ -100,7 +100,6 @@ module _ (old new : State) (t : Tables) (shows : Shows old.now t) (n : ℕ) wher
           each = meta_written old new (contents t) shows.each
               (meta_entry VERSION t.decided ∷ []) _ refl done.0;
           early = shows.early;
-          alone = shows.alone;
         },
         (h.1, done.0.marks),
         spares_standing old new bank.meta _ done.0,

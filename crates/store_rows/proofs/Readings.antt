@@ -172,7 +172,7 @@ in_limit limit z le = let test : nat_le (nat_abs z) limit ≡ true = grind (arit
 low_enough : (z : ℤ) → z ≤ℤ pos 0 → int_lt (pos 0) z ≡ false
 low_enough z le = grind (arith, ints)
 
-in_order : (first last : ℕ) → IsTrue (is_closing first last) → first ≤ last
+pub in_order : (first last : ℕ) → IsTrue (is_closing first last) → first ≤ last
 in_order first last is = elim (cases_Bool (first == 0 && last == 0)) [
   | inl nought ↦ let two = and_parts (first == 0) (last == 0) nought in omega (arith, eqb-true first 0 two.0)
   | inr other ↦ le_of first last (and_parts (nat_le first last) _ (rw other at is)).0

@@ -179,7 +179,7 @@ module _ {R : Type 0} (kind : Kind R) (placed : IsPlaced kind) where
 
   module _ (old new : State) (t : Tables) (shows : Shows old.now t) (text : List ℕ) (params : Row)
       (news : List R) (puts : PutsEachAs table text params (map kind.entry news))
-      (low : AllByRecursion (λ r. kind.key r ≤ MAX_KEY) news) (any : (rs : List R) → kind.MayStand rs) where
+      (low : AllByRecursion (λ r. kind.key r ≤ MAX_KEY) news) where
     abbrev after : List R
     after = more news (kind.rows t)
 
@@ -199,7 +199,7 @@ module _ {R : Type 0} (kind : Kind R) (placed : IsPlaced kind) where
         (sym (entries_met kind.key kind.entry kind.keyed news (kind.rows t)) ∙ done.1) in (
           sym meets ∙ done.1,
           subst (Shows new.now) (sym (with_is news t))
-              (written kind old new t shows after (any after) (subst (Leaves old new table) rows done.0)),
+              (written kind old new t shows after (subst (Leaves old new table) rows done.0)),
           (h.1, done.0.marks),
           done.2,
         )
@@ -216,13 +216,13 @@ module _ {R : Type 0} (kind : Kind R) (placed : IsPlaced kind) where
       → PutsEachAs table text (flat_map given (map kind.entry news)) (map kind.entry news) → Spares text
       → Has inserts text → (first : ℤ) (rest : Row) → flat_map given (map kind.entry news) ≡ Int first ∷ rest
       → {S : Type 0} (g : Ghosts S) (old new : Transaction S)
-      → AllByRecursion (λ r. kind.key r ≤ MAX_KEY) news → ((rs : List R) → kind.MayStand rs)
+      → AllByRecursion (λ r. kind.key r ≤ MAX_KEY) news
       → (answer : Result (Unit {0}) TableFault)
       → PutsRow g old new text (flat_map given (map kind.entry news)) answer
       → AddsRows g old new text kind.entry table has_key_of with_row news answer
-  puts_several text news puts spared among first rest is g old new low any answer says =
+  puts_several text news puts spared among first rest is g old new low answer says =
       tells_tables g old new (λ before after t shows h. rw h.2
-      (tells_rows before after t shows text (flat_map given (map kind.entry news)) news puts low any h.0 h.1))
+      (tells_rows before after t shows text (flat_map given (map kind.entry news)) news puts low h.0 h.1))
       (λ before after. spared_put text spared before after _ answer)
       (record {
         same_reference = says.same_reference;

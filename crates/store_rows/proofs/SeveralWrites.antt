@@ -112,12 +112,12 @@ eight_put = record {
     each = λ a b c d e f g h low. puts_several history (record { own = λ _. refl; over = λ _ _ _. refl })
         text.ADD_EIGHT_POSTINGS.now (a ∷ b ∷ c ∷ d ∷ e ∷ f ∷ g ∷ h ∷ []) (eight_postings a b c d e f g h)
         spares.add_eight_postings
-        (inr (inr (inr (inr (inr (inr (inr (inl refl)))))))) (pos a.ordinal) _ refl gh old new low (λ _. tt) answer;
+        (inr (inr (inr (inr (inr (inr (inr (inl refl)))))))) (pos a.ordinal) _ refl gh old new low answer;
   };
   requests = λ S gh old new answer. record {
     each = λ a b c d e f g h low. puts_several requests (record { own = λ _. refl; over = λ _ _ _. refl })
         text.ADD_EIGHT_REQUESTS.now (a ∷ b ∷ c ∷ d ∷ e ∷ f ∷ g ∷ h ∷ []) (eight_requests a b c d e f g h)
         spares.add_eight_requests
-        (inr (inr (inr (inr (inr (inr (inr (inr (inl refl))))))))) (pos a.ordinal) _ refl gh old new low (λ _. tt) answer;
+        (inr (inr (inr (inr (inr (inr (inr (inr (inl refl))))))))) (pos a.ordinal) _ refl gh old new low answer;
   };
 }

@@ -16,14 +16,14 @@ use Rattle.sql_meanings.proofs.{PutFailures.refuses_insert, PutRows.PutsAs, PutR
 use Rattle.sql_meanings.proofs.{SetFailures.refuses_update, SetRows.ChangesAs, SetRows.sets_row, Writing.uncounted}
 use Rattle.sql_meanings.proofs.TableWrites.{IsPlain, Leaves, spares_standing}
 use Rattle.store_rows.specs.{Faults.added, believed.BankTables.bank_tables, Statements.MeetsOne, believed.View.Shows}
-use Rattle.store_rows.specs.{View.contents, believed.View.HasSealAlone, declared.statements.TheConstants.MAX_KEY}
+use Rattle.store_rows.specs.{View.contents, declared.statements.TheConstants.MAX_KEY}
 use Rattle.store_rows.specs.TableAnswers.{PutsOneRow, IsForbidden, SetsRow}
 use Rattle.store_rows.proofs.Failing.{adds_err, forbidden, forbidden_put, key_fits}
 use Rattle.store_rows.proofs.Lookups.{one_written as one_met}
 use Rattle.store_rows.proofs.RowLists.{changed_rows, put_rows, taken_row_key}
 
 -- a table of the bank: its place among them, and how a file holds its rows
-pub record Kind (R : Type 0) : Type 1 where
+pub record Kind (R : Type 0) : Type 0 where
   pub place : ℕ
   pub table : Table
   pub key : R → ℕ
@@ -36,9 +36,6 @@ pub record Kind (R : Type 0) : Type 1 where
   pub replaced : (t : Tables) (rs : List R)
       → slice_set (contents t) place (map entry rs) ≡ contents (having rs t)
   pub again : (t : Tables) (rs : List R) → rows (having rs t) ≡ rs
-  -- rows that may stand there beside the seal alone
-  pub MayStand : List R → Type 0
-  pub alone : (t : Tables) (rs : List R) → MayStand rs → HasSealAlone t.closings → HasSealAlone (having rs t).closings
   pub is_plain : IsPlain (uncounted table)
 
 -- the names of its key, of its columns of numbers and of those of texts after them
@@ -59,15 +56,13 @@ abbrev pub kind_of : {R : Type 0} (place : ℕ) (table : Table) (key : R → ℕ
     → ((t : Tables) → slice_get (contents t) place ≡ Some (map entry (rows t)))
     → ((t : Tables) (rs : List R) → slice_set (contents t) place (map entry rs) ≡ contents (having rs t))
     → ((t : Tables) (rs : List R) → rows (having rs t) ≡ rs)
-    → (MayStand : List R → Type 0)
-    → ((t : Tables) (rs : List R) → MayStand rs → HasSealAlone t.closings → HasSealAlone (having rs t).closings)
     → table.references ≡ []
     → table.key ≡ Some 0 → table.computed ≡ []
     → width_of table ≡ (length (number_names table), length (text_names table))
     → length (number_names table) + length (text_names table) ≤ 1999
     → table.columns ≡ key_column (key_name table)
     ∷ (map number_column (number_names table) ++ map text_column (text_names table)) → Kind R
-kind_of place table key entry rows having keyed listed has replaced again may alone free at_first uncomputed wide narrow
+kind_of place table key entry rows having keyed listed has replaced again free at_first uncomputed wide narrow
     columns = record {
       place = place;
       table = table;
@@ -80,8 +75,6 @@ kind_of place table key entry rows having keyed listed has replaced again may al
       has = has;
       replaced = replaced;
       again = again;
-      MayStand = may;
-      alone = alone;
       is_plain = record {
         free = free;
         keyed = at_first;
@@ -112,16 +105,15 @@ module _ {R : Type 0} (kind : Kind R) where
       (map kind.entry (kind.rows t)) kind.listed (kind.has t)
 
   -- after a write the database shows the same tables, but for this one
-  pub written : (old new : State) (t : Tables) → Shows old.now t → (rs : List R) → kind.MayStand rs
+  pub written : (old new : State) (t : Tables) → Shows old.now t → (rs : List R)
       → Leaves old new table (map kind.entry rs)
       → Shows new.now (kind.having rs t)
-  written old new t shows rs may left = record {
+  written old new t shows rs left = record {
     sound = ∣ left.sound ∣₁;
     each = subst (HoldsEach new.now bank_tables) (kind.replaced t rs)
         (one_written old new table kind.is_plain.free (map kind.entry (kind.rows t)) (map kind.entry rs)
         (holds old.now t shows) left bank_tables (contents t) refl shows.each kind.place kind.listed);
     early = λ low. absurd (omega (arith, low));
-    alone = kind.alone t rs may shows.alone;
   }
 
   pub shows_rows : (t : Tables) (rs : List R) (db : Database) → Shows db (kind.having rs t)
@@ -132,8 +124,7 @@ module _ {R : Type 0} (kind : Kind R) where
   -- ---- a row more
 
   module _ (old new : State) (t : Tables) (shows : Shows old.now t) (text : List ℕ) (params : Row) (r : R)
-      (puts : PutsAs table text params (kind.entry r)) (low : kind.key r ≤ MAX_KEY)
-      (may : kind.MayStand (row_put kind.key r (kind.rows t))) where
+      (puts : PutsAs table text params (kind.entry r)) (low : kind.key r ≤ MAX_KEY) where
     taken_is : is_some (find (has_key (kind.entry r).key) (map kind.entry (kind.rows t)))
         ≡ is_some (under t (kind.key r))
     taken_is = rw (kind.keyed r) (taken_row_key kind.key kind.entry kind.keyed (kind.key r) (kind.rows t))
@@ -149,7 +140,7 @@ module _ {R : Type 0} (kind : Kind R) where
         let free = sym taken_is ∙ done.1 in
         let rows = put_rows kind.key kind.entry kind.keyed r (kind.rows t) free in (
           free,
-          written old new t shows _ may (subst (Leaves old new table) rows done.0),
+          written old new t shows _ (subst (Leaves old new table) rows done.0),
           (h.1, done.0.marks),
           done.2,
         )
@@ -168,8 +159,7 @@ module _ {R : Type 0} (kind : Kind R) where
   module _ (old new : State) (t : Tables) (shows : Shows old.now t) (text : List ℕ) (k : ℕ) (more : Row)
       (change : R → R)
       (change_entry : Entry → Entry) (changes : ChangesAs table text (pos k) more change_entry)
-      (same : (r : R) → change_entry (kind.entry r) ≡ kind.entry (change r))
-      (may : kind.MayStand (row_changed kind.key change k (kind.rows t))) where
+      (same : (r : R) → change_entry (kind.entry r) ≡ kind.entry (change r)) where
     abbrev after : List R
     after = row_changed kind.key change k (kind.rows t)
 
@@ -184,7 +174,7 @@ module _ {R : Type 0} (kind : Kind R) where
         more change_entry changes count h.0 in (
           one_met count _ (done.1 ∙ ap (λ b. cond b 1 0)
               (taken_row_key kind.key kind.entry kind.keyed k (kind.rows t))),
-          written old new t shows _ may (subst (Leaves old new table) rows_are done.0),
+          written old new t shows _ (subst (Leaves old new table) rows_are done.0),
           (h.1, done.0.marks),
           spares_standing old new table _ done.0,
         )

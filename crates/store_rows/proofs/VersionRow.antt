@@ -47,7 +47,6 @@ module _ (old new : State) (v : ℤ) where
           record {
             sound = ∣ done.0.sound ∣₁;
             each = meta_written old new (before ∷ rows_of t) has.each before _ refl done.0;
-            alone = has.alone;
           },
           (h.1, done.0.marks),
           spares_standing old new bank.meta _ done.0,

@@ -1,6 +1,5 @@
 -- What each UPDATE of a balance and each INSERT of a row leaves of the tables.
-use Rattle.std.proofs.Common.{◌≡◌, ◌≤◌, ℕ, ℤ, pos, is_some, length, List, [], ◌∷◌, Some, Bool, Result, nat_lt, refl, inl, inr}
-use Rattle.std.proofs.lemmas.Bool.{cases_Bool}
+use Rattle.std.proofs.Common.{◌≡◌, ◌≤◌, ℕ, ℤ, pos, is_some, length, List, [], ◌∷◌, Some, Bool, Result, refl, inl, inr}
 use Rattle.sqlite.specs.declared.{error.Error.Error, transaction.Transaction.Transaction, types.Value.TheVariants.Int}
 use Rattle.sqlite_rules.specs.Lists.{Has}
 use Rattle.sqlite_trees.specs.declared.store.Store.{Ghosts}
@@ -8,8 +7,8 @@ use Rattle.posting_rules.specs.believed.Changes.{row_changed, row_put, with_acco
 use Rattle.posting_rules.specs.believed.Changes.{with_branch_balance, with_floor, with_history, with_reference}
 use Rattle.posting_rules.specs.believed.Changes.{with_request, with_teller_balance}
 use Rattle.posting_rules.specs.{Changes.with_account, Changes.with_closing, Changes.with_teller}
-use Rattle.posting_rules.specs.{believed.Closings.seal, declared.rows.ClosingRow.ClosingRow, declared.rows.ReferenceRow.ReferenceRow}
-use Rattle.posting_rules.specs.believed.Tables.{Tables, closing_key, row_at}
+use Rattle.posting_rules.specs.{declared.rows.ReferenceRow.ReferenceRow}
+use Rattle.posting_rules.specs.believed.Tables.{Tables, row_at}
 use Rattle.sql_meanings.specs.{Calls.Inside, Calls.Says, believed.Entries.Entry}
 use Rattle.sql_meanings.proofs.SetRows.{ChangesAs}
 use Rattle.store_rows.specs.{Calls.AddsRow, Calls.SetsNumber, believed.Failures.inserts, believed.SeveralRows.given}
@@ -24,7 +23,6 @@ use Rattle.store_rows.proofs.Setting.{set_first, set_second, sets as numbers}
 use Rattle.store_rows.proofs.SparedTexts.{Spares, spared_met, spared_put, spares}
 use Rattle.store_rows.proofs.Telling.{tells_tables}
 use Rattle.store_rows.proofs.TheTables.{accounts, branches, closings, floors, history, references, requests, tellers}
-use Rattle.store_rows.specs.believed.View.{HasSealAlone}
 
 -- a call that runs the text writes a balance so
 abbrev Sets : {R : Type 0} → Kind R → List ℕ → (ℕ → ℤ → Tables → Tables) → Type 1
@@ -51,11 +49,11 @@ module _ {R : Type 0} (kind : Kind R) (text : List ℕ) where
   sets : (change : ℤ → R → R) (change_entry : ℤ → Entry → Entry)
       → ((k z : ℤ) → ChangesAs (table_of kind) text k (Int z ∷ []) (change_entry z))
       → ((z : ℤ) (r : R) → change_entry z (kind.entry r) ≡ kind.entry (change z r))
-      → Spares text → ((rs : List R) → kind.MayStand rs) → Sets kind text (λ k z t. kind.having (row_changed kind.key (change z) k (kind.rows t)) t)
-  sets change change_entry changes same spared any S g old new k low z answer =
+      → Spares text → Sets kind text (λ k z t. kind.having (row_changed kind.key (change z) k (kind.rows t)) t)
+  sets change change_entry changes same spared S g old new k low z answer =
       tells_tables g old new (λ before after t shows. tells_write kind before after t shows text k
       (Int z ∷ []) (change z)
-      (change_entry z) (changes (pos k) z) (same z) (any _) low answer)
+      (change_entry z) (changes (pos k) z) (same z) low answer)
       (λ before after. spared_met text spared before after _ answer)
 
   -- the text is one that puts a row in, under its key
@@ -71,18 +69,16 @@ module _ {R : Type 0} (kind : Kind R) (text : List ℕ) where
   }
 
   put : (r : R) → Puts (table_of kind) text (kind.entry r) → Spares text → Has inserts text
-      → ((t : Tables) → HasSealAlone t.closings → kind.MayStand (row_put kind.key r (kind.rows t)))
       → PutsOne kind text (λ r t. kind.having (row_put kind.key r (kind.rows t)) t) r
-  put r given_so spared among may S g old new low answer says =
+  put r given_so spared among S g old new low answer says =
       tells_tables g old new (λ before after t shows h. rw h.2
-      (tells_added kind before after t shows text (given (kind.entry r)) r given_so low (may t shows.alone) h.0 h.1))
+      (tells_added kind before after t shows text (given (kind.entry r)) r given_so low h.0 h.1))
       (λ before after. spared_put text spared before after _ answer)
       (by_insert r among S g old new answer says)
 
   puts : ((r : R) → Puts (table_of kind) text (kind.entry r)) → Spares text → Has inserts text
-      → ((rs : List R) → kind.MayStand rs)
       → PutsEach kind text (λ r t. kind.having (row_put kind.key r (kind.rows t)) t)
-  puts given_so spared among any r = put r (given_so r) spared among (λ t alone. any _)
+  puts given_so spared among r = put r (given_so r) spared among
 
 -- each text writes its balance
 pub record SetsBalances : Type 1 where
@@ -94,20 +90,12 @@ pub balances_set : SetsBalances
 unfolding with_branch_balance with_teller_balance with_account_balance
 balances_set = record {
   branch = sets branches text.SET_BRANCH.now (λ z r. record r { balance = z }) set_second numbers.branch
-      (λ _ _. refl) spares.set_branch (λ _. tt);
+      (λ _ _. refl) spares.set_branch;
   teller = sets tellers text.SET_TELLER.now (λ z r. record r { balance = z }) set_first numbers.teller
-      (λ _ _. refl) spares.set_teller (λ _. tt);
+      (λ _ _. refl) spares.set_teller;
   account = sets accounts text.SET_ACCOUNT.now (λ z r. record r { balance = z }) set_first numbers.account
-      (λ _ _. refl) spares.set_account (λ _. tt);
+      (λ _ _. refl) spares.set_account;
 }
-
--- beside the seal alone it may be put
-seal_put : (rows : List ClosingRow) → HasSealAlone rows → HasSealAlone (row_put closing_key seal rows)
-seal_put [] alone = (refl, tt)
-seal_put (r ∷ rows) alone = elim (cases_Bool (nat_lt r.last 0)) [
-  | inl less ↦ rw less (alone.0, seal_put rows alone.1)
-  | inr not_less ↦ rw not_less (refl, alone)
-]
 
 -- each text puts its row in
 pub record PutsRows : Type 1 where
@@ -119,21 +107,19 @@ pub record PutsRows : Type 1 where
   pub floor : PutsEach floors text.ADD_FLOOR.now (λ r. with_floor r.branch (Some r.lowest))
   pub reference : (r : ReferenceRow) → length r.reference ≤ 1000
       → PutsOne references text.ADD_REFERENCE.now (λ r. with_reference r.ordinal (Some r.reference)) r
-  pub seal : PutsOne closings text.ADD_CLOSING.now with_closing seal
+  pub closing : PutsEach closings text.ADD_CLOSING.now with_closing
 
 pub rows_put : PutsRows
 unfolding with_branch with_teller with_account with_history with_request with_floor with_reference with_closing
 rows_put = record {
-  branch = puts branches text.ADD_BRANCH.now each.branch spares.add_branch (inl refl) (λ _. tt);
-  teller = puts tellers text.ADD_TELLER.now each.teller spares.add_teller (inr (inl refl)) (λ _. tt);
-  account = puts accounts text.ADD_ACCOUNT.now each.account spares.add_account (inr (inr (inl refl))) (λ _. tt);
-  posting = puts history text.ADD_HISTORY.now each.posting spares.add_posting (inr (inr (inr (inr (inl refl))))) (λ _. tt);
-  request = puts requests text.ADD_REQUEST.now each.request spares.add_request (inr (inr (inr (inr (inr (inl refl))))))
-      (λ _. tt);
-  floor = puts floors text.ADD_FLOOR.now each.floor spares.add_floor (inr (inr (inr (inl refl)))) (λ _. tt);
+  branch = puts branches text.ADD_BRANCH.now each.branch spares.add_branch (inl refl);
+  teller = puts tellers text.ADD_TELLER.now each.teller spares.add_teller (inr (inl refl));
+  account = puts accounts text.ADD_ACCOUNT.now each.account spares.add_account (inr (inr (inl refl)));
+  posting = puts history text.ADD_HISTORY.now each.posting spares.add_posting (inr (inr (inr (inr (inl refl)))));
+  request = puts requests text.ADD_REQUEST.now each.request spares.add_request (inr (inr (inr (inr (inr (inl refl))))));
+  floor = puts floors text.ADD_FLOOR.now each.floor spares.add_floor (inr (inr (inr (inl refl))));
   reference = λ r short. put references text.ADD_REFERENCE.now r (each.reference r short)
-      spares.add_reference (inr (inr (inr (inr (inr (inr (inl refl))))))) (λ _ _. tt);
-  seal = put closings text.ADD_CLOSING.now seal (each.closing seal) spares.add_closing
-      (inr (inr (inr (inr (inr (inr (inr (inr (inr (inl refl))))))))))
-      (λ t alone. seal_put t.closings alone);
+      spares.add_reference (inr (inr (inr (inr (inr (inr (inl refl)))))));
+  closing = puts closings text.ADD_CLOSING.now each.closing spares.add_closing
+      (inr (inr (inr (inr (inr (inr (inr (inr (inr (inl refl))))))))));
 }

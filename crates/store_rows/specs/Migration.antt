@@ -19,7 +19,7 @@ use Rattle.store_rows.specs.believed.BankTables as bank
 use Rattle.store_rows.specs.believed.BankTables.{bank_tables}
 use Rattle.store_rows.specs.believed.Columns.{meta_in}
 use Rattle.store_rows.specs.Creation.{AreEmpty, MakesAll, RefusesNext, all_texts, no_rows}
-use Rattle.store_rows.specs.believed.View.{HasSealAlone, ShowsAs, meta_entry, rows_of}
+use Rattle.store_rows.specs.believed.View.{ShowsAs, meta_entry, rows_of}
 use Rattle.store_rows.specs.View.{HoldsRows}
 use Rattle.store_rows.specs.declared.metas.TheConstants.{VERSION}
 use Rattle.store_rows.specs.declared.migration.TheConstants.{EARLIEST}
@@ -28,7 +28,6 @@ use Rattle.store_rows.specs.declared.migration.TheConstants.{EARLIEST}
 pub record HoldsTables (written : ℤ) (db : Database) (t : Tables) : Type 0 where
   pub sound : ∥ IsDatabase db ∥₁
   pub each : HoldsEach db bank_tables ((meta_entry written t.decided ∷ []) ∷ rows_of t)
-  pub alone : HasSealAlone t.closings
 
 -- the versions before this one, of which a file is carried over
 abbrev pub IsEarlier : ℕ → Type 0

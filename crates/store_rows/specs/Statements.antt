@@ -1,5 +1,5 @@
 -- What a statement of one table was run as.
-use Rattle.std.specs.Prelude.{◌≡◌, ℕ, ℤ, pos, List, [], ◌∷◌, nat_eq, Bool, Some, Result, Ok}
+use Rattle.std.specs.Prelude.{◌≡◌, ℕ, ℤ, pos, List, [], ◌∷◌, nat_eq, Bool, Result, Ok}
 use Rattle.std.specs.Prelude.{Err, ⊤}
 use Rattle.sqlite.specs.Effect.{Database}
 use Rattle.sqlite.specs.Order.{Row}

@@ -1,7 +1,7 @@
 //! The table of the numbers that closed books decided, and of the seal.
 ghost use Rattle.std.specs.Prelude.{◌≤◌, find, is_some, pos};
 ghost use Rattle.posting_rules.specs.Changes.{with_closing};
-ghost use Rattle.posting_rules.specs.believed.Closings.{seal};
+ghost use Rattle.posting_rules.specs.believed.Damage.{IsSoundClosing};
 ghost use Rattle.posting_rules.specs.believed.Tables.{closing_key, row_at};
 ghost use Rattle.posting_rules.specs.declared.limits.TheConstants.{LAST_KEY as MOST};
 ghost use Rattle.sql_meanings.specs.Entries.{is_above};
@@ -57,13 +57,19 @@ pub fn next_closing<S: Alter>(
     found(row_under(tx, NEXT_CLOSING, after))
 }
 
-/// Seals the books. `Damaged(Rule::Key)`: they are sealed.
-pub fn add_seal<S: Alter>(tx: &mut Transaction<'_, S>) -> Result<(), TableFault>
-    ensures adds { AddsRow S.Store tx.old tx.new text.now (given (closing_entry seal)) table
-        (λ tables. is_some (row_at closing_key tables.closings 0)) (with_closing seal) result }
+/// Closes numbers of one teller, or seals the books. `Damaged(Rule::Key)`: others are closed up to the same last one, or the
+/// books are sealed.
+pub fn add_closing<S: Alter>(
+    tx: &mut Transaction<'_, S>,
+    row: &ClosingRow,
+) -> Result<(), TableFault>
+    requires { IsSoundClosing row.now }
+    ensures adds { AddsRow S.Store tx.old tx.new text.now (given (closing_entry row.now)) table
+        (λ tables. is_some (row_at closing_key tables.closings row.now.last)) (with_closing row.now) result }
     // Whatever rows the file holds.
     ensures lies { PutsLying S.Store tx.old tx.new table result }
 {
-    let key = SEAL as i64;
-    put_in(tx, ADD_CLOSING, params![key, key])
+    let last = row.last as i64;
+    let first = row.first as i64;
+    put_in(tx, ADD_CLOSING, params![last, first])
 }

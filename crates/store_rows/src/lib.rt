@@ -70,7 +70,7 @@ mod texts;
 
 pub use beyond::{Numbered, find_beyond};
 pub use branches::{add_branch, find_branch, next_branch};
-pub use closings::{add_seal, find_seal, next_closing};
+pub use closings::{add_closing, find_seal, next_closing};
 pub use commits::commit;
 pub use creation::{create, create_tables};
 pub use definitions::other_table;

@@ -1,12 +1,10 @@
 -- The one view of a database as the tables of a bank.
 use Rattle.std.specs.Prelude.{◌≡◌, ◌<◌, ◌+◌, ℕ, ℤ, pos, nat_abs, List, [], ◌∷◌, map, take}
-use Rattle.std.specs.List.{AllByRecursion}
 use Rattle.sqlite.specs.Schema.{Schema}
 use Rattle.sqlite.specs.Table.{Table}
 use Rattle.sqlite.specs.Tree.{Trees}
 use Rattle.sqlite.specs.Effect.{Database, IsDatabase}
 use Rattle.message_records.specs.believed.Outcomes.{code_of}
-use Rattle.posting_rules.specs.believed.Closings.{seal}
 use Rattle.posting_rules.specs.believed.Tables.{Tables}
 use Rattle.posting_rules.specs.declared.rows.BranchRow.{BranchRow}
 use Rattle.posting_rules.specs.declared.rows.TellerRow.{TellerRow}
@@ -84,17 +82,12 @@ tables_of version = take (5 + version) bank_tables
 abbrev pub contents_of : ℕ → Tables → List (List Entry)
 contents_of version t = (meta_entry (pos version) t.decided ∷ []) ∷ take (4 + version) (rows_of t)
 
--- so far no numbers are closed: the seal alone may stand among them
-abbrev pub HasSealAlone : List ClosingRow → Type 0
-HasSealAlone rows = AllByRecursion (λ r. r ≡ seal) rows
-
 -- a sound database defines the tables of a version and holds these rows by rising keys, whatever else it has; before
--- version 4 no books were sealed
+-- version 4 no numbers were closed, and no books sealed
 pub record ShowsAs (version : ℕ) (db : Database) (t : Tables) : Type 0 where
   pub sound : ∥ IsDatabase db ∥₁
   pub each : HoldsEach db (tables_of version) (contents_of version t)
   pub early : version < 4 → t.closings ≡ []
-  pub alone : HasSealAlone t.closings
 
 -- a sound database has the tables of a bank with these rows
 abbrev pub Shows : Database → Tables → Type 0
