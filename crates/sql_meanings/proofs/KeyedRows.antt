@@ -93,11 +93,11 @@ pub wrote_beside : (old new : State) (table : Table) → table.references ≡ []
     → OthersStay old.now new.now table
 wrote_beside old new table free defined edit count at wrote = record {
   schema = wrote.schema;
-  rows = λ other free' apart d k.
-      ap (filter (has_rowid k)) (ap (λ (s : Schema). new.now.trees (tree_of s other.name)) wrote.schema
+  rows = λ other free' apart d.
+      ap (λ (s : Schema). new.now.trees (tree_of s other.name)) wrote.schema
       ∙ wrote.leaves.others (placed_at other (tree_of old.now.schema other.name))
       (defined_stands old.now.schema other free' d)
-      (λ same. trees_apart old.now.schema other table free' free d defined apart (same ∙ at)));
+      (λ same. trees_apart old.now.schema other table free' free d defined apart (same ∙ at));
 }
 
 -- an INSERT of given values leaves them

@@ -7,7 +7,7 @@ use Rattle.sqlite.specs.Command.TheVariants.{Select}
 use Rattle.sql_meanings.specs.believed.Entries.{Entry, IsTree}
 use Rattle.sql_meanings.specs.{Entries.listed, StatementAnswers.TellsRow}
 use Rattle.sql_meanings.specs.believed.Tables.{Defines, placed_at, tree_of}
-use Rattle.sql_meanings.proofs.{Statements.HasTable, Means.Means, TablesBeside.standing}
+use Rattle.sql_meanings.proofs.{Statements.HasTable, Means.Means, TablesBeside.Standing, TablesBeside.standing}
 use Rattle.sql_meanings.proofs.PlainReads.{first_answers, none_or_fails}
 use Rattle.std.specs.Prelude.{◌≡◌, ◌^◌, ◌∷◌}
 
@@ -42,29 +42,26 @@ no_row : {X : Type 0} (show : X → Row) (o : Option X) → [] ≡ map show (lis
 no_row show None h = refl
 no_row show (Some x) h = absurd cc
 
-module _ (old new : State) (table : Table) (free : table.references ≡ []) (sound : ∥ IsDatabase old.now ∥₁)
-    (defined : Defines old.now.schema table)
+module _ (old new : State) (table : Table) (at : Standing old.now.schema table)
     (text : List ℕ) (params : Row) (query : ℕ → Query) (reads : ReadsAs table text params query) where
   abbrev tree : ℕ
   tree = tree_of old.now.schema table.name
 
   -- `query_row` answers the first row of what the query shows, where that is one row at most
-  pub reads_row : {X : Type 0} (found : Option X) (show : X → Row)
+  pub reads_standing : {X : Type 0} (found : Option X) (show : X → Row)
       → ((nat_le (2 ^ 31) tree ≡ false) → (rows : List Row)
       → IsSureAnswer (query tree) (overlay old.now.trees []) params rows
       → rows ≡ map show (listed found))
       → (r : Result Row Error) → QueriesRowInside text params old new r
       → TellsRow old new (option_map show found) r
-  reads_row found show answer (Ok row) h =
-      let at = standing old.now table free sound defined in
+  reads_standing found show answer (Ok row) h =
       let m = reads.means old.now.schema at.place tree at.has in
       let accepts = reads.accepts old.now.schema at.place tree at.has in
       let got = first_answers old.now.schema text params (query tree) reads.names m accepts
       (reads.unfolded tree)
       (reads.ungrouped tree) old new refl row h in
       (one_row show found row got.0.0 (answer at.has.low (row ∷ got.0.0) got.0.1), got.1)
-  reads_row found show answer (Err e) h =
-      let at = standing old.now table free sound defined in
+  reads_standing found show answer (Err e) h =
       let m = reads.means old.now.schema at.place tree at.has in
       let accepts = reads.accepts old.now.schema at.place tree at.has in
       elim (none_or_fails old.now.schema text params (query tree) reads.names m accepts (reads.unfolded tree)
@@ -72,3 +69,15 @@ module _ (old new : State) (table : Table) (free : table.references ≡ []) (sou
         | inl none ↦ inl (none.0, no_row show found (answer at.has.low [] none.1), none.2)
         | inr fails ↦ inr fails
       ]
+
+module _ (old new : State) (table : Table) (free : table.references ≡ []) (sound : ∥ IsDatabase old.now ∥₁)
+    (defined : Defines old.now.schema table)
+    (text : List ℕ) (params : Row) (query : ℕ → Query) (reads : ReadsAs table text params query) where
+  -- the same of a sound database
+  pub reads_row : {X : Type 0} (found : Option X) (show : X → Row)
+      → ((nat_le (2 ^ 31) (tree_of old.now.schema table.name) ≡ false) → (rows : List Row)
+      → IsSureAnswer (query (tree_of old.now.schema table.name)) (overlay old.now.trees []) params rows
+      → rows ≡ map show (listed found))
+      → (r : Result Row Error) → QueriesRowInside text params old new r
+      → TellsRow old new (option_map show found) r
+  reads_row = reads_standing old new table (standing old.now table free sound defined) text params query reads

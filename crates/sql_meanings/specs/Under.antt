@@ -9,12 +9,16 @@ pub record IsStored (schema : Schema) (table : Table) : Type 0 where
   pub defined : Defines schema table
   pub low : nat_le (2 ^ 31) (tree_of schema table.name) ≡ false
 
--- the rows of the table that lie under a key
+-- the rows of the table, as they lie
+abbrev pub rows_of : Database → Table → List Row
+rows_of db table = db.trees (tree_of db.schema table.name)
+
+-- those that lie under a key
 abbrev pub rows_under : Database → Table → ℤ → List Row
-rows_under db table k = filter (has_rowid k) (db.trees (tree_of db.schema table.name))
+rows_under db table k = filter (has_rowid k) (rows_of db table)
 
 -- the schema is as it was, and every other table that it defines has the rows that it had
 pub record OthersStay (old new : Database) (table : Table) : Type 0 where
   pub schema : new.schema ≡ old.schema
   pub rows : (other : Table) → other.references ≡ [] → other.name ≢ table.name → Defines old.schema other
-      → (k : ℤ) → rows_under new other k ≡ rows_under old other k
+      → rows_of new other ≡ rows_of old other
