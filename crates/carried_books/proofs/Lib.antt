@@ -1,5 +1,1 @@
-pub mod Runs
-pub mod Joined
-pub mod FirstApart
-pub mod Sought
 pub mod Shown

@@ -23,7 +23,7 @@ use Rattle.posting_rules.proofs.NamedOpen.{all_name_open}
 use Rattle.posting_rules.proofs.NoBalance.{account_none, branch_none, teller_none}
 use Rattle.posting_rules.proofs.Requests.{are_new, kept_shown}
 use Rattle.carried_books.specs.Carrying.{CarriesShown, is_of_desk, SameStanding, number_of, used_runs}
-use Rattle.carried_books.proofs.Runs.{any-append}
+use Rattle.posting_rules.proofs.Runs.{any-append}
 
 -- ---- balances
 

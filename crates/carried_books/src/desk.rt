@@ -3,9 +3,8 @@ ghost use Rattle.std.specs.Prelude.{◌≡◌, true, false, MatchOption};
 ghost use Rattle.std.specs.List.{AllByRecursion};
 ghost use Rattle.carried_books.specs.Carrying.{is_of_desk};
 
-use crate::number_runs::NumberRuns;
 use message_records::Branch;
-use posting_rules::{RequestRow, branch_of_teller, number_key};
+use posting_rules::{NumberRuns, RequestRow, branch_of_teller, number_key};
 
 // Tests whether a kept request is of a teller of the desk, or its number was used.
 fn is_of_desk(desk: Branch, used: &NumberRuns, row: &RequestRow) -> bool

@@ -8,9 +8,10 @@ ghost use Rattle.posting_rules.specs.believed.Commands.{number_key};
 ghost use Rattle.posting_rules.specs.believed.Numbering.{branch_of_teller};
 ghost use Rattle.carried_books.specs.Forward.{IsAllowed};
 
-use crate::number_runs::NumberRuns;
 use message_records::{Account, Branch, Cents, Number, Request, Teller};
-use posting_rules::{NUMBERS_PER_TELLER, branch_of_teller, first_account, first_teller};
+use posting_rules::{
+    NUMBERS_PER_TELLER, NumberRuns, branch_of_teller, first_account, first_teller,
+};
 use std::alloc::{AllocError, Global};
 
 // The most that one posting brings, in cents.

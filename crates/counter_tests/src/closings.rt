@@ -1,11 +1,12 @@
 //! Closed books: their numbers are refused, what is kept gets its first reply, and a seal decides nothing more; and new
 //! books that begin with the balances of old ones by postings of a desk.
-use carried_books::{Forward, Lack, NumberRuns};
+use carried_books::{Forward, Lack};
 use message_records::{
     Account, Branch, Cents, Moment, Number, Outcome, REPLY_BYTES, Request, Teller, decode_reply,
     encode_request,
 };
 use posting_core::{Closing, ClosingRow, Counter, PlainBank, branch_of_teller};
+use posting_rules::NumberRuns;
 use std::alloc::{AllocError, Global};
 
 // The outcome of a cent to account 1, by teller 1 of branch 1, under this number.

@@ -1,14 +1,14 @@
 -- Commands on whatever tables a counter shows, taken one after another.
-use Rattle.std.proofs.Common.{◌≡◌, ◌≢◌, ℕ, ◌+◌, ◌<◌, ◌≤◌, Bool, true, false, cond, eqb, leb, List, [], ◌∷◌, ◌++◌}
+use Rattle.std.proofs.Common.{◌≡◌, ℕ, ◌+◌, ◌<◌, ◌≤◌, true, false, cond, eqb, leb, List, [], ◌∷◌, ◌++◌}
 use Rattle.std.proofs.Common.{Option, Some, None, Result, Ok, Err, refl, sym, ap, subst, ◌∙◌, arith, inl, inr}
 use Rattle.std.specs.{Prelude.ℤ, Prelude.pos, Prelude.IfSome, Option.option_map, Prelude.◌&&◌}
-use Rattle.std.proofs.lemmas.Bool.{and_parts, eqb-true, eq-eqb, Decides.nat_tests}
+use Rattle.std.proofs.lemmas.Bool.{and_parts, eqb-true, Decides.nat_tests}
 use Rattle.message_records.specs.believed.{Ranges.whole_within, Reading.request_of, Records.RequestFields}
 use Rattle.message_records.specs.declared.{fault.Bad.Bad, limits.TheConstants.MAX_BRANCH}
 use Rattle.posting_rules.specs.believed.ByCommands.{HasRoomForAll, TakesByTables, tables_past_command, tables_past_commands}
 use Rattle.posting_rules.specs.ByCommands.{RepliesByTables, replies_past_commands}
 use Rattle.posting_rules.specs.{believed.Changes.tables_closed, ChangesByKey.is_from}
-use Rattle.posting_rules.specs.believed.AnyTables.{AnswersByTables, HasRoom, HasRoomToOpen, HasSameRows, IsReadyToOpen}
+use Rattle.posting_rules.specs.believed.AnyTables.{AnswersByTables, HasRoom, HasSameRows, IsReadyToOpen}
 use Rattle.posting_rules.specs.believed.AnyTables.{OpensByTables}
 use Rattle.posting_rules.specs.believed.Changes.{floor_put, new_account, new_teller, opened_where, replies_past_all}
 use Rattle.posting_rules.specs.believed.Changes.{reply_past, row_changed, row_put, rows_put, tables_after, tables_opened}

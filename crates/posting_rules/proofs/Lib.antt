@@ -42,3 +42,7 @@ pub mod Records
 pub mod AnyTables
 pub mod SameRows
 pub mod ByCommands
+pub mod Runs
+pub mod Joined
+pub mod FirstApart
+pub mod Sought

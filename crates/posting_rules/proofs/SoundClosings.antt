@@ -1,12 +1,12 @@
 -- What a log closes are numbers of one teller each, or the seal.
-use Rattle.std.proofs.Common.{◌≡◌, ◌≤◌, ◌<◌, ◌+◌, ◌*◌, ℕ, Bool, true, false, List, [], ◌∷◌, Option, Some, None, refl}
+use Rattle.std.proofs.Common.{◌≡◌, ◌≤◌, ◌<◌, ℕ, Bool, true, false, List, [], ◌∷◌, Some, refl}
 use Rattle.std.proofs.Common.{subst, arith, inl, inr}
-use Rattle.std.specs.Prelude.{◌/◌, ◌%◌, ◌==◌, ◌&&◌, ◌||◌, ◌⊎◌, nat_le, nat_lt}
-use Rattle.std.specs.List.{find, AllByRecursion}
+use Rattle.std.specs.Prelude.{◌/◌, ◌%◌, ◌==◌, ◌||◌, nat_le, nat_lt}
+use Rattle.std.specs.List.{AllByRecursion}
 use Rattle.std.proofs.lemmas.Bool.Decides.{nat_tests}
-use Rattle.posting_rules.specs.declared.limits.TheConstants.{LAST_KEY, NUMBERS_PER_TELLER}
+use Rattle.posting_rules.specs.declared.limits.TheConstants.{NUMBERS_PER_TELLER}
 use Rattle.posting_rules.specs.declared.rows.ClosingRow.{ClosingRow}
-use Rattle.posting_rules.specs.believed.Closings.{are_free, closings, is_closing, is_run, run_of}
+use Rattle.posting_rules.specs.believed.Closings.{are_free, closings, is_run, run_of}
 use Rattle.posting_rules.specs.believed.Commands.{Command, Open, Post, Close, AreCommands, IsCommand, IsRun}
 use Rattle.posting_rules.specs.believed.Damage.{IsSoundClosing}
 use Rattle.posting_rules.specs.believed.Tables.{row_at, closing_key}

@@ -1,5 +1,5 @@
 -- A row that is put in, and the rows that a posting changes.
-use Rattle.std.specs.Prelude.{ℕ, ◌≡◌}
+use Rattle.std.specs.Prelude.{◌≡◌}
 use Rattle.std.specs.Prelude.{IsSome}
 use Rattle.posting_rules.specs.believed.Tables.{Tables, branch_key, teller_key, account_key}
 use Rattle.posting_rules.specs.believed.Tables.{closing_key, row_at}

@@ -15,3 +15,4 @@ pub mod Sound
 pub mod Branches
 pub mod ByCommands
 pub mod Alike
+pub mod Numbers

@@ -41,6 +41,7 @@ mod fault;
 mod judgments;
 mod laws;
 mod limits;
+mod number_runs;
 mod numbering;
 mod open_fault;
 mod rows;
@@ -59,6 +60,7 @@ pub use limits::{
     ACCOUNTS_PER_BRANCH, LAST_BRANCH, LAST_KEY, MAX_ACCOUNTS, MAX_DECIDED, NUMBERS_PER_TELLER,
     RECORDS_PER_BATCH, TELLERS_PER_BRANCH,
 };
+pub use number_runs::NumberRuns;
 pub use numbering::{
     branch_of_account, branch_of_teller, first_account, first_teller, number_key, place_of_account,
 };

@@ -1,6 +1,5 @@
-//! The first program of `carried_books`.
-use carried_books::NumberRuns;
-use posting_rules::ClosingRow;
+//! The first program of numbers as runs.
+use posting_rules::{ClosingRow, NumberRuns};
 use std::alloc::{AllocError, Global};
 
 pub fn first_runs(alloc: Global) -> Result<Option<u64>, AllocError> {

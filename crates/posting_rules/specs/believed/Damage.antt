@@ -1,5 +1,5 @@
 -- What holds of all tables that a log leads to. Tables of which it doesn't hold are damaged.
-use Rattle.std.specs.Prelude.{ℤ, ◌≡◌, ◌≤◌, ◌≤ℤ◌, ℕ, ◌+◌, ◌*◌, nat_abs, List, length, None, is_some, IsTrue, IfSome}
+use Rattle.std.specs.Prelude.{ℤ, ◌≡◌, ◌≤◌, ◌≤ℤ◌, ℕ, ◌+◌, ◌*◌, nat_abs, length, None, is_some, IsTrue, IfSome}
 use Rattle.std.specs.List.{Contains}
 use Rattle.posting_rules.specs.declared.limits.TheConstants.{LAST_KEY, MAX_DECIDED, LAST_BRANCH, MAX_ACCOUNTS}
 use Rattle.posting_rules.specs.declared.limits.TheConstants.{ACCOUNTS_PER_BRANCH, TELLERS_PER_BRANCH}

@@ -1,11 +1,36 @@
-//! Numbers of tellers by their keys, as runs that don't touch.
+//! Numbers of tellers by their keys, as runs that don't touch. The function `first_runs` of `counter_tests`, which a test
+//! runs, brings together the keys 7, 8, 3 and 8, and returns the first number that they have and the run from 7 to 8
+//! hasn't, which is 3:
+//!
+//! ```rust
+//! use posting_rules::{ClosingRow, NumberRuns};
+//! use std::alloc::{AllocError, Global};
+//!
+//! pub fn first_runs(alloc: Global) -> Result<Option<u64>, AllocError> {
+//!     let mut used = Vec::new(alloc);
+//!     for key in [7, 8, 3, 8] {
+//!         used.push(ClosingRow {
+//!             last: key,
+//!             first: key,
+//!         })?;
+//!     }
+//!     let mut closed = Vec::new(alloc);
+//!     closed.push(ClosingRow { last: 8, first: 7 })?;
+//!     let used = NumberRuns::of(alloc, used)?;
+//!     let closed = NumberRuns::of(alloc, closed)?;
+//!     Ok(used.first_difference(&closed))
+//! }
+//! ```
 ghost use Rattle.std.specs.Prelude.{◌≡◌, ◌<◌, true, ◌≤◌, ◌+◌, ◌++◌, ◌||◌, ℕ, List, Option, IfOk, IfSome, MatchOption, OnOk, []};
 ghost use Rattle.std.specs.Prelude.{nat_le, slice_get};
 ghost use Rattle.posting_rules.specs.declared.rows.ClosingRow.{ClosingRow as Run};
-ghost use Rattle.posting_rules.specs.believed.Closings.{is_closed_in, meets};
-ghost use Rattle.carried_books.specs.Numbers.{BeginsBy, ComesAfter, DifferAt, NextAbove, NoneAbove, RiseFrom, SameNumbers, apart_at, as_list};
+ghost use Rattle.posting_rules.specs.believed.Closings.{books_of, is_closed_in, meets};
+ghost use Rattle.posting_rules.specs.Numbers.{BeginsBy, ComesAfter, DifferAt, NextAbove, NoneAbove, RiseFrom, SameNumbers, apart_at, as_list};
 
-use posting_rules::ClosingRow;
+use crate::judgments::Books;
+use crate::numbering::number_key;
+use crate::rows::ClosingRow;
+use message_records::{Number, Teller};
 use std::alloc::{AllocError, Global};
 use std::marker::Model;
 
@@ -144,6 +169,20 @@ impl NumberRuns {
         match run_at(&self.runs, place) {
             Some(run) => run.first <= key,
             None => false,
+        }
+    }
+
+    /// What closed books say of a teller's number, where these are the numbers that they decided.
+    #[must_use]
+    pub fn books(&self, teller: Teller, number: Number) -> Books
+        ensures { result ≡ books_of self.now teller number }
+    {
+        if self.has(number_key(teller, number)) {
+            Books::Closed
+        } else if self.has(0) {
+            Books::Sealed
+        } else {
+            Books::Current
         }
     }
 

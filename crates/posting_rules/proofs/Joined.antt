@@ -7,8 +7,8 @@ use Rattle.std.proofs.lemmas.List.{get_or_default, take_more}
 use Rattle.std.proofs.lemmas.Bool.Decides.{nat_tests}
 use Rattle.posting_rules.specs.declared.rows.ClosingRow.{ClosingRow}
 use Rattle.posting_rules.specs.believed.Closings.{is_closed_in, meets}
-use Rattle.carried_books.proofs.Runs.{any-append}
-use Rattle.carried_books.specs.Numbers.{BeginsBy, ComesAfter, RiseFrom, RiseTo, as_list}
+use Rattle.posting_rules.proofs.Runs.{any-append}
+use Rattle.posting_rules.specs.Numbers.{BeginsBy, ComesAfter, RiseFrom, RiseTo, as_list}
 
 -- two runs that touch, of which the second begins no earlier, have the numbers of one from the first to the last of both
 pub joined_has : (f l g m k x : ℕ) → f ≤ l → f ≤ g → g ≤ l + 1 → g ≤ m → k ≡ max l m

@@ -5,10 +5,10 @@ use Rattle.std.specs.Prelude.{◌&&◌, ◌||◌, slice_get, IfSome}
 use Rattle.std.specs.List.Sorted.{IsNonDecreasingBy, IsPartitionPoint}
 use Rattle.std.proofs.lemmas.Bool.{leb-false, ltb-true, Decides.nat_tests}
 use Rattle.posting_rules.specs.declared.rows.ClosingRow.{ClosingRow}
-use Rattle.posting_rules.specs.believed.Closings.{is_closed_in, meets}
+use Rattle.posting_rules.specs.believed.Closings.{is_closed_in}
 use Rattle.posting_rules.proofs.Keyed.{by_test}
-use Rattle.carried_books.specs.Numbers.{RiseFrom}
-use Rattle.carried_books.proofs.Runs.{below_runs}
+use Rattle.posting_rules.specs.Numbers.{RiseFrom}
+use Rattle.posting_rules.proofs.Runs.{below_runs}
 
 -- a run, where there is one, begins by the number
 abbrev pub begins_by : ℕ → Option ClosingRow → Bool

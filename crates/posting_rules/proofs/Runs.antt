@@ -9,7 +9,7 @@ use Rattle.std.proofs.lemmas.List.Sorted.{All-permutation, IsPermutation-sym}
 use Rattle.posting_rules.specs.declared.rows.ClosingRow.{ClosingRow}
 use Rattle.posting_rules.specs.believed.Closings.{is_closed_in}
 use Rattle.posting_rules.proofs.Keyed.{by_test}
-use Rattle.carried_books.specs.Numbers.{RiseFrom}
+use Rattle.posting_rules.specs.Numbers.{RiseFrom}
 
 pub any-append : {X : Type 0} (test : X → Bool) (xs ys : List X) → list_any test (xs ++ ys) ≡ (list_any test xs || list_any test ys)
 any-append test [] ys = refl

@@ -1,6 +1,6 @@
 -- All of them rise.
-use Rattle.carried_books.proofs.Joined.{run_rises}
-use Rattle.carried_books.proofs.number_runs.Joining.finish.Goals as goal
+use Rattle.posting_rules.proofs.Joined.{run_rises}
+use Rattle.posting_rules.proofs.number_runs.Joining.finish.Goals as goal
 
 pub invariant_of-result-2 : goal.invariant_of-result-2
 invariant_of-result-2 c =

@@ -3,9 +3,9 @@ use Rattle.std.proofs.Common.{rules, ◌≡◌, ◌∙◌, ◌<◌, ℕ, Option,
 use Rattle.std.specs.Prelude.{IfSome, MatchOption}
 use Rattle.std.proofs.lemmas.List.Sorted.{IsPartitionedBy-leb, IsPartitionPoint-from_clause}
 use Rattle.posting_rules.specs.declared.rows.ClosingRow.{ClosingRow}
-use Rattle.carried_books.specs.Numbers.{NextAbove, NoneAbove, RiseFrom}
-use Rattle.carried_books.proofs.Sought.{ends_above, free_between, lasts_rise}
-use Rattle.carried_books.proofs.number_runs.NumberRuns.next_above.Goals as goal
+use Rattle.posting_rules.specs.Numbers.{NextAbove, NoneAbove, RiseFrom}
+use Rattle.posting_rules.proofs.Sought.{ends_above, free_between, lasts_rise}
+use Rattle.posting_rules.proofs.number_runs.NumberRuns.next_above.Goals as goal
 
 pub returns-then-run-key : goal.returns-then-run-key
 returns-then-run-key c =

@@ -1,7 +1,7 @@
 -- The run that was made longer comes before the next.
 use Rattle.std.proofs.Common.{sym, ◌∙◌, arith}
-use Rattle.carried_books.proofs.Joined.{next_apart}
-use Rattle.carried_books.proofs.number_runs.Joining.add.Goals as goal
+use Rattle.posting_rules.proofs.Joined.{next_apart}
+use Rattle.posting_rules.proofs.number_runs.Joining.add.Goals as goal
 
 pub returns-clause-done : goal.returns-clause-done
 returns-clause-done c = (

@@ -4,8 +4,8 @@ use Rattle.std.specs.Prelude.{IsPermutation}
 use Rattle.std.specs.List.Sorted.{IsNonDecreasingBy}
 use Rattle.posting_rules.specs.declared.rows.ClosingRow.{ClosingRow}
 use Rattle.posting_rules.specs.believed.Closings.{is_closed_in}
-use Rattle.carried_books.specs.Numbers.{BeginsBy, ComesAfter, as_list}
-use Rattle.carried_books.proofs.number_runs.NumberRuns.of.Given as goal
+use Rattle.posting_rules.specs.Numbers.{BeginsBy, ComesAfter, as_list}
+use Rattle.posting_rules.proofs.number_runs.NumberRuns.of.Given as goal
 
 abbrev pub invariant-loop-run : goal.invariant-loop-run
 invariant-loop-run l = record {

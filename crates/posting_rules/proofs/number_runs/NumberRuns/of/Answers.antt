@@ -6,10 +6,10 @@ use Rattle.std.specs.List.Sorted.{IsNonDecreasingBy}
 use Rattle.std.proofs.lemmas.List.Sorted.{IsNonDecreasingBy-from_sort_by_key}
 use Rattle.posting_rules.specs.declared.rows.ClosingRow.{ClosingRow as Run}
 use Rattle.posting_rules.specs.believed.Closings.{is_closed_in, meets}
-use Rattle.carried_books.specs.Numbers.{SameNumbers, as_list}
-use Rattle.carried_books.proofs.Joined.{begins_then, if_ok, none_begins, numbers_then}
-use Rattle.carried_books.proofs.Runs.{any_permuted}
-use Rattle.carried_books.proofs.number_runs.NumberRuns.of.Goals as goal
+use Rattle.posting_rules.specs.Numbers.{SameNumbers, as_list}
+use Rattle.posting_rules.proofs.Joined.{begins_then, if_ok, none_begins, numbers_then}
+use Rattle.posting_rules.proofs.Runs.{any_permuted}
+use Rattle.posting_rules.proofs.number_runs.NumberRuns.of.Goals as goal
 
 pub loop-run-init : goal.loop-run-init
 loop-run-init c =

@@ -1,8 +1,8 @@
 -- The first place at which they differ, or none.
 use Rattle.std.proofs.Common.{rules, ◌≡◌, ◌∙◌, sym, subst, arith}
-use Rattle.carried_books.specs.Numbers.{RiseFrom}
-use Rattle.carried_books.proofs.FirstApart.{differ_here, none_here, of_places, same_all}
-use Rattle.carried_books.proofs.number_runs.NumberRuns.first_difference.Goals as goal
+use Rattle.posting_rules.specs.Numbers.{RiseFrom}
+use Rattle.posting_rules.proofs.FirstApart.{differ_here, none_here, of_places, same_all}
+use Rattle.posting_rules.proofs.number_runs.NumberRuns.first_difference.Goals as goal
 
 pub returns-in-Some : goal.returns-in-Some
 returns-in-Some c =

@@ -2,9 +2,9 @@
 use Rattle.std.proofs.Common.{rules, ◌≡◌, ◌∙◌, ltb, sym, subst, ap}
 use Rattle.std.proofs.lemmas.List.Sorted.{IsPartitionedBy-ltb, IsPartitionPoint-from_clause}
 use Rattle.posting_rules.specs.declared.rows.ClosingRow.{ClosingRow}
-use Rattle.carried_books.specs.Numbers.{RiseFrom}
-use Rattle.carried_books.proofs.Sought.{begins_by, has_is, lasts_rise}
-use Rattle.carried_books.proofs.number_runs.NumberRuns.has.Goals as goal
+use Rattle.posting_rules.specs.Numbers.{RiseFrom}
+use Rattle.posting_rules.proofs.Sought.{begins_by, has_is, lasts_rise}
+use Rattle.posting_rules.proofs.number_runs.NumberRuns.has.Goals as goal
 
 pub returns-in-Some : goal.returns-in-Some
 returns-in-Some c =

@@ -7,8 +7,8 @@ use Rattle.std.proofs.lemmas.Bool.Decides.{nat_tests}
 use Rattle.posting_rules.specs.declared.rows.ClosingRow.{ClosingRow}
 use Rattle.posting_rules.specs.believed.Closings.{is_closed_in}
 use Rattle.posting_rules.proofs.Keyed.{by_test}
-use Rattle.carried_books.specs.Numbers.{DifferAt, RiseFrom, SameNumbers, apart_at, between}
-use Rattle.carried_books.proofs.Runs.{below_runs}
+use Rattle.posting_rules.specs.Numbers.{DifferAt, RiseFrom, SameNumbers, apart_at, between}
+use Rattle.posting_rules.proofs.Runs.{below_runs}
 
 abbrev or_else : Option ℕ → Option ℕ → Option ℕ
 or_else None next = next

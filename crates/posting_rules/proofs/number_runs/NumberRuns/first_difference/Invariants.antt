@@ -1,7 +1,7 @@
 -- The runs before the place are the same.
 use Rattle.std.proofs.Common.{◌≡◌, drop}
-use Rattle.carried_books.proofs.FirstApart.{first_apart}
-use Rattle.carried_books.proofs.number_runs.NumberRuns.first_difference.Given as goal
+use Rattle.posting_rules.proofs.FirstApart.{first_apart}
+use Rattle.posting_rules.proofs.number_runs.NumberRuns.first_difference.Given as goal
 
 abbrev pub invariant-loop-place : goal.invariant-loop-place
 invariant-loop-place l = first_apart l.one l.two ≡ first_apart (drop l.place l.one) (drop l.place l.two)
