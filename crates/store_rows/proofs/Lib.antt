@@ -41,3 +41,4 @@ pub mod Telling
 pub mod TheTables
 pub mod VersionRow
 pub mod Writes
+pub mod LyingClosings

@@ -72,8 +72,8 @@ pub left_beside : (old new : State) (table : Table) → IsBankFile old.now → O
     → LeavesBeside table old.now new.now
 left_beside old new table file stay = record {
   file = subst (λ (s : Schema). AllByRecursion (IsStored s) bank_tables) (sym stay.schema) file;
-  beside = λ other among apart k. stay.rows other (all_has (λ (t : Table). t.references ≡ []) bank_tables other free among) apart
-      (all_has (IsStored old.now.schema) bank_tables other file among).defined k;
+  beside = λ other among apart. stay.rows other (all_has (λ (t : Table). t.references ≡ []) bank_tables other free among) apart
+      (all_has (IsStored old.now.schema) bank_tables other file among).defined;
 }
 
 -- ---- a look-up

@@ -1,5 +1,5 @@
 -- What lies under a key is what a look-up of it finds among the rows that a file holds.
-use Rattle.std.proofs.Common.{◌≡◌, ◌∙◌, ℕ, ℤ, pos, find, List, [], ◌∷◌, map, slice_get, Some, None, Option, Ok, Err}
+use Rattle.std.proofs.Common.{◌≡◌, ◌∙◌, ℕ, ℤ, pos, List, [], ◌∷◌, map, Some, None, Option, Ok, Err}
 use Rattle.std.proofs.Common.{Result, refl, sym, ap, subst, inl, inr}
 use Rattle.std.proofs.Math.Logic.{∥∥₁_elim, ∥∥₁_map}
 use Rattle.std.specs.Coded.{Coded, code_by, coded×, coded_ℕ, coded_ℤ}
@@ -8,11 +8,11 @@ use Rattle.sqlite.specs.{Effect.Database, Order.Row, Order.column, Table.Table}
 use Rattle.sqlite_rules.specs.Lists.{Has}
 use Rattle.posting_rules.specs.declared.fault.Rule.{Rule}
 use Rattle.posting_rules.specs.declared.rows.{BranchRow.BranchRow, ClosingRow.ClosingRow, FloorRow.FloorRow}
-use Rattle.sql_meanings.specs.{Entries.listed, Under.rows_under}
-use Rattle.sql_meanings.specs.believed.{Entries.Entry, Entries.has_key, Entries.stored, Tables.Holds}
+use Rattle.sql_meanings.specs.{Entries.listed}
+use Rattle.sql_meanings.specs.believed.{Entries.Entry, Entries.stored, Tables.Holds}
 use Rattle.store_rows.specs.believed.BankTables as bank
 use Rattle.store_rows.specs.believed.BankTables.{bank_tables}
-use Rattle.store_rows.specs.{Holders.entry_under, Lying.BalanceLies, Lying.BranchLies, Lying.FloorLies, Lying.LiesAs, Lying.SealLies}
+use Rattle.store_rows.specs.{Holders.entry_under, Lying.BalanceLies, Lying.BranchLies, Lying.FloorLies, Lying.LiesAs}
 use Rattle.store_rows.specs.Lying.{IsBankFile}
 use Rattle.store_rows.specs.believed.Readings.{Reading, balance_of, branch_of, closing_of, floor_of, read_balance, read_branch}
 use Rattle.store_rows.specs.believed.Readings.{read_closing, read_floor}
@@ -88,17 +88,19 @@ coded_closing : Coded ClosingRow
 coded_closing = code_by (ℕ × ℕ) (coded× coded_ℕ coded_ℕ) (λ r. (r.last, r.first))
     (λ it. record { last = it.0; first = it.1 }) (λ r. refl)
 
+-- the row that seals the books
+pub finds_seal : (db : Database) (rows : List Entry) → Holds db bank.closing rows → (o : Option ClosingRow)
+    → LiesAs bank.closing (λ row. column row 0 ∷ column row 2 ∷ []) closing_of 0 db o
+    → FindsStored (row_under rows 0) read_closing (Ok o)
+finds_seal db rows holds o lies = finds_lying coded_closing bank.closing (λ row. column row 0 ∷ column row 2 ∷ [])
+    closing_of read_closing (λ e. refl) 0 db rows holds o ∣ lies ∣₁
+
 module _ (db : Database) (rows : StoredRows) (has : HoldsBank db rows) where
   pub finds_branch : (n : ℕ) (o : Option BranchRow) → ∥ BranchLies n db o ∥₁
       → FindsStored (row_under rows.branches n) read_branch (Ok o)
   finds_branch n = finds_lying coded_branch bank.branch (λ row. column row 0 ∷ column row 2 ∷ column row 3 ∷ [])
       branch_of read_branch (λ e. refl) n db rows.branches
       (holds_list db rows has 1 bank.branch rows.branches refl refl)
-
-  pub finds_seal : (o : Option ClosingRow) → ∥ SealLies db o ∥₁
-      → FindsStored (row_under rows.closings 0) read_closing (Ok o)
-  finds_seal = finds_lying coded_closing bank.closing (λ row. column row 0 ∷ column row 2 ∷ []) closing_of read_closing (λ e. refl)
-      0 db rows.closings (holds_list db rows has 8 bank.closing rows.closings refl refl)
 
   pub finds_floor : (n : ℕ) (o : Option FloorRow) → ∥ FloorLies n db o ∥₁
       → FindsStored (row_under rows.floors n) read_floor (Ok o)

@@ -16,7 +16,7 @@ use Rattle.sql_meanings.specs.Under.{rows_under}
 use Rattle.sql_meanings.proofs.{EntryLists.cast_int, Texts.columns_of}
 use Rattle.store_rows.specs.believed.BankTables as bank
 use Rattle.store_rows.specs.{Columns.meta_of, Statements.RunsUnder, believed.Readings.balance_of}
-use Rattle.store_rows.specs.believed.Readings.{branch_of, closing_of, floor_of, number}
+use Rattle.store_rows.specs.believed.Readings.{branch_of, floor_of, number}
 use Rattle.store_rows.specs.declared.fault.TableFault.{TableFault}
 use Rattle.store_rows.specs.declared.holders.Member.TheVariants as member
 use Rattle.store_rows.specs.Failures.{ReadsAnswer}
@@ -25,7 +25,7 @@ use Rattle.store_rows.specs.declared.holders.Holder.TheVariants as holder
 use Rattle.store_rows.specs.declared.metas.{StoredMeta.StoredMeta, TheConstants.META_ID}
 use Rattle.store_rows.specs.declared.texts.TheConstants as text
 use Rattle.store_rows.specs.Lying.{BalanceLies, BranchLies, FindsLying, FloorLies, MetaLies, SetsBalance, SetsDecided, SetsItsVersion, SetsLying}
-use Rattle.store_rows.specs.Lying.{PutsLying, SealLies}
+use Rattle.store_rows.specs.Lying.{PutsLying}
 use Rattle.store_rows.specs.{Statements.PutsRow, believed.SeveralRows.given}
 use Rattle.store_rows.specs.believed.View.{closing_entry, history_entry, reference_entry, request_entry}
 use Rattle.posting_rules.specs.believed.Tables.{history_key, request_key}
@@ -65,11 +65,6 @@ module _ {S : Type 0} (g : Ghosts S) (old new : Transaction S) (answer : Result 
       → Asked text.GET_BRANCH.now k → FindsLying g old new (BranchLies k) result
   branch_found k = finds_lying 1 bank.branch refl text.GET_BRANCH.now (columns_of bank.branch) k _ branch_of
       (gets.branch.reads (pos k)) (λ r. refl) g old new answer
-
-  pub seal_found : (result : Result (Option ClosingRow) TableFault) → ReadsAnswer closing_of answer result
-      → Asked text.GET_CLOSING.now 0 → FindsLying g old new SealLies result
-  seal_found = finds_lying 8 bank.closing refl text.GET_CLOSING.now (columns_of bank.closing) 0 _ closing_of
-      (gets.closing.reads (pos 0)) (λ r. refl) g old new answer
 
   pub floor_found : (k : ℕ) (result : Result (Option FloorRow) TableFault) → ReadsAnswer floor_of answer result
       → Asked text.GET_FLOOR.now k → FindsLying g old new (FloorLies k) result

@@ -1,6 +1,6 @@
 -- What lies in the tables of a bank under a key, whatever rows they have and in whatever order. So it is said of a file
 -- whose rows are damaged, too, that what was read or written under a key is still there.
-use Rattle.std.specs.Prelude.{◌≡◌, ◌≢◌, ℕ, ℤ, pos, [], ◌∷◌, true, false, Bool, Option, Some, None, Result, Ok, Err}
+use Rattle.std.specs.Prelude.{◌≡◌, ◌≢◌, ℕ, ℤ, pos, List, [], ◌∷◌, find, true, false, Bool, Option, Some, None, Result, Ok, Err}
 use Rattle.std.specs.Prelude.{IfOk, IsTrue, OnOk, ⊤}
 use Rattle.std.specs.List.{AllByRecursion}
 use Rattle.sqlite.specs.Effect.{Database}
@@ -15,10 +15,15 @@ use Rattle.sqlite_trees.specs.declared.store.Store.{Ghosts}
 use Rattle.posting_rules.specs.declared.rows.BranchRow.{BranchRow}
 use Rattle.posting_rules.specs.declared.rows.ClosingRow.{ClosingRow}
 use Rattle.posting_rules.specs.declared.rows.FloorRow.{FloorRow}
-use Rattle.sql_meanings.specs.Under.{IsStored, rows_under}
+use Rattle.sql_meanings.specs.Entries.{is_above}
+use Rattle.sql_meanings.specs.Under.{IsStored, rows_of, rows_under}
+use Rattle.sql_meanings.specs.believed.Entries.{Entry}
+use Rattle.sql_meanings.specs.believed.Tables.{Holds}
 use Rattle.store_rows.specs.believed.BankTables as bank
 use Rattle.store_rows.specs.believed.BankTables.{bank_tables}
-use Rattle.store_rows.specs.believed.Readings.{Reading, balance_of, branch_of, closing_of, floor_of}
+use Rattle.store_rows.specs.believed.Readings.{Reading, balance_of, branch_of, floor_of, read_closing}
+use Rattle.store_rows.specs.believed.Rules.{row_under}
+use Rattle.store_rows.specs.believed.Stored.{FindsStored}
 use Rattle.store_rows.specs.Columns.{meta_of}
 use Rattle.store_rows.specs.declared.holders.Holder.{Holder}
 use Rattle.store_rows.specs.declared.holders.Holder.TheVariants as holder
@@ -53,10 +58,6 @@ abbrev pub BalanceLies : Member → Database → Option ℤ → Type 0
 BalanceLies (Account account) = LiesAs bank.account (λ row. column row 2 ∷ []) balance_of account
 BalanceLies (Teller teller) = LiesAs bank.teller (λ row. column row 2 ∷ []) balance_of teller
 
--- the row that seals the books
-abbrev pub SealLies : Database → Option ClosingRow → Type 0
-SealLies = LiesAs bank.closing (λ row. column row 0 ∷ column row 2 ∷ []) closing_of 0
-
 -- the row of the bank
 abbrev pub MetaLies : Database → Option StoredMeta → Type 0
 MetaLies = LiesAs bank.meta (λ row. column row 2 ∷ column row 3 ∷ []) meta_of META_ID
@@ -64,6 +65,20 @@ MetaLies = LiesAs bank.meta (λ row. column row 2 ∷ column row 3 ∷ []) meta_
 -- the row of the bank counts so many decided requests, whatever else it has
 abbrev pub CountLies : Database → ℕ → Type 0
 CountLies db n = (row : Row) × Has (rows_under db bank.meta (pos META_ID)) row × (column row 3 ≡ Int (pos n))
+
+-- ---- the closed numbers, all of which are read
+
+-- whatever rows of numbers their table has, by rising keys
+abbrev pub OfClosings : (List Entry → Type 0) → Database → Type 0
+OfClosings P db = (rows : List Entry) → Holds db bank.closing rows → P rows
+
+-- the row that seals the books reads as this
+abbrev pub SealLies : Database → Option ClosingRow → Type 0
+SealLies db found = OfClosings (λ rows. FindsStored (row_under rows 0) read_closing (Ok found)) db
+
+-- the first row above a key does
+abbrev pub NextLies : ℕ → Database → Option ClosingRow → Type 0
+NextLies after db found = OfClosings (λ rows. FindsStored (find (is_above (pos after)) rows) read_closing (Ok found)) db
 
 -- ---- what a look-up finds
 
@@ -79,7 +94,7 @@ FindsLying g old new Lies result = IfOk result (λ found. HasCleanDisk (state g 
 pub record LeavesBeside (table : Table) (old new : Database) : Type 0 where
   pub file : IsBankFile new
   pub beside : (other : Table) → Has bank_tables other → other.name ≢ table.name
-      → (k : ℤ) → rows_under new other k ≡ rows_under old other k
+      → rows_of new other ≡ rows_of old other
 
 -- the table too, but for one key
 pub record LeavesOthers (table : Table) (key : ℕ) (old new : Database) : Type 0 where

@@ -6,7 +6,7 @@ ghost use Rattle.posting_rules.specs.believed.Tables.{closing_key, row_at};
 ghost use Rattle.posting_rules.specs.declared.limits.TheConstants.{LAST_KEY as MOST};
 ghost use Rattle.sql_meanings.specs.Entries.{is_above};
 ghost use Rattle.store_rows.specs.Calls.{AddsRow, LooksUp};
-ghost use Rattle.store_rows.specs.Lying.{FindsLying, PutsLying, SealLies};
+ghost use Rattle.store_rows.specs.Lying.{FindsLying, NextLies, PutsLying, SealLies};
 ghost use Rattle.store_rows.specs.believed.BankTables.{closing as table};
 ghost use Rattle.store_rows.specs.believed.Readings.{read_closing};
 ghost use Rattle.store_rows.specs.believed.Rules.{row_under};
@@ -52,7 +52,9 @@ pub fn next_closing<S: Alter>(
     after: u64,
 ) -> Result<Option<ClosingRow>, TableFault>
     requires { after ≤ MOST }
-    ensures { LooksUp S.Store tx.old tx.new (λ rows. find (is_above (pos after)) rows.closings) read_closing result }
+    ensures looks_up { LooksUp S.Store tx.old tx.new (λ rows. find (is_above (pos after)) rows.closings) read_closing result }
+    // Whatever rows the file holds.
+    ensures lies { FindsLying S.Store tx.old tx.new (NextLies after) result }
 {
     found(row_under(tx, NEXT_CLOSING, after))
 }

@@ -1,6 +1,6 @@
 -- What there is under the key of the seal.
 use Rattle.store_rows.specs.believed.Readings.{closing_of}
-use Rattle.store_rows.proofs.{LyingRows.seal_found, Seeking.seeks_closing, Telling.looks_up}
+use Rattle.store_rows.proofs.{LyingClosings.seal_found, Seeking.seeks_closing, Telling.looks_up}
 use Rattle.store_rows.proofs.closings.find_seal.Goals as goal
 
 pub returns-clause-looks_up : goal.returns-clause-looks_up
