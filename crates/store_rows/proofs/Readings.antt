@@ -13,9 +13,9 @@ use Rattle.message_records.specs.declared.limits.TheConstants.{MAX_ACCOUNT, MAX_
 use Rattle.message_records.specs.declared.limits.TheConstants.{MAX_MOMENT, MAX_NUMBER, MAX_TELLER}
 use Rattle.message_records.proofs.SpelledReplies.{outcome_with-code}
 use Rattle.posting_rules.specs.believed.Damage.{IsSoundAccount, IsSoundBranch, IsSoundFloor, IsSoundPosting}
-use Rattle.posting_rules.specs.believed.Closings.{is_closing}
+use Rattle.posting_rules.specs.believed.Closings.{is_closing, run_of}
 use Rattle.posting_rules.specs.believed.Damage.{IsSoundClosing, IsSoundReference, IsSoundRequest, IsSoundTeller}
-use Rattle.posting_rules.specs.declared.fault.Rule.{Rule, TheVariants.Balance, TheVariants.Floor}
+use Rattle.posting_rules.specs.declared.fault.Rule.{Rule, TheVariants.Balance, TheVariants.Closing, TheVariants.Floor}
 use Rattle.posting_rules.specs.declared.fault.Rule.TheVariants.{Value as OfValue}
 use Rattle.posting_rules.specs.declared.limits.TheConstants.{ACCOUNTS_PER_BRANCH, LAST_BRANCH, MAX_ACCOUNTS}
 use Rattle.posting_rules.specs.declared.limits.TheConstants.{LAST_KEY, MAX_DECIDED, TELLERS_PER_BRANCH}
@@ -24,7 +24,7 @@ use Rattle.posting_rules.specs.declared.rows.{HistoryRow.HistoryRow, ReferenceRo
 use Rattle.posting_rules.specs.declared.rows.TellerRow.{TellerRow}
 use Rattle.sql_meanings.specs.believed.Entries.{Entry, numbers, texts_held}
 use Rattle.store_rows.specs.believed.{Columns.number_at, SeveralRows.given}
-use Rattle.store_rows.specs.believed.Readings.{branch_of, cents, floor_of, lowest}
+use Rattle.store_rows.specs.believed.Readings.{branch_of, cents, closing_of, floor_of, lowest}
 use Rattle.store_rows.specs.believed.Readings.{read_account, read_balance, read_branch, read_floor}
 use Rattle.store_rows.specs.believed.Readings.{read_closing, read_posting, read_reference, read_request, read_teller}
 use Rattle.store_rows.specs.believed.Readings.{whole}
@@ -159,6 +159,26 @@ low_floor row f is = (floor_parts row f is).1
 
 pub floor_is : (e : Entry) (f : FloorRow) → read_floor e ≡ Ok f → number_at 0 e ≡ f.lowest
 floor_is e f is = number_is 0 e.values e.texts f.lowest (floor_parts (given e) f is).0
+
+-- the keys of closed numbers
+pub closing_parts : (row : Row) (r : ClosingRow) → closing_of row ≡ Ok r
+    → (column row 0 ≡ Int (pos r.last)) × (column row 1 ≡ Int (pos r.first)) × (r.last ≤ LAST_KEY)
+closing_parts row r is =
+    let one = then_ok (whole 0 LAST_KEY Closing (column row 0)) _ r is in
+    let two = then_ok (whole 0 LAST_KEY Closing (column row 1)) _ r one.2 in
+    let last = whole_ok 0 LAST_KEY Closing (column row 0) one.0 one.1 in
+    let first = whole_ok 0 LAST_KEY Closing (column row 1) two.0 two.1 in
+    subst (λ (s : ClosingRow). (column row 0 ≡ Int (pos s.last)) × (column row 1 ≡ Int (pos s.first)) × (s.last ≤ LAST_KEY))
+    (go (is_closing two.0 one.0) (run_of two.0 one.0) two.2) (last.0, first.0, last.2)
+  where
+    go : (b : Bool) (s : ClosingRow) → ◌≡◌ {A = Result ClosingRow Rule} (cond b (Ok s) (Err Closing)) (Ok r) → s ≡ r
+    go true s it = cc
+    go false s it = absurd cc
+
+pub closing_is : (e : Entry) (r : ClosingRow) → read_closing e ≡ Ok r → (e.key ≡ pos r.last) × (number_at 0 e ≡ pos r.first)
+closing_is e r is =
+    let parts = closing_parts (given e) r is in
+    (same_number _ _ parts.0, number_is 0 e.values e.texts (pos r.first) parts.1)
 
 -- ---- sound rows read as themselves
 

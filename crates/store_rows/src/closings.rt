@@ -1,5 +1,5 @@
 //! The table of the numbers that closed books decided, and of the seal.
-ghost use Rattle.std.specs.Prelude.{◌≤◌, find, is_some, pos};
+ghost use Rattle.std.specs.Prelude.{◌≤◌, IfOk, IfSome, find, is_some, pos};
 ghost use Rattle.posting_rules.specs.Changes.{with_closing};
 ghost use Rattle.posting_rules.specs.believed.Damage.{IsSoundClosing};
 ghost use Rattle.posting_rules.specs.believed.Tables.{closing_key, row_at};
@@ -53,6 +53,7 @@ pub fn next_closing<S: Alter>(
 ) -> Result<Option<ClosingRow>, TableFault>
     requires { after ≤ MOST }
     ensures looks_up { LooksUp S.Store tx.old tx.new (λ rows. find (is_above (pos after)) rows.closings) read_closing result }
+    ensures within { IfOk result (λ found. IfSome found (λ row. row.last ≤ MOST)) }
     // Whatever rows the file holds.
     ensures lies { FindsLying S.Store tx.old tx.new (NextLies after) result }
 {
