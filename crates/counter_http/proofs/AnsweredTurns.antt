@@ -8,6 +8,7 @@ use Rattle.posting_rules.specs.declared.fault.Fault.{Fault}
 use Rattle.posting_rules.specs.believed.{Entries.reply, Commands.Command, Commands.Post}
 use Rattle.posting_rules.specs.believed.Counter.{Seen, IsCounterCall, ShowsLog, Takes, Refuses}
 use Rattle.posting_rules.proofs.CounterCalls.{call_refused_after, refused_after, takes_none}
+use Rattle.posting_core.proofs.{ByTables.stays_itself}
 use Rattle.posting_core.specs.{Clock.IsReading, believed.Clock.AreReadings, Stream.IsOfCall, EndCalls.WriteCall}
 use Rattle.counter_http.specs.{declared.fault.ServeFault.ServeFault, declared.routes.Route.Route, Ends.SendsAs}
 use Rattle.counter_http.specs.declared.fault.ServeFault.TheVariants as serve
@@ -94,6 +95,7 @@ refused_first seen old new fault cs refuses honest =
       honest = honest;
       up = λ d. d;
       takes = record { shows = λ h log s. s; stands = λ h log s. s };
+      stays = stays_itself (seen old);
       refuses = refuses;
     }
 

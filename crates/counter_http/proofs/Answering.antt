@@ -6,8 +6,7 @@ use Rattle.std.specs.declared.io.Error.{Error}
 use Rattle.std.proofs.{KnownBytes.Consumes-trans}
 use Rattle.httparse.specs.Grammar.{lf}
 use Rattle.posting_rules.specs.declared.fault.Fault.{Fault}
-use Rattle.posting_rules.specs.{believed.Commands.Command, believed.Counter.Seen, believed.Counter.ShowsLog}
-use Rattle.posting_rules.specs.believed.Runs.{followed_by}
+use Rattle.posting_rules.specs.{believed.Counter.Seen}
 use Rattle.posting_core.specs.believed.{Batches.joined, EndCalls.EndsWith, EndCalls.GrowsBy, EndCalls.ReadCall}
 use Rattle.posting_core.specs.EndCalls.{Beside, IsReadFailure, read_call}
 use Rattle.posting_core.proofs.Batched.{joined-append}
@@ -15,51 +14,49 @@ use Rattle.counter_http.specs.Connections.{Known}
 use Rattle.counter_http.specs.Next.{IsUnfinished}
 use Rattle.counter_http.specs.together.Standing.{IsGoing, IsParted, IsRefused}
 use Rattle.counter_http.specs.together.Serving.{AnswersBeforeItsReads}
-use Rattle.counter_http.specs.Figures.{answer_told}
 use Rattle.counter_http.specs.believed.Answers.{asked_by, refusal, unavailable}
 use Rattle.counter_http.specs.declared.figures.Figures.{Figures}
 use Rattle.counter_http.specs.believed.Ends.{HasEnded}
 use Rattle.counter_http.specs.believed.Messages.{Closed, Finished, Message, No_body, No_head, Walks, closes, message_text, IsMessage}
 use Rattle.counter_http.specs.believed.Serving.{BeginsWithNoMessage, IsBrokenOff, IsWalked, KeepsConnection}
-use Rattle.counter_http.specs.together.Order.{Step, answers_at, of_client, submitted_by}
+use Rattle.counter_http.specs.together.Order.{Step, answers_of, of_client}
 use Rattle.counter_http.specs.believed.Turns.{Turn, messages_of, text_in, texts_of}
 use Rattle.counter_http.specs.declared.parting.Parting.TheVariants as parting
 use Rattle.counter_http.proofs.Beside.{one_read_more, reads_further}
 use Rattle.counter_http.proofs.ConnectionLoop.{read_one_more, stays_one_more, texts_one_more, unfinished_none}
 use Rattle.counter_http.proofs.Prompts.{HasRead}
-use Rattle.counter_http.proofs.Steps.{all_of, answers_at-append, of_client-append, one_answer}
+use Rattle.counter_http.proofs.Steps.{all_of, answers_of-append, of_client-append, one_answer}
 use Rattle.counter_http.proofs.Walking.{walks_after, walks_closed, walks_end}
 
 -- ---- a message of its own
 
-abbrev pub step_told : Option Figures → ℕ → ℕ → Message → Step
-step_told figures i moment m = record { client = i; turn = record { message = m; moment = moment }; figures = figures }
+abbrev pub step_told : Option Figures → ℕ → ℕ → Message → List ℕ → Step
+step_told figures i moment m text =
+    record { client = i; turn = record { message = m; moment = moment }; figures = figures; answer = text }
 
 -- no figures are told
-abbrev pub step_of : ℕ → ℕ → Message → Step
-step_of i moment m = step_told None i moment m
+abbrev pub step_of : ℕ → ℕ → Message → List ℕ → Step
+step_of i moment m text = step_told None i moment m text
 
-own_more : (figures : Option Figures) (i : ℕ) (steps : List Step) (moment : ℕ) (m : Message)
+own_more : (figures : Option Figures) (i : ℕ) (steps : List Step) (moment : ℕ) (m : Message) (text : List ℕ)
     → of_client i steps ++ record { message = m; moment = moment } ∷ []
-    ≡ of_client i (steps ++ step_told figures i moment m ∷ [])
-own_more figures i steps moment m =
-    sym (of_client-append i steps (step_told figures i moment m ∷ [])
-    ∙ ap (λ (x : List Turn). of_client i steps ++ x) (all_of i (step_told figures i moment m ∷ []) (refl, tt)))
+    ≡ of_client i (steps ++ step_told figures i moment m text ∷ [])
+own_more figures i steps moment m text =
+    sym (of_client-append i steps (step_told figures i moment m text ∷ [])
+    ∙ ap (λ (x : List Turn). of_client i steps ++ x) (all_of i (step_told figures i moment m text ∷ []) (refl, tt)))
 
-answers_more : (figures : Option Figures) (i : ℕ) (log : List Command) (steps : List Step) (moment : ℕ) (m : Message)
-    → answers_at i log steps ++ answer_told figures (followed_by log (submitted_by steps)) (asked_by m) ∷ []
-    ≡ answers_at i log (steps ++ step_told figures i moment m ∷ [])
-answers_more figures i log steps moment m =
-    sym (answers_at-append i log steps (step_told figures i moment m ∷ [])
-    ∙ ap (λ (x : List (List ℕ)). answers_at i log steps ++ x)
-    (one_answer i (followed_by log (submitted_by steps)) (step_told figures i moment m) refl))
+answers_more : (figures : Option Figures) (i : ℕ) (steps : List Step) (moment : ℕ) (m : Message) (text : List ℕ)
+    → answers_of i steps ++ text ∷ [] ≡ answers_of i (steps ++ step_told figures i moment m text ∷ [])
+answers_more figures i steps moment m text =
+    sym (answers_of-append i steps (step_told figures i moment m text ∷ [])
+    ∙ ap (λ (x : List (List ℕ)). answers_of i steps ++ x) (one_answer i (step_told figures i moment m text) refl))
 
 -- one text more
-text_more : (written pending text : List ℕ) (texts : List (List ℕ)) (answer : List ℕ)
-    → written ++ pending ≡ joined texts → text ≡ answer → written ++ (pending ++ text) ≡ joined (texts ++ answer ∷ [])
-text_more written pending text texts answer e same =
+text_more : (written pending text : List ℕ) (texts : List (List ℕ)) → written ++ pending ≡ joined texts
+    → written ++ (pending ++ text) ≡ joined (texts ++ text ∷ [])
+text_more written pending text texts e =
     sym (append_assoc written pending text) ∙ ap (λ (x : List ℕ). x ++ text) e
-    ∙ ap (λ (x : List ℕ). joined texts ++ x) (same ∙ sym (append-nil answer)) ∙ sym (joined-append texts (answer ∷ []))
+    ∙ ap (λ (x : List ℕ). joined texts ++ x) (sym (append-nil text)) ∙ sym (joined-append texts (text ∷ []))
 
 none_left : (pending text : List ℕ) → pending ++ text ≡ [] → pending ≡ []
 none_left [] text e = refl
@@ -95,16 +92,14 @@ unfinished_nothing false = record {
 pub answered_on : {i : ℕ} {k l : Known} {c c' c'' : Seen} {steps : List Step} {has_more shown : Bool}
     {buf pending : List ℕ} (figures : Option Figures) (moment : ℕ) (m : Message) (rest text : List ℕ)
     → IsMessage m → closes m.head ≡ false → buf ≡ message_text m ++ rest → (c''.honest → c'.honest)
-    → (c''.honest → (log : List Command) → ShowsLog c log
-    → text ≡ answer_told figures (followed_by log (submitted_by steps)) (asked_by m))
     → (more : Bool) → (more ≡ false → rest ≡ [])
     → IsGoing i k l c c' steps has_more shown buf pending
-    → IsGoing i k l c c'' (steps ++ step_told figures i moment m ∷ []) more shown rest (pending ++ text)
+    → IsGoing i k l c c'' (steps ++ step_told figures i moment m text ∷ []) more shown rest (pending ++ text)
 answered_on {i} {k} {l} {c} {c'} {c''} {steps} {shown = shown} {buf = buf}
     {pending = pending} figures moment m rest text whole
-    stays front honest is more none g =
+    stays front honest more none g =
     let t : Turn = record { message = m; moment = moment } in
-    let own = own_more figures i steps moment m in
+    let own = own_more figures i steps moment m text in
     record {
       read = subst (λ (ts : List Turn). Consumes k.reader l.reader (texts_of ts ++ rest)) own
           (read_one_more k.reader l.reader (of_client i steps) t buf rest g.read front);
@@ -113,11 +108,11 @@ answered_on {i} {k} {l} {c} {c'} {c''} {steps} {shown = shown} {buf = buf}
       waits = λ e. subst (λ (x : List ℕ). IsUnfinished x shown) (sym (none e)) (unfinished_nothing shown);
       written = g.written;
       wrote = g.wrote;
-      answers = λ h log s. text_more g.written pending text (answers_at i log steps) _
-          (g.answers (honest h) log s) (is h log s) ∙ ap joined (answers_more figures i log steps moment m);
+      answers = text_more g.written pending text (answers_of i steps) g.answers
+          ∙ ap joined (answers_more figures i steps moment m text);
       more = g.more;
       through = λ e. g.through (none_left pending text e);
-      prompt = reads_further (step_told figures i moment m ∷ []) honest
+      prompt = reads_further (step_told figures i moment m text ∷ []) honest
           (input_more (of_client i steps) t buf rest front ∙ ap (λ (ts : List Turn). texts_of ts ++ rest) own)
           g.prompt;
     }
@@ -145,16 +140,14 @@ walked_closed ts t rest stays whole closed =
 pub answered_last : {i : ℕ} {k l : Known} {c c' c'' : Seen} {steps : List Step} {has_more shown : Bool}
     {buf pending : List ℕ} (figures : Option Figures) (moment : ℕ) (m : Message) (rest text : List ℕ)
     → IsMessage m → closes m.head ≡ true → buf ≡ message_text m ++ rest → (c''.honest → c'.honest)
-    → (c''.honest → (log : List Command) → ShowsLog c log
-    → text ≡ answer_told figures (followed_by log (submitted_by steps)) (asked_by m))
     → IsGoing i k l c c' steps has_more shown buf pending
-    → IsParted i k l c c'' (steps ++ step_told figures i moment m ∷ []) (pending ++ text) parting.Served
+    → IsParted i k l c c'' (steps ++ step_told figures i moment m text ∷ []) (pending ++ text) parting.Served
 answered_last {i} {k} {l} {c} {c'} {c''} {steps} {buf = buf}
     {pending = pending} figures moment m rest text whole last front
-    honest is g =
+    honest g =
     let t : Turn = record { message = m; moment = moment } in
-    let own = own_more figures i steps moment m in
-    let none = append-nil (of_client i (steps ++ step_told figures i moment m ∷ [])) in
+    let own = own_more figures i steps moment m text in
+    let none = append-nil (of_client i (steps ++ step_told figures i moment m text ∷ [])) in
     record {
       lost = [];
       rest = rest;
@@ -165,13 +158,12 @@ answered_last {i} {k} {l} {c} {c'} {c''} {steps} {buf = buf}
       wrote = g.wrote;
       parts = subst (λ (ts : List Turn). IsWalked (HasEnded l.reader k.reads l.reads) ts [] rest []) own
           (walked_closed (of_client i steps) t rest g.stays whole last);
-      answers = λ h log s. text_more g.written pending text (answers_at i log steps) _
-          (g.answers (honest h) log s) (is h log s)
-          ∙ ap joined (answers_more figures i log steps moment m ∙ sym (append-nil _));
+      answers = text_more g.written pending text (answers_of i steps) g.answers
+          ∙ ap joined (answers_more figures i steps moment m text ∙ sym (append-nil _));
       more = g.more;
       left = tt;
       ends = λ e. g.through (none_left pending text e);
-      prompt = reads_further (step_told figures i moment m ∷ []) honest
+      prompt = reads_further (step_told figures i moment m text ∷ []) honest
           (input_more (of_client i steps) t buf rest front
           ∙ ap (λ (ts : List Turn). texts_of ts ++ rest) (own ∙ sym none)) g.prompt;
     }
@@ -200,8 +192,7 @@ answered_unavailable {i} {k} {l} {c} {c'} {c''} {steps} {buf = buf} {pending = p
         written = g.written;
         wrote = g.wrote;
         parts = broken_off;
-        answers = λ h log s. text_more g.written pending (unavailable (asked_by m)) (answers_at i log steps) _
-            (g.answers (honest h) log s) refl;
+        answers = text_more g.written pending (unavailable (asked_by m)) (answers_of i steps) g.answers;
         more = g.more;
         left = tt;
         ends = λ e. g.through (none_left pending (unavailable (asked_by m)) e);
@@ -228,8 +219,7 @@ answered_refusal {i} {k} {l} {c} {c'} {steps} {buf = buf} {pending = pending} sh
       written = g.written;
       wrote = g.wrote;
       parts = walked;
-      answers = λ h log s. text_more g.written pending (refusal shows) (answers_at i log steps) _ (g.answers h log s)
-          refl;
+      answers = text_more g.written pending (refusal shows) (answers_of i steps) g.answers;
       more = g.more;
       left = tt;
       ends = λ e. g.through (none_left pending (refusal shows) e);
@@ -266,8 +256,7 @@ read_going {i} {k} {l} {c} {c'} {steps} {rest = rest} all answer r'' q'' b'' g r
             rest = rest;
             input_is = refl;
             no_more = unfinished_none rest (g.waits refl);
-            wrote = λ h log s. subst (λ (x : List ℕ). Appends k.writer l.writer x)
-                (sym (append-nil g.written) ∙ g.answers h log s) g.wrote;
+            wrote = subst (λ (x : List ℕ). Appends k.writer l.writer x) (sym (append-nil g.written) ∙ g.answers) g.wrote;
             through = g.through refl;
           }) tells beside read.long);
     }
@@ -306,7 +295,7 @@ parted_silent {i} {k} {l} {c} {c'} {steps} {rest = rest} g walked =
       written = g.written;
       wrote = g.wrote;
       parts = walked;
-      answers = λ h log s. g.answers h log s ∙ ap joined (sym (append-nil (answers_at i log steps)));
+      answers = g.answers ∙ ap joined (sym (append-nil (answers_of i steps)));
       more = g.more;
       left = tt;
       ends = λ e. g.through refl;
@@ -338,7 +327,7 @@ parted_unread {i} {k} {l} {c} {c'} {steps} {rest = rest} g none failed =
       written = g.written;
       wrote = g.wrote;
       parts = record { stays = g.stays; no_more = none; none_refused = refl; nothing = refl };
-      answers = λ h log s. g.answers h log s ∙ ap joined (sym (append-nil (answers_at i log steps)));
+      answers = g.answers ∙ ap joined (sym (append-nil (answers_of i steps)));
       more = g.more;
       left = refl;
       ends = λ e. (failed, g.through refl);

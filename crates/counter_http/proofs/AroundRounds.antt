@@ -1,5 +1,5 @@
 -- What is done before a round of clients that are served at once, and after it.
-use Rattle.std.proofs.Common.{◌≡◌, ℕ, ◌+◌, ◌-◌, List, [], ◌∷◌, ◌++◌, length, map, Option}
+use Rattle.std.proofs.Common.{◌≡◌, ℕ, List, [], ◌∷◌, ◌++◌, length, map, Option}
 use Rattle.std.proofs.Common.{Result, Ok, Err, refl, sym, ap, subst, ◌∙◌, append_assoc, append-nil, arith, inl, inr}
 use Rattle.std.specs.Prelude.{None, Contains, OnErr}
 use Rattle.std.specs.List.{AllByRecursion, AllZip}
@@ -143,6 +143,7 @@ before_round {R = R} {W} {seen} {reason} {known} {g} {t} {t'} {u} {t''} {old = o
         honest = s.honest;
         up = s.up;
         takes = s.takes;
+        due = s.due;
         idle = s.idle;
         few = taken.few;
         crowd = crowd;

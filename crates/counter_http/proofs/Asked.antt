@@ -6,13 +6,16 @@ use Rattle.std.specs.Prelude.{Contains, IfErr}
 use Rattle.posting_rules.specs.declared.fault.Fault.{Fault}
 use Rattle.posting_rules.specs.declared.fault.Fault.TheVariants as fault
 use Rattle.posting_rules.specs.believed.Commands.{Command}
-use Rattle.posting_rules.specs.believed.Counter.{IsCounterCall, IsSeenUnchanged, Seen, Takes}
+use Rattle.posting_rules.specs.Counter.{StaysByTables}
+use Rattle.posting_rules.specs.believed.{AnyTables.HasRoom, ByCommands.tables_past_commands, Runs.followed_by}
+use Rattle.posting_rules.specs.believed.Counter.{IsCounterCall, IsSeenUnchanged, LeavesOnly, Seen, ShowsLog, Takes}
 use Rattle.posting_rules.specs.believed.Tables.{Tables, AreTablesOf}
 use Rattle.posting_rules.proofs.CounterCalls.{idle_after, refused_after, takes_none, Takes-append}
 use Rattle.posting_rules.proofs.Remaining.{leaves_still}
 use Rattle.posting_core.specs.Stream.{IsOfCall}
-use Rattle.posting_core.proofs.StreamedBatches.{all_more}
+use Rattle.posting_core.proofs.{ByTables.stays_itself, ByTables.stays_then, StreamedBatches.all_more}
 use Rattle.counter_http.specs.Connections.{Known}
+use Rattle.counter_http.specs.together.Due.{AnswersAll, AreDue, AreDueOn}
 use Rattle.counter_http.specs.together.Faring.{Fares}
 use Rattle.counter_http.specs.together.Standing.{IsAnswered, StandsHere, StandsRefused, TellsRefusal}
 use Rattle.counter_http.specs.Turns.{IsAsked, IsRefusedAt}
@@ -21,6 +24,7 @@ use Rattle.counter_http.specs.together.Order.{Step, clients_of, is_read_under, s
 use Rattle.counter_http.specs.declared.figures.Figures.{Figures}
 use Rattle.counter_http.specs.declared.client.Client.{Client}
 use Rattle.counter_http.proofs.AnsweredTurns.{idle_commands, refused_first, why_first}
+use Rattle.counter_http.proofs.Dues.{due_append, unchanged_stays}
 use Rattle.counter_http.proofs.Faring.{among_then, fares_then}
 use Rattle.counter_http.proofs.Steps.{submitted-append}
 
@@ -49,6 +53,11 @@ refused_takes seen old new r =
     Takes-append (seen old) (seen r.stood) (seen new) [] [] r.takes
     (unchanged_takes (seen r.stood) (seen new) r.honest r.refuses) r.honest
 
+pub refused_stays : {C : Type 0} (seen : C → Seen) (old new : C) → IsRefusedAt seen old new fault.Memory []
+    → StaysByTables (seen old) (seen new)
+refused_stays seen old new r =
+    stays_then (seen old) (seen r.stood) (seen new) r.honest r.stays (unchanged_stays (seen r.stood) (seen new) r.refuses)
+
 pub refused_up : {C : Type 0} (seen : C → Seen) (old new : C) → IsRefusedAt seen old new fault.Memory []
     → (seen new).is_down → (seen old).is_down
 refused_up seen old new r down = r.up (r.refuses.down down)
@@ -57,6 +66,7 @@ pub asked_none : {C X : Type 0} (seen : C → Seen) {reason : Fault → C → C 
     → IsAsked seen reason c c (Ok x)
 asked_none seen c x = record {
   done = takes_none (seen c);
+  stays = stays_itself (seen c);
   up = λ down. down;
   why = tt;
   fault = tt;
@@ -67,17 +77,20 @@ asked_none seen c x = record {
 -- the result stands for another
 pub asked_as : {C X Y : Type 0} {seen : C → Seen} {reason : Fault → C → C → Type 0} {old new : C} {x : X} (y : Y)
     → IsAsked seen reason old new (Ok x) → IsAsked seen reason old new (Ok y)
-asked_as y a = record { done = a.done; up = a.up; why = tt; fault = tt; idle = a.idle; honest = a.honest }
+asked_as y a =
+    record { done = a.done; stays = a.stays; up = a.up; why = tt; fault = tt; idle = a.idle; honest = a.honest }
 
 pub asked_err : {C X Y : Type 0} {seen : C → Seen} {reason : Fault → C → C → Type 0} {old new : C} {f : Fault}
     → IsAsked {X = X} seen reason old new (Err f) → IsAsked {X = Y} seen reason old new (Err f)
-asked_err a = record { done = tt; up = tt; why = a.why; fault = a.fault; idle = a.idle; honest = a.honest }
+asked_err a =
+    record { done = tt; stays = tt; up = tt; why = a.why; fault = a.fault; idle = a.idle; honest = a.honest }
 
 -- memory was refused, and that is told to the client alone
 pub asked_full : {C X Y : Type 0} {seen : C → Seen} {reason : Fault → C → C → Type 0} {old new : C} (y : Y)
     → IsAsked {X = X} seen reason old new (Err fault.Memory) → IsAsked seen reason old new (Ok y)
 asked_full {seen = seen} {old = old} {new} y a = record {
   done = refused_takes seen old new a.fault;
+  stays = refused_stays seen old new a.fault;
   up = refused_up seen old new a.fault;
   why = tt;
   fault = tt;
@@ -91,6 +104,7 @@ pub asked_refused : {C K X Y : Type 0} (seen : C → Seen) (contents : C → K) 
     → IsAsked {X = Y} seen reason old new (Err why)
 asked_refused seen contents reason old new why call = record {
   done = tt;
+  stays = tt;
   up = tt;
   why = why_first seen contents reason old new [] why call;
   fault = refused_first seen old new why [] call.fault call.honest;
@@ -109,6 +123,7 @@ pub asked_then : {C X Y : Type 0} (seen : C → Seen) {reason : Fault → C → 
     → IsAsked seen reason old new result
 asked_then seen {reason} old mid new (Ok y) a b = record {
   done = Takes-append (seen old) (seen mid) (seen new) [] [] a.done b.done b.honest;
+  stays = stays_then (seen old) (seen mid) (seen new) b.honest a.stays b.stays;
   up = λ down. a.up (b.up down);
   why = tt;
   fault = tt;
@@ -117,6 +132,7 @@ asked_then seen {reason} old mid new (Ok y) a b = record {
 }
 asked_then seen {reason} old mid new (Err f) a b = record {
   done = tt;
+  stays = tt;
   up = tt;
   why = of_call_then seen reason old mid new f a b.why;
   fault = record {
@@ -125,6 +141,7 @@ asked_then seen {reason} old mid new (Err f) a b = record {
     honest = b.fault.honest;
     up = λ down. a.up (b.fault.up down);
     takes = Takes-append (seen old) (seen mid) (seen b.fault.stood) [] [] a.done b.fault.takes b.fault.honest_first;
+    stays = stays_then (seen old) (seen mid) (seen b.fault.stood) b.fault.honest_first a.stays b.fault.stays;
     refuses = b.fault.refuses;
   };
   idle = idle_after seen old mid a.idle new b.idle;
@@ -138,6 +155,37 @@ reads_submit_none figures [] all = refl
 reads_submit_none figures (s ∷ ss) all =
     ap (λ (x : List Command). x ++ submitted_by ss) (idle_commands (asked_by s.turn.message) s.turn.moment all.0.0)
     ∙ reads_submit_none figures ss all.1
+
+-- the log stays, whatever was read
+pub due_reads : (log : List Command) (figures : Figures) (ss ts : List Step) → AllByRecursion (is_read_under figures) ss
+    → AreDue log ss → AreDue log ts → AreDue log (ss ++ ts)
+due_reads log figures ss ts reads due more =
+    due_append log ss ts due
+    (subst (λ (cs : List Command). AreDue (followed_by log cs) ts) (sym (reads_submit_none figures ss reads)) more)
+
+-- and so do tables
+reads_due_on : (figures : Figures) (t : Tables) (ss : List Step) → AllByRecursion (is_read_under figures) ss → AreDueOn t ss
+reads_due_on figures t [] all = tt
+reads_due_on figures t (s ∷ ss) all = (
+  (λ posting. absurd (cc (posting, all.0.0))),
+  subst (λ (cs : List Command). AreDueOn (tables_past_commands t cs) ss)
+      (sym (idle_commands (asked_by s.turn.message) s.turn.moment all.0.0)) (reads_due_on figures t ss all.1),
+)
+
+pub reads_due : (figures : Figures) (c c' : Seen) (ss : List Step) → AllByRecursion (is_read_under figures) ss
+    → ((log : List Command) → ShowsLog c log → AreDue log ss) → c'.honest → StaysByTables c c' → AnswersAll c c' ss
+reads_due figures c c' ss reads due h stays = record {
+  by_log = due;
+  by_tables = λ t room there.
+      let same : t ≡ tables_past_commands t (submitted_by ss) =
+      sym (ap (tables_past_commands t) (reads_submit_none figures ss reads)) in
+      record {
+        due = reads_due_on figures t ss reads;
+        shows = subst (λ (u : Tables). c'.tables u) same (stays.shows h t there);
+        room = subst (λ (u : Tables). HasRoom u) same room;
+        survives = λ only. subst (λ (u : Tables). LeavesOnly c' (λ left. left ≡ u)) same (stays.survives h t there only);
+      };
+}
 
 pub takes_reads : (figures : Figures) (c c' c'' : Seen) (steps more : List Step)
     → AllByRecursion (is_read_under figures) more
@@ -168,6 +216,7 @@ answered_nothing seen {known = known} bank new old after result asked told fares
   reads = tt;
   own = tt;
   asked = asked;
+  due = λ h log shown. tt;
   told = told;
   fares = fares;
   number = number;
@@ -203,6 +252,9 @@ answered_then seen {reason} {known} {figures} bank mid new one two three result 
   own = all_more (λ (s : Step). s.client ≡ one.number) a.more b.more a.own
       (owned_by one.number two.number b.more a.number b.own);
   asked = asked_then seen bank mid new result a.asked b.asked;
+  due = λ h log shown.
+      let honest = b.asked.honest h in
+      due_reads log figures a.more b.more a.reads (a.due honest log shown) (b.due h log (a.asked.done.shows honest log shown));
   told = refused_then seen bank mid new one two three result a b.more b.told;
   fares = λ fault refused among. fares_then one two three a.more b.more a.number (a.fares None [] tt)
       (b.fares fault refused (among_then fault refused result one.number two.number (sym a.number) among));
@@ -223,6 +275,7 @@ answered_as y a = record {
   reads = a.reads;
   own = a.own;
   asked = asked_as y a.asked;
+  due = a.due;
   told = tt;
   fares = λ fault refused among. a.fares fault refused tt;
   number = a.number;
@@ -238,6 +291,7 @@ answered_err a = record {
   reads = a.reads;
   own = a.own;
   asked = asked_err a.asked;
+  due = a.due;
   told = a.told;
   fares = a.fares;
   number = a.number;

@@ -4,8 +4,7 @@ use Rattle.std.proofs.Common.{refl, sym, ap, subst, ◌∙◌, append_assoc, app
 use Rattle.std.specs.{List.AllByRecursion, Io.KnownBytes.Consumes}
 use Rattle.std.proofs.lemmas.List.{get_or_append_left, length-append, take-append-le}
 use Rattle.std.proofs.{Math.Seq.get_or-append_seam, Math.Seq.take-append_seam}
-use Rattle.posting_rules.specs.{believed.Commands.Command, believed.Counter.Seen}
-use Rattle.posting_rules.specs.believed.Runs.{followed_by}
+use Rattle.posting_rules.specs.{believed.Counter.Seen}
 use Rattle.posting_core.specs.{Stream.given, believed.Batches.joined}
 use Rattle.posting_core.specs.believed.EndCalls.{GrowsBy, ReadCall}
 use Rattle.posting_core.specs.EndCalls.{Beside, WriteCall, unknown}
@@ -16,11 +15,11 @@ use Rattle.counter_http.specs.together.Standing.{IsGoing, IsParted, StandsAs}
 use Rattle.counter_http.specs.together.Serving.{AnswersBeforeItsReads, ClientIsServed, HoldsOwnAnswers, IsWrittenAs, PartsAs}
 use Rattle.counter_http.specs.believed.Ends.{HasEnded}
 use Rattle.counter_http.specs.believed.Serving.{KeepsConnection}
-use Rattle.counter_http.specs.together.Order.{Step, answers_at, of_client, submitted_by}
+use Rattle.counter_http.specs.together.Order.{Step, answers_of, of_client}
 use Rattle.counter_http.specs.believed.Turns.{Turn, texts_of}
 use Rattle.counter_http.specs.declared.parting.Parting.{Parting}
 use Rattle.counter_http.proofs.Prompts.{before_or_last, given_front}
-use Rattle.counter_http.proofs.Steps.{OfOther, answers_at-append, no_answers, none_of, of_client-append}
+use Rattle.counter_http.proofs.Steps.{OfOther, answers_of-append, no_answers, none_of, of_client-append}
 
 -- ---- reads
 
@@ -36,7 +35,7 @@ holds_further {i} {w} {t} {c} {c'} {c''} {steps} {input} {input'} {sink} {sink'}
       rest = h.rest;
       input_is = sym same ∙ h.input_is;
       no_more = h.no_more;
-      wrote = λ up. h.wrote (honest up);
+      wrote = h.wrote;
       through = h.through;
     })
 
@@ -132,12 +131,11 @@ own_beside i steps more others =
     sym (of_client-append i steps more ∙ ap (λ (x : List Turn). of_client i steps ++ x) (none_of i more others)
     ∙ append-nil (of_client i steps))
 
-answers_beside : (i : ℕ) (log : List Command) (steps more : List Step) → AllByRecursion (OfOther i) more
-    → answers_at i log steps ≡ answers_at i log (steps ++ more)
-answers_beside i log steps more others =
-    sym (answers_at-append i log steps more ∙ ap (λ (x : List (List ℕ)). answers_at i log steps ++ x)
-    (no_answers i (followed_by log (submitted_by steps)) more others)
-    ∙ append-nil (answers_at i log steps))
+answers_beside : (i : ℕ) (steps more : List Step) → AllByRecursion (OfOther i) more
+    → answers_of i steps ≡ answers_of i (steps ++ more)
+answers_beside i steps more others =
+    sym (answers_of-append i steps more ∙ ap (λ (x : List (List ℕ)). answers_of i steps ++ x) (no_answers i more others)
+    ∙ append-nil (answers_of i steps))
 
 going_beside : {i : ℕ} {k l : Known} {c c' c'' : Seen} {steps : List Step} {has_more shown : Bool}
     {rest pending : List ℕ} (more : List Step) → AllByRecursion (OfOther i) more → (c''.honest → c'.honest)
@@ -151,7 +149,7 @@ going_beside {i} {k} {l} {c} {c'} {c''} {steps} {has_more} {shown} {rest} {pendi
       waits = g.waits;
       written = g.written;
       wrote = g.wrote;
-      answers = λ h log s. g.answers (honest h) log s ∙ ap joined (answers_beside i log steps more others);
+      answers = g.answers ∙ ap joined (answers_beside i steps more others);
       more = g.more;
       through = g.through;
       prompt = reads_further more honest (ap (λ (ts : List Turn). texts_of ts ++ rest) own) g.prompt;
@@ -171,8 +169,8 @@ parted_beside {i} {k} {l} {c} {c'} {c''} {steps} {pending} {p} more others hones
       wrote = g.wrote;
       parts = subst (λ (ts : List Turn). PartsAs p (HasEnded l.reader k.reads l.reads) ts g.lost g.rest g.last) own
           g.parts;
-      answers = λ h log s. subst (λ (x : List (List ℕ)). IsWrittenAs p (g.written ++ pending) (joined (x ++ g.last)))
-          (answers_beside i log steps more others) (g.answers (honest h) log s);
+      answers = subst (λ (x : List (List ℕ)). IsWrittenAs p (g.written ++ pending) (joined (x ++ g.last)))
+          (answers_beside i steps more others) g.answers;
       more = g.more;
       left = g.left;
       ends = g.ends;
@@ -202,8 +200,8 @@ served_beside {i} {k} {l} {c} {c'} {c''} {steps} {p} more others honest g =
       wrote = g.wrote;
       parts = subst (λ (ts : List Turn). PartsAs p (HasEnded l.reader k.reads l.reads) ts g.lost g.rest g.last) own
           g.parts;
-      answers = λ h log s. subst (λ (x : List (List ℕ)). IsWrittenAs p g.written (joined (x ++ g.last)))
-          (answers_beside i log steps more others) (g.answers (honest h) log s);
+      answers = subst (λ (x : List (List ℕ)). IsWrittenAs p g.written (joined (x ++ g.last)))
+          (answers_beside i steps more others) g.answers;
       ends = g.ends;
       prompt = reads_further more honest (ap (λ (ts : List Turn). texts_of (ts ++ g.lost) ++ g.rest) own) g.prompt;
     }

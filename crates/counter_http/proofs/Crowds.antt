@@ -199,7 +199,7 @@ new_going {i} {k} {c} {c'} steps has_more others =
       waits = λ e. record { ending = No_head; ends = λ some. absurd (some refl); answer = refl; room = omega arith };
       written = [];
       wrote = Appends-nil k.writer;
-      answers = λ h log s. sym (ap joined (no_answers i log steps others));
+      answers = sym (ap joined (no_answers i steps others));
       more = more_none k.writes;
       through = λ e. inl (adds-none k.writes);
       prompt = rw own (none_read_yet i k.reads k.beside steps);

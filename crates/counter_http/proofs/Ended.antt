@@ -18,7 +18,7 @@ use Rattle.posting_rules.proofs.CounterCalls.{idle_after, refused_after, takes_n
 use Rattle.posting_rules.proofs.{Remaining.leaves_weaker, Sequence.after-append}
 use Rattle.posting_core.specs.Stream.{IsOfCall}
 use Rattle.posting_core.specs.believed.EndCalls.{GrowsBy}
-use Rattle.posting_core.proofs.{Stops.stop_all, StreamedBatches.all_more, Telling.adds-more, Telling.adds-none}
+use Rattle.posting_core.proofs.{ByTables.stays_itself, Stops.stop_all, StreamedBatches.all_more, Telling.adds-more, Telling.adds-none}
 use Rattle.counter_http.specs.Clients.{ClientsCall, Refused, Waited}
 use Rattle.counter_http.specs.Connections.{Known}
 use Rattle.counter_http.specs.together.Crowd.{Differ, HasLeft, HaveMoved, IsCrowd, ServesRounds}
@@ -39,11 +39,12 @@ use Rattle.counter_http.proofs.Crowds.{all_first, all_last, crowd_stops}
 use Rattle.counter_http.proofs.CrowdMoves.{crowd_moved}
 use Rattle.counter_http.proofs.Crowds.{each_weaker}
 use Rattle.counter_http.proofs.CrowdMoves.{none_waited}
+use Rattle.counter_http.proofs.Dues.{answers_none}
 use Rattle.counter_http.proofs.Moving.{all_waited, closed_all}
 use Rattle.counter_http.proofs.Moving.{each_ends, last_one, last_then}
 use Rattle.counter_http.proofs.Submitted.{positive}
 use Rattle.counter_http.proofs.Steps.{submitted-append}
-use Rattle.counter_http.proofs.Rounding.{Begun, Rounding, calls_more, clock_one_more, dated_all, dated_last, figured_then, lap_of, laps_then, moves_then, rounding_next, steps_one_more, takes_one_more}
+use Rattle.counter_http.proofs.Rounding.{Begun, Rounding, calls_more, clock_one_more, dated_all, dated_last, due_one_more, figured_then, lap_of, laps_then, moves_then, rounding_next, steps_one_more, takes_one_more}
 
 -- ---- how the serving ends
 
@@ -97,6 +98,7 @@ rounds_end seen {reason} {known} {g} {t} old new {came = came} {here = here} res
   honest = λ h. h;
   up = s.up;
   takes = s.takes;
+  due = s.due;
   ends = ends;
   survives = λ h log st. stop_all (seen new) log (submitted_by (steps_of s.rounds ++ []))
       (submitted_by (steps_of s.rounds)) (ap submitted_by (append-nil (steps_of s.rounds))) (s.takes.stands h log st);
@@ -162,6 +164,9 @@ rounds_broken seen {reason} {known} {g = g} {t' = t'} {k} {k'} {k''} old now new
       honest = r.honest;
       up = λ down. s.up (r.up down);
       takes = takes_one_more (seen old) (seen now) (seen r.stood) s.rounds r.round r.honest_first s.takes r.takes;
+      due = λ h.
+          let before = r.honest_first (r.honest h) in
+          due_one_more (seen old) (seen now) (seen r.stood) s.rounds r.round before s.takes (s.due before) (r.due h);
       ends = r.ends;
       survives = λ h log st. stop_more (seen new) log cs (submitted_by (steps_in r.round ++ r.refused))
           (submitted_by (steps_of rounds ++ r.refused)) (length ds) (length (submitted_by (steps_of rounds))) whole
@@ -352,6 +357,7 @@ serves_together {C} {R} {W} seen {reason} {known} {g} {t} {t'} old new {n} here 
       honest = s.honest;
       up = s.up;
       takes = s.takes;
+      due = s.due;
       ends = s.ends;
       survives = s.survives;
       idle = s.idle;
@@ -411,6 +417,7 @@ nobody_came seen g k old n = record {
   honest = λ h. h;
   up = λ down. down;
   takes = takes_none (seen old);
+  due = λ h. answers_none (seen old) (seen old) h (stays_itself (seen old));
   ends = unchanged_seen (seen old);
   survives = λ h log st. stop_all (seen old) log [] [] refl st;
   idle = λ down. refl;

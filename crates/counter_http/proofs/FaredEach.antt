@@ -36,21 +36,21 @@ fares_record old new head text bytes s own going is (inr (inr short)) = absurd (
 
 pub fare_answered : {R W : Type 0} (moment : ℕ) (here here' : List (Client R W)) (ss : List Sender) (rs qs : List (List ℕ))
     (g : AreGiven here ss rs) → AreApart ss → AnswersEach here here' ss qs
-    → AllFare None [] (steps_at moment here ss rs g) here here'
+    → AllFare None [] (steps_at moment here ss rs qs g) here here'
 fare_answered {R} {W} moment here here' [] rs qs g apart a =
     subst (λ (cs : List (Client R W)). AllFare None [] [] here cs) (sym a) (all_same here)
 fare_answered moment here here' (s ∷ ss) [] qs g apart a = absurd g
 fare_answered moment here here' (s ∷ ss) (r ∷ rs) [] g apart a = absurd a
 fare_answered {R} {W} moment here here' (s ∷ ss) (r ∷ rs) (q ∷ qs) g apart (mid, one, more) =
     let later = given_still here mid s.place one.after ss rs one.is g.1 apart.0 in
-    let step = step_at moment g.0 in
+    let step = step_at moment q g.0 in
     let first : AllFare None [] (step ∷ []) here mid =
     subst (λ (cs : List (Client R W)). AllFare None [] (step ∷ []) here cs) (sym one.is)
     (all_at here s.place g.0.client one.after g.0.at
     (fares_record g.0.client one.after s.head q r step refl g.0.gives.going g.0.gives.is (answers_given here mid s r q g.0 one))) in
     subst (λ (l : List Step). AllFare None [] (step ∷ l) here here')
-    (steps_kept moment here mid s.place one.after ss rs one.is g.1 apart.0)
-    (all_then here mid here' (step ∷ []) (steps_at moment mid ss rs later) (numbers_answered here mid s r q g.0 one) first
+    (steps_kept moment here mid s.place one.after ss rs qs one.is g.1 apart.0)
+    (all_then here mid here' (step ∷ []) (steps_at moment mid ss rs qs later) (numbers_answered here mid s r q g.0 one) first
     (fare_answered moment mid here' ss rs qs later apart.1 more))
 
 -- ---- those whose records were refused
@@ -72,7 +72,7 @@ all_spared why memory (n ∷ ns) = (For_memory memory, all_spared why memory ns)
 
 pub fare_refused : {R W : Type 0} {fault : Option Fault} {refused : List Step} (moment : ℕ) (here here' : List (Client R W))
     (ss : List Sender) (rs : List (List ℕ)) (why : Fault) (g : AreGiven here ss rs) → AreApart ss
-    → AllByRecursion (λ (n : ℕ). IsWhyTold fault refused n why) (clients_of (steps_at moment here ss rs g))
+    → AllByRecursion (λ (n : ℕ). IsWhyTold fault refused n why) (clients_of (steps_at moment here ss rs [] g))
     → RefusesEach here here' ss why → AllFare fault refused [] here here'
 fare_refused {R} {W} {fault} {refused} moment here here' [] rs why g apart told a p x x' at at' =
     subst (λ (cs : List (Client R W)). AllFare fault refused [] here cs) (sym a) (all_same here) p x x' at at'
@@ -95,7 +95,7 @@ fare_refused {R} {W} {fault} {refused} moment here here' (s ∷ ss) (r ∷ rs) w
           ap (λ (cs : List (Client R W)). slice_get cs p) one.is ∙ at_other here s.place p one.after ne ∙ at in
           fare_refused moment mid here' ss rs why later apart.1
           (subst (λ (l : List Step). AllByRecursion (λ (n : ℕ). IsWhyTold fault refused n why) (clients_of l))
-          (sym (steps_kept moment here mid s.place one.after ss rs one.is g.1 apart.0)) told.1)
+          (sym (steps_kept moment here mid s.place one.after ss rs [] one.is g.1 apart.0)) told.1)
           more p x x' mid_at at'
     ]
 

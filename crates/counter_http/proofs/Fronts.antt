@@ -5,20 +5,18 @@ use Rattle.std.proofs.Math.ListN.{length-take}
 use Rattle.std.proofs.lemmas.List.{length-append}
 use Rattle.message_records.specs.believed.Spelling.{reply_spelling}
 use Rattle.posting_rules.specs.declared.fault.Fault.{Fault}
-use Rattle.posting_rules.specs.{believed.Commands.Command, believed.Counter.Seen, believed.Counter.ShowsLog}
+use Rattle.posting_rules.specs.{believed.Commands.Command, believed.Counter.Seen}
 use Rattle.posting_rules.specs.believed.Entries.{reply}
-use Rattle.posting_rules.specs.believed.Runs.{followed_by}
 use Rattle.counter_http.specs.Connections.{Known}
 use Rattle.counter_http.specs.together.Standing.{AnswersRecord, HasAnswered, HasEndedWith, IsGoing, IsHeadOf, IsLost}
 use Rattle.counter_http.specs.together.Standing.{IsParted, IsRecordIn, StandsAs, StandsBy, StandsHere, parting_after}
 use Rattle.counter_http.specs.together.Standing.{pending, unread}
 use Rattle.counter_http.specs.together.Serving.{PartingIsOfItsEnd}
-use Rattle.counter_http.specs.Figures.{answer_told}
 use Rattle.counter_http.specs.believed.Answers.{Answer, answer_of, answer_text, asked_by, octets, shows}
 use Rattle.counter_http.specs.believed.Answers.{bare}
 use Rattle.counter_http.specs.declared.figures.Figures.{Figures}
 use Rattle.counter_http.specs.believed.Messages.{Message, closes, message_text}
-use Rattle.counter_http.specs.together.Order.{Step, submitted_by}
+use Rattle.counter_http.specs.together.Order.{Step}
 use Rattle.counter_http.specs.declared.client.Client.{Client}
 use Rattle.counter_http.specs.declared.client.Head.{Head}
 use Rattle.counter_http.specs.declared.parting.Parting.{Parting}
@@ -106,20 +104,18 @@ answered_as : {i : ℕ} {k l : Known} {c c' c'' : Seen} {steps : List Step} {has
     {buf left : List ℕ} (ends : Bool) (figures : Option Figures) (moment : ℕ) (m : Message) (head : Head)
     (text : List ℕ) → IsHeadOf head buf m
     → head.closes ≡ ends → (c''.honest → c'.honest)
-    → (c''.honest → (log : List Command) → ShowsLog c log
-    → text ≡ answer_told figures (followed_by log (submitted_by steps)) (asked_by m))
     → (more : Bool) → (more ≡ false → drop head.length buf ≡ [])
     → IsGoing i k l c c' steps has_more shown buf left
-    → StandsAs (parting_after ends None) i k l c c'' (steps ++ step_told figures i moment m ∷ []) more shown
+    → StandsAs (parting_after ends None) i k l c c'' (steps ++ step_told figures i moment m text ∷ []) more shown
     (drop head.length buf) (left ++ text)
-answered_as {buf = buf} true figures moment m head text is e honest says more none g =
+answered_as {buf = buf} true figures moment m head text is e honest more none g =
     record {
       is = answered_last figures moment m (drop head.length buf) text is.whole
-          (sym is.closes_is ∙ e) is.front honest says g;
+          (sym is.closes_is ∙ e) is.front honest g;
     }
-answered_as {buf = buf} false figures moment m head text is e honest says more none g = record {
+answered_as {buf = buf} false figures moment m head text is e honest more none g = record {
   is = answered_on figures moment m (drop head.length buf) text is.whole
-      (sym is.closes_is ∙ e) is.front honest says more none g;
+      (sym is.closes_is ∙ e) is.front honest more none g;
 }
 
 shows_then : {i : ℕ} {k l : Known} {c c' : Seen} {steps : List Step} {has_more : Bool} {rest left : List ℕ}
@@ -132,17 +128,15 @@ pub answered_here : {R W : Type 0} {known : R × W → Known} {k : Known} {c c' 
     (old new : Client R W) (figures : Option Figures) (moment : ℕ) (m : Message) (head : Head) (text : List ℕ)
     → old.parting ≡ None
     → IsHeadOf head (unread old) m → HasAnswered old new text head → (c''.honest → c'.honest)
-    → (c''.honest → (log : List Command) → ShowsLog c log
-    → text ≡ answer_told figures (followed_by log (submitted_by steps)) (asked_by m))
     → StandsHere known k c c' steps old
-    → StandsHere known k c c'' (steps ++ step_told figures old.number moment m ∷ []) new
+    → StandsHere known k c c'' (steps ++ step_told figures old.number moment m text ∷ []) new
 answered_here {R} {W} {known} {k} {c} {c'} {c''}
-    {steps} old new figures moment m head text going is did honest says stands =
+    {steps} old new figures moment m head text going is did honest stands =
     let l = known (old.reader, old.writer) in
-    let next = steps ++ step_told figures old.number moment m ∷ [] in
+    let next = steps ++ step_told figures old.number moment m text ∷ [] in
     let after : StandsAs (parting_after head.closes None) old.number k l c c'' next new.has_more old.shows_body
     (drop head.length (unread old)) (pending old ++ text) =
-    answered_as head.closes figures moment m head text is refl honest says new.has_more (λ e. sym did.rest ∙ did.more e)
+    answered_as head.closes figures moment m head text is refl honest new.has_more (λ e. sym did.rest ∙ did.more e)
     (going_of old going stands) in
     let kept = shows_then (parting_after head.closes None) old.shows_body new.shows_body did.shows after in
     let why : new.parting ≡ parting_after head.closes None =
@@ -164,26 +158,35 @@ answered_here {R} {W} {known} {k} {c} {c'} {c''}
 pub unanswered_here : {R W : Type 0} {known : R × W → Known} {k : Known} {c c' : Seen} {steps : List Step}
     (old new : Client R W) (moment : ℕ) (m : Message) (head : Head) (text : List ℕ) → old.parting ≡ None
     → IsHeadOf head (unread old) m → IsLost old new parting.Memory
-    → (c'.honest → (log : List Command) → ShowsLog c log
-    → text ≡ answer_of (followed_by log (submitted_by steps)) (asked_by m))
     → StandsHere known k c c' steps old
-    → StandsHere known k c c' (steps ++ step_of old.number moment m ∷ []) new
-unanswered_here {R} {W} {known} {k} {c} {c'} {steps} old new moment m head text going is lost says stands =
+    → StandsHere known k c c' (steps ++ step_of old.number moment m text ∷ []) new
+unanswered_here {R} {W} {known} {k} {c} {c'} {steps} old new moment m head text going is lost stands =
     lost_here old new parting.Memory tt lost tt
     (left_as (parting_after head.closes None)
-    (answered_as head.closes None moment m head text is refl (λ h. h) says true (λ e. cc e) (going_of old going stands)))
+    (answered_as head.closes None moment m head text is refl (λ h. h) true (λ e. cc e) (going_of old going stands)))
 
 -- ---- a record
 
-record_text : (log : List Command) {buf bytes : List ℕ} (head : Head) (is : IsRecordIn buf bytes head)
+-- how it is answered
+abbrev pub record_answer : Head → List ℕ → List ℕ
+record_answer head reply = answer_text (octets reply) head.shows_body head.closes
+
+-- whatever its reply is
+pub record_due : {buf bytes : List ℕ} (head : Head) (is : IsRecordIn buf bytes head) (text said : List ℕ) → text ≡ said
+    → record_answer head text
+    ≡ answer_text (octets said) (shows (asked_by is.message)) (asked_by is.message).closes
+record_due head is text said e =
+    ap (λ (b : Bool). answer_text (octets text) b head.closes) is.is.shows_is
+    ∙ ap (λ (b : Bool). answer_text (octets text) (shows (asked_by is.message)) b) is.is.closes_is
+    ∙ ap (λ (x : List ℕ). answer_text (octets x) (shows (asked_by is.message)) (asked_by is.message).closes) e
+
+pub record_text : (log : List Command) {buf bytes : List ℕ} (head : Head) (is : IsRecordIn buf bytes head)
     (text : List ℕ) → text ≡ reply_spelling (reply log bytes)
     → answer_text (octets text) head.shows_body head.closes ≡ answer_of log (asked_by is.message)
 record_text log head is text e =
-    ap (λ (b : Bool). answer_text (octets text) b head.closes) is.is.shows_is
-    ∙ ap (λ (b : Bool). answer_text (octets text) (shows (asked_by is.message)) b) is.is.closes_is
+    record_due head is text _ (e ∙ ap (λ (b : List ℕ). reply_spelling (reply log b)) is.body)
     ∙ ap (λ (a : Answer). answer_text a (shows (asked_by is.message)) (closes is.message.head))
-    (ap octets (e ∙ ap (λ (b : List ℕ). reply_spelling (reply log b)) is.body)
-    ∙ sym (posting_answer log (asked_by is.message) is.posting))
+    (sym (posting_answer log (asked_by is.message) is.posting))
 
 pub too_short : {R W : Type 0} (old : Client R W) (m : Message) (head : Head) → IsHeadOf head (unread old) m
     → old.filled < head.length → ⊥
@@ -207,17 +210,13 @@ number_of_record old new head text bytes is (inr (inr short)) = absurd (too_shor
 pub record_step : {R W : Type 0} {known : R × W → Known} {k : Known} {c c' : Seen} {steps : List Step}
     (old new : Client R W) (moment : ℕ) (head : Head) (text bytes : List ℕ) → old.parting ≡ None
     → (is : IsRecordIn (unread old) bytes head)
-    → (c'.honest → (log : List Command) → ShowsLog c log
-    → text ≡ reply_spelling (reply (followed_by log (submitted_by steps)) bytes))
     → AnswersRecord old new head text → StandsHere known k c c' steps old
-    → StandsHere known k c c' (steps ++ step_of old.number moment is.message ∷ []) new
-record_step {steps = steps} old new moment head text bytes going is says (inl did) stands =
-    answered_here old new None moment is.message head (answer_text (octets text) head.shows_body head.closes) going is.is did
-    (λ h. h) (λ h log shown. record_text (followed_by log (submitted_by steps)) head is text (says h log shown)) stands
-record_step {steps = steps} old new moment head text bytes going is says (inr (inl lost)) stands =
-    unanswered_here old new moment is.message head (answer_text (octets text) head.shows_body head.closes) going is.is
-    lost (λ h log shown. record_text (followed_by log (submitted_by steps)) head is text (says h log shown)) stands
-record_step old new moment head text bytes going is says (inr (inr short)) stands =
+    → StandsHere known k c c' (steps ++ step_of old.number moment is.message (record_answer head text) ∷ []) new
+record_step old new moment head text bytes going is (inl did) stands =
+    answered_here old new None moment is.message head (record_answer head text) going is.is did (λ h. h) stands
+record_step old new moment head text bytes going is (inr (inl lost)) stands =
+    unanswered_here old new moment is.message head (record_answer head text) going is.is lost stands
+record_step old new moment head text bytes going is (inr (inr short)) stands =
     absurd (too_short old is.message head is.is short)
 
 -- ---- a 503

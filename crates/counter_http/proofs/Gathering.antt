@@ -19,7 +19,7 @@ use Rattle.counter_http.specs.declared.batch.Sender.{Sender}
 use Rattle.counter_http.specs.declared.client.Client.{Client}
 use Rattle.counter_http.specs.declared.client.Record.{Record}
 use Rattle.counter_http.proofs.AnsweredTurns.{idle_commands}
-use Rattle.counter_http.proofs.Asked.{asked_as, asked_err, asked_none, asked_then, reads_submit_none}
+use Rattle.counter_http.proofs.Asked.{asked_as, asked_err, asked_none, asked_then, due_reads, reads_submit_none}
 use Rattle.counter_http.specs.believed.Answers.{asked_by}
 use Rattle.counter_http.proofs.Fared.{all_at, all_same, all_then}
 use Rattle.counter_http.proofs.Placed.{at_other, at_same, beside_none, beside_one, beside_then, found_too, numbers_apart}
@@ -187,6 +187,7 @@ gathers_nothing seen bank here batch gives = record {
   reads = [];
   are_reads = tt;
   asked = asked_none seen bank tt;
+  due = λ h log shown. tt;
   refused = [];
   some = tt;
   whose_refused = tt;
@@ -206,6 +207,10 @@ gathers_then seen {known = known} {figures} old mid new here one two b b' result
   reads = p.reads ++ q.reads;
   are_reads = all_more (is_read_under figures) p.reads q.reads p.are_reads q.are_reads;
   asked = asked_then seen old mid new result p.asked q.asked;
+  due = λ h log shown.
+      let honest = q.asked.honest h in
+      due_reads log figures p.reads q.reads p.are_reads (p.due honest log shown)
+      (q.due h log (p.asked.done.shows honest log shown));
   refused = q.refused;
   some = q.some;
   whose_refused = subst (λ (ns : List ℕ). AllByRecursion (IsOfOneOf ns) q.refused) p.beside.same q.whose_refused;
@@ -235,6 +240,7 @@ refused_at seen old new here p client client' batch (Ok x) all at a beside gives
   reads = a.more;
   are_reads = a.reads;
   asked = a.asked;
+  due = a.due;
   refused = [];
   some = tt;
   whose_refused = tt;
@@ -250,6 +256,7 @@ refused_at {R = R} {W} seen {known = known} old new here p client client' batch 
       reads = a.more;
       are_reads = a.reads;
       asked = a.asked;
+      due = a.due;
       refused = s ∷ [];
       some = λ none. cc none;
       whose_refused = (subst (λ (n : ℕ). Contains (numbers here) n) (sym a.told.own) (one_of_these here p client at), tt);
@@ -295,6 +302,7 @@ gathers_as y g = record {
   reads = g.reads;
   are_reads = g.are_reads;
   asked = asked_as y g.asked;
+  due = g.due;
   refused = g.refused;
   some = tt;
   whose_refused = g.whose_refused;
@@ -313,6 +321,7 @@ gathers_err g = record {
   reads = g.reads;
   are_reads = g.are_reads;
   asked = asked_err g.asked;
+  due = g.due;
   refused = g.refused;
   some = g.some;
   whose_refused = g.whose_refused;

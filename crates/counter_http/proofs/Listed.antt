@@ -5,10 +5,11 @@ use Rattle.std.specs.Prelude.{codes, ℤ, pos, negsuc, replicate}
 use Rattle.std.proofs.lemmas.{Bool.cases_lt, Bool.le-ltb, Str.encode_ascii}
 use Rattle.posting_rules.specs.declared.{counter.BranchLine.BranchLine, fault.Fault.Fault}
 use Rattle.posting_rules.specs.declared.{fault.Fault.TheVariants.Memory, limits.TheConstants.LAST_BRANCH}
-use Rattle.posting_rules.specs.{Branches.IsNextBranch}
+use Rattle.posting_rules.specs.{Branches.IsNextBranch, Counter.StaysByTables}
 use Rattle.posting_rules.specs.believed.Commands.{Command, opened, Terms, opened_with}
 use Rattle.posting_rules.specs.believed.Counter.{Seen, IsCounterCall, Takes, Refuses}
 use Rattle.posting_rules.proofs.CounterCalls.{Takes-append, call_idle_after}
+use Rattle.posting_core.proofs.{ByTables.stays_then}
 use Rattle.std.specs.{List.repeat, Int.is_negative}
 use lib.IntN.{nat_abs}
 use lib.Utf8.{encode}
@@ -26,16 +27,18 @@ pub record Asking {C : Type 0} (seen : C → Seen) (old now : C) : Type 0 where
   pub honest : (seen now).honest → (seen old).honest
   pub up : (seen now).is_down → (seen old).is_down
   pub takes : Takes (seen old) (seen now) []
+  pub stays : StaysByTables (seen old) (seen now)
   pub idle : (seen old).is_down → now ≡ old
 
 -- one call more
 pub asking_more : {C K X : Type 0} (seen : C → Seen) (contents : C → K) (reason : Fault → C → C → Type 0)
     (old now new : C) (x : X) → Asking seen old now
-    → IsCounterCall seen contents reason now new [] (Ok x) → Asking seen old new
-asking_more seen contents reason old now new x a call = record {
+    → IsCounterCall seen contents reason now new [] (Ok x) → StaysByTables (seen now) (seen new) → Asking seen old new
+asking_more seen contents reason old now new x a call stays = record {
   honest = λ h. a.honest (call.honest h);
   up = λ d. absurd (call.up d);
   takes = Takes-append (seen old) (seen now) (seen new) [] [] a.takes call.done call.honest;
+  stays = stays_then (seen old) (seen now) (seen new) call.honest a.stays stays;
   idle = call_idle_after seen old now a.idle contents reason new [] (Ok x) call;
 }
 
@@ -50,6 +53,7 @@ asking_refused seen old now new fault a refuses honest =
       honest = honest;
       up = a.up;
       takes = a.takes;
+      stays = a.stays;
       refuses = refuses;
     }
 
@@ -62,6 +66,7 @@ asking_full seen old now a = record {
   honest = λ h. h;
   up = a.up;
   takes = a.takes;
+  stays = a.stays;
   refuses = record { tables = λ t h. h; down = λ d. d; left = λ remains left. (remains, left, λ t h. h) };
 }
 

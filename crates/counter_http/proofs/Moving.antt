@@ -1,5 +1,5 @@
 -- Who moves on from one wait to the next.
-use Rattle.std.proofs.Common.{◌≡◌, ℕ, ◌+◌, ◌≤◌, List, [], ◌∷◌, ◌++◌, length, drop, Option, None, Some, Bool}
+use Rattle.std.proofs.Common.{◌≡◌, ℕ, ◌≤◌, List, [], ◌∷◌, ◌++◌, length, drop, Option, None, Some, Bool}
 use Rattle.std.proofs.Common.{false, refl, sym, ap, subst, ◌∙◌, append_assoc, append-nil, arith, inl, inr}
 use Rattle.std.specs.Prelude.{◌≢◌, ◌⊎◌, Contains}
 use Rattle.std.specs.List.{AllByRecursion}
@@ -12,7 +12,7 @@ use Rattle.counter_http.specs.Clients.{ClientsCall}
 use Rattle.counter_http.specs.Connections.{Known}
 use Rattle.counter_http.specs.together.Crowd.{Comes, GoesOn, IsHere, IsLeftOf, IsSettled, Leaves, Moves, Scene, Stays, all_settled, calls_by}
 use Rattle.counter_http.specs.together.Faring.{HasNoMore}
-use Rattle.counter_http.specs.together.Order.{Round, Step, answers_at, steps_in, steps_of}
+use Rattle.counter_http.specs.together.Order.{Round, Step, answers_of, steps_in, steps_of}
 use Rattle.counter_http.specs.together.Reading.{Lost, Reads, Refused, SaysAtEnd, Silent}
 use Rattle.counter_http.specs.together.Rounds.{ends_here, ends_in}
 use Rattle.counter_http.specs.together.Standing.{HasMuch, IsNew, StandsAs, Writes, pending}
@@ -104,7 +104,7 @@ much_on honest much = record {
   came = much.came;
   written = much.written;
   wrote = much.wrote;
-  many = λ h log shown. much.many (honest h) log shown;
+  many = much.many;
 }
 
 may_on : {E : Type 0} (late : Type 0) (known : E → Known) (c c' c'' : Seen) (calls : List (ClientsCall E)) (steps : List Step)
@@ -227,9 +227,9 @@ much_here known c c' steps calls waited client is one much going =
       came = is.came;
       written = g.written;
       wrote = g.wrote;
-      many = λ h log shown.
-          let all : length (g.written ++ pending client) ≡ length (joined (answers_at client.number log steps)) =
-          ap length (g.answers h log shown) in
+      many =
+          let all : length (g.written ++ pending client) ≡ length (joined (answers_of client.number steps)) =
+          ap length g.answers in
           omega (arith, all, much, length-append g.written (pending client));
     }
 

@@ -10,6 +10,7 @@ use Rattle.posting_rules.proofs.CounterCalls.{idle_after, Takes-append}
 use Rattle.posting_core.proofs.Stops.{refused_stop, stop_all, stop_part}
 use Rattle.posting_core.proofs.StreamedBatches.{all_more}
 use Rattle.counter_http.specs.Connections.{Known}
+use Rattle.counter_http.specs.together.Due.{AnswersAll}
 use Rattle.counter_http.specs.together.Faring.{AllFare}
 use Rattle.counter_http.specs.together.Order.{Step, is_read_under, submitted_by}
 use Rattle.counter_http.specs.together.Rounds.{AllMoveOn, AnswersRound, MayBeLate, EndsRound, IsOfOneOf, fault_in, numbers}
@@ -20,8 +21,9 @@ use Rattle.counter_http.specs.declared.batch.Batch.{Batch}
 use Rattle.counter_http.specs.declared.figures.Figures.{Figures}
 use Rattle.counter_http.specs.declared.figures.Tally.{Tally}
 use Rattle.counter_http.specs.declared.client.Client.{Client}
-use Rattle.counter_http.proofs.Asked.{reads_submit_none}
+use Rattle.counter_http.proofs.Asked.{reads_due, reads_submit_none}
 use Rattle.counter_http.proofs.Counted.{counts_none}
+use Rattle.counter_http.proofs.Dues.{answers_then}
 use Rattle.counter_http.proofs.Fared.{all_then}
 use Rattle.counter_http.proofs.Gathering.{takes_reads}
 use Rattle.counter_http.proofs.Placed.{beside_then, found_too, takes_then}
@@ -120,6 +122,11 @@ round_submitted seen {reason} {known} old mid new here one two {t} {t'} seconds 
       honest = d.honest;
       up = λ down. g.asked.up (d.up down);
       takes = takes;
+      due = λ h.
+          let before = d.honest_first (d.honest h) in
+          answers_then (seen old) (seen mid) (seen d.stood) g.reads d.posts before took
+          (reads_due (figures_at here t seconds) (seen old) (seen mid) g.reads g.are_reads (g.due before) before
+          g.asked.stays) (d.due h);
       ends = d.ends;
       survives = survives_round seen old d.stood new (g.reads ++ d.posts) d.refused result takes d.honest d.ends;
       idle = idle_after seen old mid g.asked.idle new d.idle;
@@ -168,6 +175,9 @@ round_refused {Y = Y} seen {reason} {known} old new here one t seconds batch why
       honest = f.honest;
       up = f.up;
       takes = takes;
+      due = λ h. subst (λ (ss : List Step). AnswersAll (seen old) (seen f.stood) ss) (sym (append-nil g.reads))
+          (reads_due (figures_at here t seconds) (seen old) (seen f.stood) g.reads g.are_reads (g.due h) (f.honest h)
+          f.stays);
       ends = refuses;
       survives = survives_round {X = Y} seen old f.stood new (g.reads ++ []) g.refused (Err why) takes f.honest refuses;
       idle = g.asked.idle;
@@ -202,6 +212,7 @@ round_as y a = record {
   honest = a.honest;
   up = a.up;
   takes = a.takes;
+  due = a.due;
   ends = a.ends;
   survives = a.survives;
   idle = a.idle;
@@ -233,6 +244,7 @@ round_err a = record {
   honest = a.honest;
   up = a.up;
   takes = a.takes;
+  due = a.due;
   ends = a.ends;
   survives = a.survives;
   idle = a.idle;

@@ -3,12 +3,15 @@ use Rattle.std.proofs.Common.{◌≡◌, ℕ, suc, List, [], ◌∷◌, ◌++◌
 use Rattle.std.proofs.Common.{refl, sym, ap, subst, ◌∙◌, append_assoc, append-nil, inl, inr, true}
 use Rattle.std.specs.{Prelude.◌≢◌, List.AllByRecursion, List.slice_get}
 use Rattle.std.proofs.lemmas.List.{length-set}
-use Rattle.message_records.specs.believed.Spelling.{reply_spelling}
 use Rattle.posting_rules.specs.declared.fault.Fault.{Fault}
-use Rattle.posting_rules.specs.believed.{Commands.Command, Commands.Post, Counter.Seen, Counter.ShowsLog, Entries.reply}
+use Rattle.posting_rules.specs.believed.{AnyTables.AnswersByTables, AnyTables.HasRoom, ByCommands.tables_past_commands}
+use Rattle.posting_rules.specs.believed.Changes.{replies_past_all, reply_past, tables_past, tables_past_all}
+use Rattle.posting_rules.specs.believed.{Commands.Command, Commands.Post, Counter.LeavesOnly, Counter.Seen, Counter.ShowsLog}
+use Rattle.posting_rules.specs.believed.{Tables.Tables}
 use Rattle.posting_rules.specs.believed.Runs.{followed_by, posts, replies_to}
-use Rattle.posting_rules.proofs.Sequence.{after-append}
+use Rattle.posting_rules.proofs.AnyTables.{room_past_all}
 use Rattle.counter_http.specs.Connections.{Known}
+use Rattle.counter_http.specs.together.Due.{AnswersAll, AreDue, AreDueOn}
 use Rattle.counter_http.specs.together.Order.{Step, is_posted_under, submitted_by}
 use Rattle.counter_http.specs.together.Rounds.{AllDiffer, IsOfOneOf, numbers}
 use Rattle.counter_http.specs.together.Standing.{AnswersRecord, AreRefused, HasEndedWith, StandsHere, StandsRefused}
@@ -22,24 +25,34 @@ use Rattle.counter_http.specs.declared.parting.Parting.TheVariants as parting
 use Rattle.counter_http.proofs.AnsweredTurns.{posting_commands}
 use Rattle.counter_http.proofs.Answering.{step_of}
 use Rattle.counter_http.proofs.Beside.{stands_beside}
-use Rattle.counter_http.proofs.Fronts.{number_ended, number_of_record, record_step, refused_here}
+use Rattle.counter_http.proofs.Fronts.{number_ended, number_of_record, record_answer, record_due, record_step, record_text, refused_here}
 use Rattle.counter_http.proofs.Gathering.{given_still}
 use Rattle.counter_http.proofs.Placed.{at_other, at_same, found_too, number_kept, numbers_apart, numbers_at, one_of_these}
 use Rattle.counter_http.proofs.Placed.{same_or_not, some_is}
 use Rattle.counter_http.proofs.Refused.{refused_now}
-use Rattle.counter_http.proofs.Steps.{submitted-append}
 
 -- ---- the messages of the records
 
-abbrev pub step_at : {R W : Type 0} (moment : ℕ) {here : List (Client R W)} {s : Sender} {r : List ℕ}
+-- the first of the replies, and those after it; none is nothing
+abbrev pub first_text : List (List ℕ) → List ℕ
+first_text [] = []
+first_text (q ∷ qs) = q
+
+abbrev pub texts_after : List (List ℕ) → List (List ℕ)
+texts_after [] = []
+texts_after (q ∷ qs) = qs
+
+-- answered by this reply
+abbrev pub step_at : {R W : Type 0} (moment : ℕ) {here : List (Client R W)} {s : Sender} {r : List ℕ} → List ℕ
     → GivesAt here s r → Step
-step_at moment g = step_of g.client.number moment g.gives.is.message
+step_at moment {s = s} q g = step_of g.client.number moment g.gives.is.message (record_answer s.head q)
 
 abbrev pub steps_at : {R W : Type 0} (moment : ℕ) (here : List (Client R W)) (ss : List Sender)
-    (rs : List (List ℕ)) → AreGiven here ss rs → List Step
-steps_at moment here [] rs g = []
-steps_at moment here (s ∷ ss) [] g = []
-steps_at moment here (s ∷ ss) (r ∷ rs) g = step_at moment g.0 ∷ steps_at moment here ss rs g.1
+    (rs qs : List (List ℕ)) → AreGiven here ss rs → List Step
+steps_at moment here [] rs qs g = []
+steps_at moment here (s ∷ ss) [] qs g = []
+steps_at moment here (s ∷ ss) (r ∷ rs) qs g =
+    step_at moment (first_text qs) g.0 ∷ steps_at moment here ss rs (texts_after qs) g.1
 
 one_post : {R W : Type 0} (moment : ℕ) {here : List (Client R W)} {s : Sender} (r : List ℕ) (g : GivesAt here s r)
     → commands_for moment (asked_by g.gives.is.message) ≡ Post moment r ∷ []
@@ -47,45 +60,102 @@ one_post moment r g =
     posting_commands (asked_by g.gives.is.message) moment g.gives.is.posting
     ∙ ap (λ (b : List ℕ). Post moment b ∷ []) (sym g.gives.is.body)
 
-pub steps_submit : {R W : Type 0} (moment : ℕ) (here : List (Client R W)) (ss : List Sender) (rs : List (List ℕ))
-    (g : AreGiven here ss rs) → submitted_by (steps_at moment here ss rs g) ≡ posts moment rs
-steps_submit moment here [] [] g = refl
-steps_submit moment here [] (r ∷ rs) g = absurd g
-steps_submit moment here (s ∷ ss) [] g = absurd g
-steps_submit moment here (s ∷ ss) (r ∷ rs) g =
-    ap (λ (cs : List Command). cs ++ submitted_by (steps_at moment here ss rs g.1)) (one_post moment r g.0)
-    ∙ ap (λ (cs : List Command). Post moment r ∷ cs) (steps_submit moment here ss rs g.1)
+pub steps_submit : {R W : Type 0} (moment : ℕ) (here : List (Client R W)) (ss : List Sender) (rs qs : List (List ℕ))
+    (g : AreGiven here ss rs) → submitted_by (steps_at moment here ss rs qs g) ≡ posts moment rs
+steps_submit moment here [] [] qs g = refl
+steps_submit moment here [] (r ∷ rs) qs g = absurd g
+steps_submit moment here (s ∷ ss) [] qs g = absurd g
+steps_submit moment here (s ∷ ss) (r ∷ rs) qs g =
+    ap (λ (cs : List Command). cs ++ submitted_by (steps_at moment here ss rs (texts_after qs) g.1)) (one_post moment r g.0)
+    ∙ ap (λ (cs : List Command). Post moment r ∷ cs) (steps_submit moment here ss rs (texts_after qs) g.1)
 
-pub steps_posted : {R W : Type 0} (moment : ℕ) (here : List (Client R W)) (ss : List Sender) (rs : List (List ℕ))
-    (g : AreGiven here ss rs) → AllByRecursion (is_posted_under (moment ∷ [])) (steps_at moment here ss rs g)
-steps_posted moment here [] rs g = tt
-steps_posted moment here (s ∷ ss) [] g = tt
-steps_posted moment here (s ∷ ss) (r ∷ rs) g =
-    ((g.0.gives.is.posting, refl, refl), steps_posted moment here ss rs g.1)
+pub steps_posted : {R W : Type 0} (moment : ℕ) (here : List (Client R W)) (ss : List Sender) (rs qs : List (List ℕ))
+    (g : AreGiven here ss rs) → AllByRecursion (is_posted_under (moment ∷ [])) (steps_at moment here ss rs qs g)
+steps_posted moment here [] rs qs g = tt
+steps_posted moment here (s ∷ ss) [] qs g = tt
+steps_posted moment here (s ∷ ss) (r ∷ rs) qs g =
+    ((g.0.gives.is.posting, refl, refl), steps_posted moment here ss rs (texts_after qs) g.1)
 
-pub steps_whose : {R W : Type 0} (moment : ℕ) (here : List (Client R W)) (ss : List Sender) (rs : List (List ℕ))
-    (g : AreGiven here ss rs) → AllByRecursion (IsOfOneOf (numbers here)) (steps_at moment here ss rs g)
-steps_whose moment here [] rs g = tt
-steps_whose moment here (s ∷ ss) [] g = tt
-steps_whose moment here (s ∷ ss) (r ∷ rs) g =
-    (one_of_these here s.place g.0.client g.0.at, steps_whose moment here ss rs g.1)
+pub steps_whose : {R W : Type 0} (moment : ℕ) (here : List (Client R W)) (ss : List Sender) (rs qs : List (List ℕ))
+    (g : AreGiven here ss rs) → AllByRecursion (IsOfOneOf (numbers here)) (steps_at moment here ss rs qs g)
+steps_whose moment here [] rs qs g = tt
+steps_whose moment here (s ∷ ss) [] qs g = tt
+steps_whose moment here (s ∷ ss) (r ∷ rs) qs g =
+    (one_of_these here s.place g.0.client g.0.at, steps_whose moment here ss rs (texts_after qs) g.1)
 
-pub steps_long : {R W : Type 0} (moment : ℕ) (here : List (Client R W)) (ss : List Sender) (rs : List (List ℕ))
-    (g : AreGiven here ss rs) → length (steps_at moment here ss rs g) ≡ length rs
-steps_long moment here [] [] g = refl
-steps_long moment here [] (r ∷ rs) g = absurd g
-steps_long moment here (s ∷ ss) [] g = absurd g
-steps_long moment here (s ∷ ss) (r ∷ rs) g = ap suc (steps_long moment here ss rs g.1)
+pub steps_long : {R W : Type 0} (moment : ℕ) (here : List (Client R W)) (ss : List Sender) (rs qs : List (List ℕ))
+    (g : AreGiven here ss rs) → length (steps_at moment here ss rs qs g) ≡ length rs
+steps_long moment here [] [] qs g = refl
+steps_long moment here [] (r ∷ rs) qs g = absurd g
+steps_long moment here (s ∷ ss) [] qs g = absurd g
+steps_long moment here (s ∷ ss) (r ∷ rs) qs g = ap suc (steps_long moment here ss rs (texts_after qs) g.1)
 
 pub steps_kept : {R W : Type 0} (moment : ℕ) (here one : List (Client R W)) (p : ℕ) (client : Client R W)
-    (ss : List Sender) (rs : List (List ℕ)) (e : one ≡ slice_set here p client) (g : AreGiven here ss rs)
+    (ss : List Sender) (rs qs : List (List ℕ)) (e : one ≡ slice_set here p client) (g : AreGiven here ss rs)
     (all : AllByRecursion (IsElsewhere p) ss)
-    → steps_at moment one ss rs (given_still here one p client ss rs e g all) ≡ steps_at moment here ss rs g
-steps_kept moment here one p client [] [] e g all = refl
-steps_kept moment here one p client [] (r ∷ rs) e g all = absurd g
-steps_kept moment here one p client (s ∷ ss) [] e g all = absurd g
-steps_kept moment here one p client (s ∷ ss) (r ∷ rs) e g all =
-    ap (λ (xs : List Step). step_at moment g.0 ∷ xs) (steps_kept moment here one p client ss rs e g.1 all.1)
+    → steps_at moment one ss rs qs (given_still here one p client ss rs e g all) ≡ steps_at moment here ss rs qs g
+steps_kept moment here one p client [] [] qs e g all = refl
+steps_kept moment here one p client [] (r ∷ rs) qs e g all = absurd g
+steps_kept moment here one p client (s ∷ ss) [] qs e g all = absurd g
+steps_kept moment here one p client (s ∷ ss) (r ∷ rs) qs e g all =
+    ap (λ (xs : List Step). step_at moment (first_text qs) g.0 ∷ xs)
+    (steps_kept moment here one p client ss rs (texts_after qs) e g.1 all.1)
+
+-- ---- what is due to them
+
+first_reply : (q x : List ℕ) (qs xs : List (List ℕ)) → q ∷ qs ≡ x ∷ xs → q ≡ x
+first_reply q x qs xs e = cc
+
+more_replies : (q x : List ℕ) (qs xs : List (List ℕ)) → q ∷ qs ≡ x ∷ xs → qs ≡ xs
+more_replies q x qs xs e = cc
+
+due_posts : {R W : Type 0} (moment : ℕ) (here : List (Client R W)) (ss : List Sender) (rs qs : List (List ℕ))
+    (g : AreGiven here ss rs) (log : List Command) → qs ≡ replies_to log (posts moment rs)
+    → AreDue log (steps_at moment here ss rs qs g)
+due_posts moment here [] rs qs g log says = tt
+due_posts moment here (s ∷ ss) [] qs g log says = tt
+due_posts moment here (s ∷ ss) (r ∷ rs) [] g log says = cc says
+due_posts moment here (s ∷ ss) (r ∷ rs) (q ∷ qs) g log says = (
+  record_text log s.head g.0.gives.is q (first_reply q _ qs _ says),
+  subst (λ (cs : List Command). AreDue (followed_by log cs) (steps_at moment here ss rs qs g.1)) (sym (one_post moment r g.0))
+      (due_posts moment here ss rs qs g.1 (Post moment r ∷ log) (more_replies q _ qs _ says)),
+)
+
+due_posts_on : {R W : Type 0} (moment : ℕ) (here : List (Client R W)) (ss : List Sender) (rs qs : List (List ℕ))
+    (g : AreGiven here ss rs) (t : Tables) → qs ≡ replies_past_all t moment rs
+    → AreDueOn t (steps_at moment here ss rs qs g)
+due_posts_on moment here [] rs qs g t says = tt
+due_posts_on moment here (s ∷ ss) [] qs g t says = tt
+due_posts_on moment here (s ∷ ss) (r ∷ rs) [] g t says = cc says
+due_posts_on moment here (s ∷ ss) (r ∷ rs) (q ∷ qs) g t says = (
+  (λ posting. record_due s.head g.0.gives.is q _
+      (first_reply q _ qs _ says ∙ ap (λ (b : List ℕ). reply_past t b) g.0.gives.is.body)),
+  subst (λ (cs : List Command). AreDueOn (tables_past_commands t cs) (steps_at moment here ss rs qs g.1))
+      (sym (one_post moment r g.0))
+      (due_posts_on moment here ss rs qs g.1 (tables_past t moment r) (more_replies q _ qs _ says)),
+)
+
+past_posts : (t : Tables) (moment : ℕ) (rs : List (List ℕ))
+    → tables_past_commands t (posts moment rs) ≡ tables_past_all t moment rs
+past_posts t moment [] = refl
+past_posts t moment (r ∷ rs) = past_posts (tables_past t moment r) moment rs
+
+pub posts_due : {R W : Type 0} (c c' : Seen) (moment : ℕ) (here : List (Client R W)) (ss : List Sender)
+    (rs qs : List (List ℕ)) (g : AreGiven here ss rs) → c'.honest
+    → ((log : List Command) → ShowsLog c log → qs ≡ replies_to log (posts moment rs))
+    → AnswersByTables c c' moment rs qs → AnswersAll c c' (steps_at moment here ss rs qs g)
+posts_due c c' moment here ss rs qs g h says by = record {
+  by_log = λ log shown. due_posts moment here ss rs qs g log (says log shown);
+  by_tables = λ t room there.
+      let same : tables_past_all t moment rs ≡ tables_past_commands t (submitted_by (steps_at moment here ss rs qs g)) =
+      sym (ap (tables_past_commands t) (steps_submit moment here ss rs qs g) ∙ past_posts t moment rs) in
+      record {
+        due = due_posts_on moment here ss rs qs g t (by.are h t room there);
+        shows = subst (λ (u : Tables). c'.tables u) same (by.shows h t room there);
+        room = subst (λ (u : Tables). HasRoom u) same (room_past_all t moment rs room);
+        survives = λ only. subst (λ (u : Tables). LeavesOnly c' (λ left. left ≡ u)) same (by.survives h t room there only);
+      };
+}
 
 -- ---- one sender
 
@@ -135,23 +205,21 @@ same_client here s p client x at there e =
 answered_one : {R W : Type 0} {known : R × W → Known} {k : Known} {c c' : Seen} {steps : List Step} (moment : ℕ)
     (here one : List (Client R W)) (s : Sender) (r q : List ℕ) (g : GivesAt here s r) (a : AnswersAt here one s q)
     (p : ℕ) (x y : Client R W) → AllDiffer (numbers here) → slice_get here p ≡ Some x → slice_get one p ≡ Some y
-    → (c'.honest → (log : List Command) → ShowsLog c log
-    → q ≡ reply_spelling (reply (followed_by log (submitted_by steps)) r))
-    → StandsHere known k c c' steps x → StandsHere known k c c' (steps ++ step_at moment g ∷ []) y
-answered_one {R} {W} {known} {k} {c} {c'} {steps} moment here one s r q g a p x y all at there says is =
+    → StandsHere known k c c' steps x → StandsHere known k c c' (steps ++ step_at moment q g ∷ []) y
+answered_one {R} {W} {known} {k} {c} {c'} {steps} moment here one s r q g a p x y all at there is =
     elim (same_or_not p s.place) [
       | inl e ↦
-          subst (λ (z : Client R W). StandsHere known k c c' (steps ++ step_at moment g ∷ []) z)
+          subst (λ (z : Client R W). StandsHere known k c c' (steps ++ step_at moment q g ∷ []) z)
           (changed_at here one s.place p g.client a.after y g.at a.is there e)
-          (record_step g.client a.after moment s.head q r g.gives.going g.gives.is says
+          (record_step g.client a.after moment s.head q r g.gives.going g.gives.is
           (answers_given here one s r q g a)
           (subst (λ (z : Client R W). StandsHere known k c c' steps z)
           (same_client here s.place p g.client x g.at at e) is))
       | inr ne ↦
-          subst (λ (z : Client R W). StandsHere known k c c' (steps ++ step_at moment g ∷ []) z)
+          subst (λ (z : Client R W). StandsHere known k c c' (steps ++ step_at moment q g ∷ []) z)
           (kept_at here one s.place p x a.after y at a.is there ne)
           (record {
-            is = stands_beside x.parting (step_at moment g ∷ [])
+            is = stands_beside x.parting (step_at moment q g ∷ [])
                 ((λ e. numbers_apart here s.place p g.client x all g.at at ne (sym e)), tt) (λ h. h) is.is;
           })
     ]
@@ -200,53 +268,31 @@ numbers_all_refused here here' (s ∷ ss) (r ∷ rs) why g apart (mid, one, more
     (given_still here mid s.place one.after ss rs one.is g.1 apart.0) apart.1 more
     ∙ numbers_refused here mid s r why g.0 one
 
--- after one record more the log has it first
-log_then : {R W : Type 0} (log : List Command) (steps : List Step) (moment : ℕ) {here : List (Client R W)} {s : Sender}
-    (r : List ℕ) (g : GivesAt here s r)
-    → followed_by log (submitted_by (steps ++ step_at moment g ∷ []))
-    ≡ Post moment r ∷ followed_by log (submitted_by steps)
-log_then log steps moment r g =
-    ap (followed_by log) (submitted-append steps (step_at moment g ∷ []))
-    ∙ after-append log (submitted_by steps) (submitted_by (step_at moment g ∷ []))
-    ∙ ap (followed_by (followed_by log (submitted_by steps)))
-    (append-nil (commands_for moment (asked_by g.gives.is.message)) ∙ one_post moment r g)
-
-first_reply : (q x : List ℕ) (qs xs : List (List ℕ)) → q ∷ qs ≡ x ∷ xs → q ≡ x
-first_reply q x qs xs e = cc
-
-more_replies : (q x : List ℕ) (qs xs : List (List ℕ)) → q ∷ qs ≡ x ∷ xs → qs ≡ xs
-more_replies q x qs xs e = cc
-
 pub answered_each : {R W : Type 0} {known : R × W → Known} {k : Known} {c c' : Seen} (moment : ℕ)
     (here here' : List (Client R W)) (ss : List Sender) (rs qs : List (List ℕ)) (g : AreGiven here ss rs)
     → AreApart ss → AllDiffer (numbers here) → AnswersEach here here' ss qs → (p : ℕ) (x x' : Client R W)
     → slice_get here p ≡ Some x → slice_get here' p ≡ Some x' → (steps : List Step)
-    → (c'.honest → (log : List Command) → ShowsLog c log
-    → qs ≡ replies_to (followed_by log (submitted_by steps)) (posts moment rs))
     → StandsHere known k c c' steps x
-    → StandsHere known k c c' (steps ++ steps_at moment here ss rs g) x'
-answered_each {R} {W} {known} {k} {c} {c'} moment here here' [] rs qs g apart all a p x x' at at' steps says is =
+    → StandsHere known k c c' (steps ++ steps_at moment here ss rs qs g) x'
+answered_each {R} {W} {known} {k} {c} {c'} moment here here' [] rs qs g apart all a p x x' at at' steps is =
     subst (λ (l : List Step). StandsHere known k c c' l x') (sym (append-nil steps))
     (subst (λ (z : Client R W). StandsHere known k c c' steps z)
     (some_is x x' (sym at ∙ ap (λ (cs : List (Client R W)). slice_get cs p) (sym a) ∙ at')) is)
-answered_each moment here here' (s ∷ ss) [] qs g apart all a p x x' at at' steps says is = absurd g
-answered_each moment here here' (s ∷ ss) (r ∷ rs) [] g apart all a p x x' at at' steps says is = absurd a
+answered_each moment here here' (s ∷ ss) [] qs g apart all a p x x' at at' steps is = absurd g
+answered_each moment here here' (s ∷ ss) (r ∷ rs) [] g apart all a p x x' at at' steps is = absurd a
 answered_each {R} {W} {known} {k} {c} {c'} moment here here' (s ∷ ss) (r ∷ rs) (q ∷ qs) g apart all (mid, one, more)
-    p x x' at at' steps says is =
+    p x x' at at' steps is =
     let same = numbers_answered here mid s r q g.0 one in
     let there = found_too here mid p x same at in
     let later = given_still here mid s.place one.after ss rs one.is g.1 apart.0 in
-    let step = step_at moment g.0 in
+    let step = step_at moment q g.0 in
     let stands : StandsHere known k c c' (steps ++ step ∷ []) there.0 =
-    answered_one moment here mid s r q g.0 one p x there.0 all at there.1
-    (λ h log shown. first_reply q _ qs _ (says h log shown)) is in
+    answered_one moment here mid s r q g.0 one p x there.0 all at there.1 is in
     subst (λ (l : List Step). StandsHere known k c c' l x')
-    (append_assoc steps (step ∷ []) (steps_at moment mid ss rs later)
-    ∙ ap (λ (l : List Step). steps ++ step ∷ l) (steps_kept moment here mid s.place one.after ss rs one.is g.1 apart.0))
+    (append_assoc steps (step ∷ []) (steps_at moment mid ss rs qs later)
+    ∙ ap (λ (l : List Step). steps ++ step ∷ l) (steps_kept moment here mid s.place one.after ss rs qs one.is g.1 apart.0))
     (answered_each moment mid here' ss rs qs later apart.1 (differ_still _ _ same all) more p there.0 x' there.1 at'
-    (steps ++ step ∷ [])
-    (λ h log shown. more_replies q _ qs _ (says h log shown)
-    ∙ ap (λ (l : List Command). replies_to l (posts moment rs)) (sym (log_then log steps moment r g.0))) stands)
+    (steps ++ step ∷ []) stands)
 
 pub refused_each : {R W : Type 0} {known : R × W → Known} {k : Known} {c c' : Seen} (here here' : List (Client R W))
     (ss : List Sender) (rs : List (List ℕ)) (why : Fault) (g : AreGiven here ss rs) → AreApart ss
@@ -278,7 +324,7 @@ told_one : {R W : Type 0} {known : R × W → Known} {k : Known} {c c' : Seen} {
     (one : RefusesAt here mid s why) → AllByRecursion (IsElsewhere s.place) ss → RefusesEach mid here' ss why
     → AllDiffer (numbers here) → numbers here' ≡ numbers here → (p : ℕ) (x x' : Client R W) → slice_get here p ≡ Some x
     → slice_get here' p ≡ Some x' → StandsHere known k c c' steps x → g.client.number ≡ x'.number
-    → StandsRefused known k c c' steps why (step_at moment g).turn x'
+    → StandsRefused known k c c' steps why (step_at moment [] g).turn x'
 told_one {R} {W} {known} {k} {c} {c'} {steps} moment here mid here' s r ss why g one apart more all same p x x' at at' is
     own =
     elim (same_or_not p s.place) [
@@ -286,7 +332,7 @@ told_one {R} {W} {known} {k} {c} {c'} {steps} moment here mid here' s r ss why g
           let there : slice_get here' s.place ≡ Some one.after =
           refused_elsewhere mid here' ss why s.place more apart
           ∙ ap (λ (cs : List (Client R W)). slice_get cs s.place) one.is ∙ at_same here s.place one.before one.after one.at in
-          subst (λ (z : Client R W). StandsRefused known k c c' steps why (step_at moment g).turn z)
+          subst (λ (z : Client R W). StandsRefused known k c c' steps why (step_at moment [] g).turn z)
           (same_client here' s.place p x' one.after (sym (ap (λ (n : ℕ). slice_get here' n) e) ∙ at')
           (ap (λ (n : ℕ). slice_get here' n) e ∙ there) e)
           (refused_now g.client one.after moment g.gives.is.message s.head why g.gives.going g.gives.is.is
@@ -303,7 +349,7 @@ pub told_each : {R W : Type 0} {known : R × W → Known} {k : Known} {c c' : Se
     (here here' : List (Client R W)) (ss : List Sender) (rs : List (List ℕ)) (why : Fault) (g : AreGiven here ss rs)
     → AreApart ss → AllDiffer (numbers here) → RefusesEach here here' ss why → (p : ℕ) (x x' : Client R W)
     → slice_get here p ≡ Some x → slice_get here' p ≡ Some x' → StandsHere known k c c' steps x
-    → AreRefused known k c c' steps (Some why) (steps_at moment here ss rs g) x'
+    → AreRefused known k c c' steps (Some why) (steps_at moment here ss rs [] g) x'
 told_each moment here here' [] rs why g apart all a p x x' at at' is = tt
 told_each moment here here' (s ∷ ss) [] why g apart all a p x x' at at' is = absurd g
 told_each {R} {W} {known} {k} {c} {c'} {steps} moment here here' (s ∷ ss) (r ∷ rs) why g apart all (mid, one, more) p x x'
@@ -314,7 +360,7 @@ told_each {R} {W} {known} {k} {c} {c'} {steps} moment here here' (s ∷ ss) (r �
       (λ own. told_one moment here mid here' s r ss why g.0 one apart.0 more all
           (numbers_all_refused mid here' ss rs why later apart.1 more ∙ same) p x x' at at' is own),
       subst (λ (l : List Step). AreRefused known k c c' steps (Some why) l x')
-          (steps_kept moment here mid s.place one.after ss rs one.is g.1 apart.0)
+          (steps_kept moment here mid s.place one.after ss rs [] one.is g.1 apart.0)
           (told_each moment mid here' ss rs why later apart.1 (differ_still _ _ same all) more p there.0 x' there.1 at'
           (refused_one here mid s r why g.0 one p x there.0 at there.1 is)),
     )

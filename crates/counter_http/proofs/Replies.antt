@@ -7,7 +7,6 @@ use Rattle.posting_rules.specs.declared.fault.Fault.{Fault}
 use Rattle.posting_rules.specs.declared.fault.Fault.TheVariants as fault
 use Rattle.posting_rules.specs.believed.Commands.{Command}
 use Rattle.posting_rules.specs.believed.Counter.{Seen, ShowsLog}
-use Rattle.posting_rules.specs.believed.Runs.{followed_by}
 use Rattle.counter_http.specs.Asking.{said_in}
 use Rattle.counter_http.specs.Connections.{Known}
 use Rattle.counter_http.specs.Next.{IsHopeless, IsUnfinished, IsWhole, asked}
@@ -21,7 +20,7 @@ use Rattle.counter_http.specs.believed.Answers.{is_posting, refusal, shows}
 use Rattle.counter_http.specs.declared.figures.Figures.{Figures}
 use Rattle.counter_http.specs.believed.Messages.{EndsWalk, Message, message_text}
 use Rattle.counter_http.specs.believed.Serving.{IsWalked, KeepsConnection}
-use Rattle.counter_http.specs.together.Order.{Step, of_client, submitted_by}
+use Rattle.counter_http.specs.together.Order.{Step, of_client}
 use Rattle.counter_http.specs.believed.Turns.{Turn}
 use Rattle.counter_http.specs.declared.answers.Reading.{Reading}
 use Rattle.counter_http.specs.declared.client.Client.{Client}
@@ -74,22 +73,23 @@ pub says_answered : {C R W X : Type 0} (seen : C → Seen) {reason : Fault → C
 says_answered seen {known = known} figures bank new old after m head answer front.Answered result did is going reads asked
     told says =
     let given = told_to figures (asked_by m) in
+    let text = answer_text answer head.shows_body head.closes in
     record {
-      more = step_told given old.number 0 m ∷ [];
+      more = step_told given old.number 0 m text ∷ [];
       reads = ((reads, refl), tt);
       own = (refl, tt);
       asked = asked;
+      due = λ h log shown. (
+        ap (λ (b : Bool). answer_text answer b head.closes) is.shows_is
+            ∙ ap (λ (b : Bool). answer_text answer (shows (asked_by m)) b) is.closes_is
+            ∙ ap (λ (a : Answer). answer_text a (shows (asked_by m)) (asked_by m).closes) (says h log shown),
+        tt,
+      );
       told = told _;
-      fares = λ fault refused among. fares_answered old after (answer_text answer head.shows_body head.closes) head
-          (step_told given old.number 0 m) [] refl going did;
+      fares = λ fault refused among. fares_answered old after text head (step_told given old.number 0 m text) [] refl going did;
       number = did.same.number;
       stands = λ k first steps takes stands.
-          answered_here old after given 0 m head
-          (answer_text answer head.shows_body head.closes) going is did asked.honest
-          (λ h log s. ap (λ (b : Bool). answer_text answer b head.closes) is.shows_is
-          ∙ ap (λ (b : Bool). answer_text answer (shows (asked_by m)) b) is.closes_is
-          ∙ ap (λ (a : Answer). answer_text a (shows (asked_by m)) (asked_by m).closes)
-          (says h (followed_by log (submitted_by steps)) (takes.shows (asked.honest h) log s))) stands;
+          answered_here old after given 0 m head text going is did asked.honest stands;
     }
 says_answered seen figures bank new old after m head answer front.Nothing result lost is going reads asked told says =
     answered_nothing seen bank new old after result asked (told [])
@@ -118,11 +118,11 @@ tells_refusal : {C R W : Type 0} (seen : C → Seen) {known : R × W → Known} 
     → IsHeadOf head (unread old) m → old.parting ≡ None → is_posting (asked_by m) ≡ false
     → ((seen new).honest → (seen bank).honest) → TellsRefusal seen known bank new old after [] why
 tells_refusal seen {known} bank new old after m head why ended is going reads honest = record {
-  step = step_of old.number 0 m;
+  step = step_of old.number 0 m [];
   own = refl;
   reads = reads;
   told = λ k first steps takes stands.
-      subst (λ (ss : List Step). StandsRefused known k (seen first) (seen new) ss why (step_of old.number 0 m).turn after)
+      subst (λ (ss : List Step). StandsRefused known k (seen first) (seen new) ss why (step_of old.number 0 m []).turn after)
       (sym (append-nil steps)) (refused_now old after 0 m head why going is ended honest stands);
 }
 

@@ -1,5 +1,5 @@
 -- Rounds of clients that are served at once, one after another, and how they end.
-use Rattle.std.proofs.Common.{◌≡◌, ℕ, ◌+◌, ◌-◌, ◌<◌, ◌≤◌, ◌⊎◌, List, [], ◌∷◌, ◌++◌, length, map, Option, Some}
+use Rattle.std.proofs.Common.{◌≡◌, ℕ, ◌+◌, ◌<◌, ◌≤◌, ◌⊎◌, List, [], ◌∷◌, ◌++◌, length, map, Option, Some}
 use Rattle.std.proofs.Common.{Result, Ok, refl, sym, ap, subst, ◌∙◌, append_assoc, append-nil, arith, inl, inr}
 use Rattle.std.specs.Prelude.{None, Contains, OnErr}
 use Rattle.std.specs.List.{AllByRecursion, AllZip}
@@ -10,11 +10,12 @@ use Rattle.posting_rules.specs.believed.Counter.{Seen, ShowsLog, Takes}
 use Rattle.posting_rules.specs.believed.Runs.{followed_by}
 use Rattle.posting_rules.proofs.CounterCalls.{idle_after, takes_none}
 use Rattle.posting_core.specs.believed.Clock.{AreReadings}
-use Rattle.posting_core.proofs.{StreamedBatches.all_more, StreamedBatches.takes_more, Telling.adds-none}
+use Rattle.posting_core.proofs.{ByTables.stays_itself, StreamedBatches.all_more, StreamedBatches.takes_more, Telling.adds-none}
 use Rattle.counter_http.specs.Clients.{ClientsCall, Waited}
 use Rattle.counter_http.specs.Connections.{Known}
 use Rattle.counter_http.specs.together.Crowd.{IsCrowd, IsLeftOf}
 use Rattle.counter_http.specs.together.Crowd.{all_settled}
+use Rattle.counter_http.specs.together.Due.{AnswersAll}
 use Rattle.counter_http.specs.together.Order.{AreDated, AreFigured, CountsRounds, HasSpared, IsDated, IsRound, Round, Step, readings_in, readings_of, steps_in}
 use Rattle.counter_http.specs.together.Order.{clients_of, steps_of, submitted_by}
 use Rattle.counter_http.specs.together.Faring.{HasNoMore}
@@ -34,6 +35,7 @@ use Rattle.counter_http.specs.declared.listen_fault.ListenFault.{ListenFault}
 use Rattle.counter_http.proofs.Beside.{served_beside}
 use Rattle.counter_http.proofs.Counted.{counts_none, figured_more, rounds_then}
 use Rattle.counter_http.proofs.CrowdRounds.{all_by, zip_places}
+use Rattle.counter_http.proofs.Dues.{answers_none, answers_then}
 use Rattle.counter_http.proofs.Crowds.{each_weaker}
 use Rattle.counter_http.proofs.Moving.{HadMuch, IsDone, all_further, done_written}
 use Rattle.counter_http.proofs.Moving.{last_one, last_then, left_settled, moved_more, moved_on, much_on}
@@ -63,6 +65,7 @@ pub record Rounding {C R W : Type 0} (seen : C → Seen) (reason : Fault → C �
   pub honest : (seen now).honest → (seen old).honest
   pub up : (seen now).is_down → (seen old).is_down
   pub takes : Takes (seen old) (seen now) (submitted_by (steps_of rounds))
+  pub due : (seen now).honest → AnswersAll (seen old) (seen now) (steps_of rounds)
   pub idle : (seen old).is_down → now ≡ old
   pub few : came ≤ n
   pub crowd : IsCrowd ⊥ [] known g calls (seen old) (seen now) (steps_of rounds) None []
@@ -88,6 +91,7 @@ rounding_none {C} {R} {W} seen {reason} {known} g k old n here tally none zero =
   honest = λ h. h;
   up = λ down. down;
   takes = takes_none (seen old);
+  due = λ h. answers_none (seen old) (seen old) h (stays_itself (seen old));
   idle = λ down. refl;
   few = omega arith;
   crowd = rw none (record {
@@ -124,6 +128,13 @@ takes_one_more c c' c'' rs r honest a b =
     subst (λ (x : List Command). Takes c c'' x)
     (sym (submitted-append (steps_of rs) (steps_in r)) ∙ ap submitted_by (steps_one_more rs r))
     (takes_more c c' c'' (submitted_by (steps_of rs)) (submitted_by (steps_in r)) honest a b)
+
+-- and each answer in it was due
+pub due_one_more : (c c' c'' : Seen) (rs : List Round) (r : Round) → c'.honest → Takes c c' (submitted_by (steps_of rs))
+    → AnswersAll c c' (steps_of rs) → AnswersAll c' c'' (steps_in r) → AnswersAll c c'' (steps_of (rs ++ r ∷ []))
+due_one_more c c' c'' rs r honest takes a b =
+    subst (λ (ss : List Step). AnswersAll c c'' ss) (steps_one_more rs r)
+    (answers_then c c' c'' (steps_of rs) (steps_in r) honest takes a b)
 
 -- the figures of a round more are those that stood before it
 pub figured_then : {C R W X : Type 0} (seen : C → Seen) {reason : Fault → C → C → Type 0} {known : R × W → Known}
@@ -390,6 +401,10 @@ rounding_next seen {reason} {known} {g = g} {t' = t'} {k} {k'} {k''} old now new
       up = λ down. s.up (r.up (subst (λ (c : _). (seen c).is_down) same down));
       takes = takes_one_more (seen old) (seen now) (seen new) s.rounds r.round (λ h. r.honest_first (r.honest h)) s.takes
           (subst (λ (c : _). Takes (seen now) (seen c) (submitted_by (steps_in r.round))) (sym same) r.takes);
+      due = λ h.
+          let before = r.honest_first (r.honest h) in
+          due_one_more (seen old) (seen now) (seen new) s.rounds r.round before s.takes (s.due before)
+          (subst (λ (c : _). AnswersAll (seen now) (seen c) (steps_in r.round)) (sym same) (r.due h));
       idle = idle_after seen old now s.idle new r.idle;
       few = s.few;
       crowd = subst (λ (x : List Step). IsCrowd ⊥ [] known g calls (seen old) (seen new) x None []

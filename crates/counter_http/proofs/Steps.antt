@@ -1,13 +1,9 @@
 -- Messages in one order, and those of one client among them.
-use Rattle.std.proofs.Common.{◌≡◌, ℕ, List, [], ◌∷◌, ◌++◌, Bool, true, false, refl, sym, ap, ◌∙◌, eqb}
+use Rattle.std.proofs.Common.{◌≡◌, ℕ, List, [], ◌∷◌, ◌++◌, Bool, true, false, refl, ap, ◌∙◌, eqb}
 use Rattle.std.proofs.Common.{eq-eqb}
 use Rattle.std.specs.{Prelude.◌≢◌, List.AllByRecursion}
 use Rattle.std.proofs.lemmas.{Bool.ne_eqb, List.map-append, List.Concat.flat_map-append}
-use Rattle.posting_rules.specs.{believed.Commands.Command, believed.Runs.followed_by}
-use Rattle.posting_rules.proofs.Sequence.{after-append}
-use Rattle.counter_http.specs.Figures.{answer_told}
-use Rattle.counter_http.specs.believed.Answers.{asked_by}
-use Rattle.counter_http.specs.together.Order.{Step, answers_at, if_own, of_client, submitted_by, turn_in, turns_of}
+use Rattle.counter_http.specs.together.Order.{Step, answers_of, if_own, of_client, submitted_by, turn_in, turns_of}
 use Rattle.counter_http.specs.believed.Turns.{Turn, commands_in, commands_of}
 
 pub submitted-append : (ss ts : List Step) → submitted_by (ss ++ ts) ≡ submitted_by ss ++ submitted_by ts
@@ -25,16 +21,11 @@ of_client-append i (s ∷ ss) ts =
     own_append (eqb s.client i) s.turn (of_client i ss) (of_client i ts) (of_client i (ss ++ ts))
     (of_client-append i ss ts)
 
-pub answers_at-append : (i : ℕ) (log : List Command) (ss ts : List Step)
-    → answers_at i log (ss ++ ts) ≡ answers_at i log ss ++ answers_at i (followed_by log (submitted_by ss)) ts
-answers_at-append i log [] ts = refl
-answers_at-append i log (s ∷ ss) ts =
-    let after = followed_by log (commands_in s.turn) in
-    own_append (eqb s.client i) (answer_told s.figures log (asked_by s.turn.message)) (answers_at i after ss)
-    (answers_at i (followed_by log (submitted_by (s ∷ ss))) ts) (answers_at i after (ss ++ ts))
-    (answers_at-append i after ss ts
-    ∙ ap (λ (l : List Command). answers_at i after ss ++ answers_at i l ts)
-    (sym (after-append log (commands_in s.turn) (submitted_by ss))))
+pub answers_of-append : (i : ℕ) (ss ts : List Step) → answers_of i (ss ++ ts) ≡ answers_of i ss ++ answers_of i ts
+answers_of-append i [] ts = refl
+answers_of-append i (s ∷ ss) ts =
+    own_append (eqb s.client i) s.answer (answers_of i ss) (answers_of i ts) (answers_of i (ss ++ ts))
+    (answers_of-append i ss ts)
 
 -- ---- of others
 
@@ -48,11 +39,9 @@ pub none_of : (i : ℕ) (ts : List Step) → AllByRecursion (OfOther i) ts → o
 none_of i [] all = refl
 none_of i (t ∷ ts) all = rw (ne_eqb t.client i all.0) (none_of i ts all.1)
 
-pub no_answers : (i : ℕ) (log : List Command) (ts : List Step) → AllByRecursion (OfOther i) ts
-    → answers_at i log ts ≡ []
-no_answers i log [] all = refl
-no_answers i log (t ∷ ts) all =
-    rw (ne_eqb t.client i all.0) (no_answers i (followed_by log (commands_in t.turn)) ts all.1)
+pub no_answers : (i : ℕ) (ts : List Step) → AllByRecursion (OfOther i) ts → answers_of i ts ≡ []
+no_answers i [] all = refl
+no_answers i (t ∷ ts) all = rw (ne_eqb t.client i all.0) (no_answers i ts all.1)
 
 -- ---- its own
 
@@ -60,7 +49,5 @@ pub all_of : (i : ℕ) (ts : List Step) → AllByRecursion (OfOne i) ts → of_c
 all_of i [] all = refl
 all_of i (t ∷ ts) all = rw (eq-eqb t.client i all.0) (ap (λ (x : List Turn). t.turn ∷ x) (all_of i ts all.1))
 
--- one alone, whether it is told figures or not
-pub one_answer : (i : ℕ) (log : List Command) (t : Step) → t.client ≡ i
-    → answers_at i log (t ∷ []) ≡ answer_told t.figures log (asked_by t.turn.message) ∷ []
-one_answer i log t own = rw (eq-eqb t.client i own) refl
+pub one_answer : (i : ℕ) (t : Step) → t.client ≡ i → answers_of i (t ∷ []) ≡ t.answer ∷ []
+one_answer i t own = rw (eq-eqb t.client i own) refl

@@ -5,7 +5,7 @@ use Rattle.std.specs.{Prelude.◌≢◌, Prelude.⊤, Io.KnownBytes.Appends, Io.
 use Rattle.std.proofs.{KnownBytes.Appends-trans}
 use Rattle.std.proofs.lemmas.List.{take-append-drop}
 use Rattle.std.proofs.Math.Seq.{take-append_seam}
-use Rattle.posting_rules.specs.{believed.Commands.Command, believed.Counter.Seen, believed.Counter.ShowsLog}
+use Rattle.posting_rules.specs.{believed.Counter.Seen}
 use Rattle.posting_core.specs.{believed.Batches.joined}
 use Rattle.posting_core.specs.EndCalls.{HasMore, IsFlush, IsThrough, WriteCall}
 use Rattle.posting_core.specs.believed.EndCalls.{EndsWith}
@@ -15,7 +15,7 @@ use Rattle.counter_http.specs.together.Standing.{IsGoing, IsParted, MayBeLeft, S
 use Rattle.counter_http.specs.together.Serving.{AnswersBeforeItsReads, Broken_off, ClientIsServed, Goes_on, IsWrittenAs, PartingIsOfItsEnd}
 use Rattle.counter_http.specs.together.Serving.{PartsAs, Stands, Walk_ended}
 use Rattle.counter_http.specs.believed.Ends.{HasEnded}
-use Rattle.counter_http.specs.together.Order.{Step, answers_at, of_client}
+use Rattle.counter_http.specs.together.Order.{Step, answers_of, of_client}
 use Rattle.counter_http.specs.believed.Turns.{Turn, texts_of}
 use Rattle.counter_http.specs.declared.parting.Parting.{Parting}
 use Rattle.counter_http.specs.declared.parting.Parting.TheVariants as parting
@@ -69,8 +69,7 @@ pub record IsLeft (i : ℕ) (k l : Known) (c c' : Seen) (steps : List Step) : Ty
   pub written : List ℕ
   pub wrote : Appends k.writer l.writer written
   pub stands : Stands (HasEnded l.reader k.reads l.reads) (of_client i steps) lost rest last
-  pub answers : c'.honest → (log : List Command) → ShowsLog c log
-      → written ≡ take (length written) (joined (answers_at i log steps ++ last))
+  pub answers : written ≡ take (length written) (joined (answers_of i steps ++ last))
   pub more : HasMore k.writes l.writes
   pub prompt : AnswersBeforeItsReads i k.reads l.reads k.beside l.beside k.writer k.writes c c' steps
       (texts_of (of_client i steps ++ lost) ++ rest)
@@ -89,8 +88,8 @@ left_as {i} {k} {l} {c} {c'} {steps} None {has_more} {shown} {rest} {pending} so
       written = g.written;
       wrote = g.wrote;
       stands = Goes_on (record { stays = g.stays; none_lost = refl; nothing = refl });
-      answers = λ h log s. begins_with g.written pending (joined (answers_at i log steps ++ []))
-          (g.answers h log s ∙ ap joined (sym (append-nil (answers_at i log steps))));
+      answers = begins_with g.written pending (joined (answers_of i steps ++ []))
+          (g.answers ∙ ap joined (sym (append-nil (answers_of i steps))));
       more = g.more;
       prompt = subst (λ (x : List ℕ). AnswersBeforeItsReads i k.reads l.reads k.beside l.beside k.writer k.writes c c'
           steps x) none g.prompt;
@@ -103,7 +102,7 @@ left_as {i} {k} {l} {c} {c'} {steps} (Some p) {pending = pending} so = let g : I
   written = g.written;
   wrote = g.wrote;
   stands = stands_of p g.parts;
-  answers = λ h log s. prefix_of p g.written pending (joined (answers_at i log steps ++ g.last)) (g.answers h log s);
+  answers = prefix_of p g.written pending (joined (answers_of i steps ++ g.last)) g.answers;
   more = g.more;
   prompt = g.prompt;
 }
@@ -116,8 +115,7 @@ IsLoss _ = ⊥
 
 unfoldable pub loses : {i : ℕ} {k l : Known} {c c' : Seen} {steps : List Step} (p : Parting) (is : IsLeft i k l c c' steps)
     → PartsAs p (HasEnded l.reader k.reads l.reads) (of_client i steps) is.lost is.rest is.last
-    → (c'.honest → (log : List Command) → ShowsLog c log
-    → IsWrittenAs p (is.written ++ []) (joined (answers_at i log steps ++ is.last)))
+    → IsWrittenAs p (is.written ++ []) (joined (answers_of i steps ++ is.last))
     → MayBeLeft p [] → PartingIsOfItsEnd p k.reads l.reads k.writes l.writes
     → IsParted i k l c c' steps [] p
 loses p is parts answers left ends = record {
@@ -147,9 +145,9 @@ lost_as parting.Served loss is ends = absurd loss
 lost_as parting.Read loss is ends = absurd loss
 lost_as (parting.Bank fault) loss is ends = absurd loss
 lost_as parting.Write loss is ends = loses parting.Write is is.stands
-    (λ h log s. no_more_written is.written _ (is.answers h log s)) refl ends
+    (no_more_written is.written _ is.answers) refl ends
 lost_as parting.Memory loss is ends = loses parting.Memory is is.stands
-    (λ h log s. no_more_written is.written _ (is.answers h log s)) refl ends
+    (no_more_written is.written _ is.answers) refl ends
 lost_as parting.GivenUp loss is ends = absurd loss
 lost_as parting.Stopped loss is ends = absurd loss
 
@@ -164,8 +162,7 @@ IsCause _ = ⊥
 
 unfoldable pub closed_for : {i : ℕ} {k l : Known} {c c' : Seen} {steps : List Step} (cause : Parting)
     (is : IsLeft i k l c c' steps) → PartsAs cause (HasEnded l.reader k.reads l.reads) (of_client i steps) is.lost is.rest is.last
-    → (c'.honest → (log : List Command) → ShowsLog c log
-    → IsWrittenAs cause is.written (joined (answers_at i log steps ++ is.last)))
+    → IsWrittenAs cause is.written (joined (answers_of i steps ++ is.last))
     → PartingIsOfItsEnd cause k.reads l.reads k.writes l.writes → ClientIsServed i k l c c' steps cause
 closed_for cause is parts answers ends = record {
   lost = is.lost;
@@ -200,8 +197,8 @@ closed_as {i} {steps = steps} {pending} {p} none is = record {
   written = is.written;
   wrote = is.wrote;
   parts = is.parts;
-  answers = λ h log s. subst (λ (x : List ℕ). IsWrittenAs p x (joined (answers_at i log steps ++ is.last)))
-      (ap (λ (x : List ℕ). is.written ++ x) none ∙ append-nil is.written) (is.answers h log s);
+  answers = subst (λ (x : List ℕ). IsWrittenAs p x (joined (answers_of i steps ++ is.last)))
+      (ap (λ (x : List ℕ). is.written ++ x) none ∙ append-nil is.written) is.answers;
   ends = is.ends none;
   prompt = is.prompt;
 }
@@ -251,7 +248,7 @@ wrote_to {i} {k} {l} {c} {c'} {steps} None {has_more} {shown} {rest} {pending} n
         waits = g.waits;
         written = g.written ++ take n pending;
         wrote = Appends-trans k.writer l.writer w' g.written (take n pending) g.wrote wrote;
-        answers = λ h log s. regrouped g.written pending n ∙ g.answers h log s;
+        answers = regrouped g.written pending n ∙ g.answers;
         more = more_more g.more more;
         through = λ none. inr (more_last IsFlush g.more (flushed none));
         prompt = g.prompt;
@@ -267,8 +264,8 @@ wrote_to {i} {k} {l} {c} {c'} {steps} (Some p) {pending = pending} n w' v' wrote
         written = g.written ++ take n pending;
         wrote = Appends-trans k.writer l.writer w' g.written (take n pending) g.wrote wrote;
         parts = g.parts;
-        answers = λ h log s. subst (λ (x : List ℕ). IsWrittenAs p x (joined (answers_at i log steps ++ g.last)))
-            (sym (regrouped g.written pending n)) (g.answers h log s);
+        answers = subst (λ (x : List ℕ). IsWrittenAs p x (joined (answers_of i steps ++ g.last)))
+            (sym (regrouped g.written pending n)) g.answers;
         more = more_more g.more more;
         left = still_left p pending n g.left some;
         ends = λ none. wrote_flushed p k l v' pending g.left some (inr (more_last IsFlush g.more (flushed none)));
@@ -285,17 +282,16 @@ prefix_more p written pending text n is =
 pub take_written : {i : ℕ} {k l : Known} {c c' : Seen} {steps : List Step} (p : Option Parting)
     {has_more shown : Bool} {rest pending : List ℕ} (n : ℕ)
     (g : StandsAs p i k l c c' steps has_more shown rest pending)
-    → c'.honest → (log : List Command) → ShowsLog c log
     → (left_as p g).written ++ take n pending
-    ≡ take (length ((left_as p g).written ++ take n pending)) (joined (answers_at i log steps ++ (left_as p g).last))
+    ≡ take (length ((left_as p g).written ++ take n pending)) (joined (answers_of i steps ++ (left_as p g).last))
 unfolding left_as
-take_written {i} {k} {l} {c} {c'} {steps} None {has_more} {shown} {rest} {pending} n so h log s =
+take_written {i} {k} {l} {c} {c'} {steps} None {has_more} {shown} {rest} {pending} n so =
     let g : IsGoing i k l c c' steps has_more shown rest pending = so.is in
-    begins_with (g.written ++ take n pending) (drop n pending) (joined (answers_at i log steps ++ []))
-    (regrouped g.written pending n ∙ g.answers h log s ∙ ap joined (sym (append-nil (answers_at i log steps))))
-take_written {i} {k} {l} {c} {c'} {steps} (Some p) {pending = pending} n so h log s =
+    begins_with (g.written ++ take n pending) (drop n pending) (joined (answers_of i steps ++ []))
+    (regrouped g.written pending n ∙ g.answers ∙ ap joined (sym (append-nil (answers_of i steps))))
+take_written {i} {k} {l} {c} {c'} {steps} (Some p) {pending = pending} n so =
     let g : IsParted i k l c c' steps pending p = so.is in
-    prefix_more p g.written pending (joined (answers_at i log steps ++ g.last)) n (g.answers h log s)
+    prefix_more p g.written pending (joined (answers_of i steps ++ g.last)) n g.answers
 
 -- some were written, and no more will be
 unfoldable pub left_after : {i : ℕ} {k l : Known} {c c' : Seen} {steps : List Step} (p : Option Parting)

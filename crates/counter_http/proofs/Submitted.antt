@@ -5,14 +5,15 @@ use Rattle.std.proofs.lemmas.List.{length-append}
 use Rattle.std.specs.{List.AllByRecursion, List.slice_get, Prelude.◌⊎◌, Prelude.◌≢◌, Prelude.IfErr, Prelude.OnOk}
 use Rattle.posting_rules.specs.declared.fault.Fault.{Fault}
 use Rattle.posting_rules.specs.declared.fault.Fault.TheVariants as fault
-use Rattle.posting_rules.specs.believed.{Commands.Command}
+use Rattle.posting_rules.specs.believed.{AnyTables.AnswersByTables, Commands.Command}
 use Rattle.posting_rules.specs.believed.Counter.{IsCounterCall, Refuses, Seen, ShowsLog, Takes}
 use Rattle.posting_rules.specs.believed.Runs.{followed_by, posts, replies_to}
 use Rattle.posting_rules.proofs.CounterCalls.{idle_after, refused_after, takes_none, Takes-append}
 use Rattle.posting_rules.proofs.Sequence.{replies_to-append}
 use Rattle.posting_core.specs.Stream.{IsOfCall}
-use Rattle.posting_core.proofs.StreamedBatches.{all_more}
+use Rattle.posting_core.proofs.{ByTables.stays_itself, StreamedBatches.all_more}
 use Rattle.counter_http.specs.Connections.{Known}
+use Rattle.counter_http.specs.together.Due.{AnswersAll}
 use Rattle.counter_http.specs.together.Order.{AreCommits, HasSpared, Step, clients_of, is_posted_under, submitted_by}
 use Rattle.counter_http.specs.Figures.{Counts}
 use Rattle.counter_http.specs.declared.figures.Tally.{Tally}
@@ -25,12 +26,13 @@ use Rattle.counter_http.specs.declared.client.Client.{Client}
 use Rattle.counter_http.proofs.AnsweredTurns.{why_first}
 use Rattle.counter_http.proofs.Counted.{commits_then, counts_none, counts_then}
 use Rattle.counter_http.proofs.Asked.{unchanged_takes}
+use Rattle.counter_http.proofs.Dues.{answers_none, answers_then, unchanged_stays}
 use Rattle.counter_http.proofs.Fared.{all_same, all_then}
 use Rattle.counter_http.proofs.FaredEach.{all_among, all_spared, fare_answered, fare_refused}
 use Rattle.counter_http.proofs.Fronts.{stands_after}
 use Rattle.counter_http.proofs.Placed.{beside_none, beside_then, found_too, takes_then}
 use Rattle.counter_http.proofs.Posted.{answered_each, numbers_all_answered, numbers_all_refused, refused_each}
-use Rattle.counter_http.proofs.Posted.{steps_at, steps_long, steps_posted, steps_submit, steps_whose, told_each}
+use Rattle.counter_http.proofs.Posted.{posts_due, steps_at, steps_long, steps_posted, steps_submit, steps_whose, told_each}
 use Rattle.counter_http.proofs.Steps.{submitted-append}
 
 -- ---- no record
@@ -62,6 +64,7 @@ submitted_nothing seen readings bank here t = record {
   honest = λ h. h;
   up = λ down. down;
   takes = takes_none (seen bank);
+  due = λ h. answers_none (seen bank) (seen bank) h (stays_itself (seen bank));
   ends = (refl, refl);
   idle = λ down. refl;
   why = tt;
@@ -103,6 +106,7 @@ spared_all {X = X} seen contents reason readings old new here cs t why e it =
       honest = λ h. h;
       up = call.fault.down;
       takes = unchanged_takes (seen old) (seen new) call.honest call.fault;
+      due = λ h. answers_none (seen old) (seen new) h (unchanged_stays (seen old) (seen new) call.fault);
       ends = (refl, refl);
       idle = λ down. call.untried (call.down down);
       why = tt;
@@ -127,30 +131,29 @@ module _ {C K R W X : Type 0} (seen : C → Seen) (contents : C → K) (reason :
   pub taken_all : (qs : List (List ℕ)) (x : X) → AllDiffer (numbers here)
       → IsCounterCall seen contents reason old new (posts moment rs) (Ok x)
       → ((seen new).honest → (log : List Command) → ShowsLog (seen old) log → qs ≡ replies_to log (posts moment rs))
-      → AnswersEach here here' ss qs → Counts t t' qs 1 → 0 < length rs
+      → AnswersByTables (seen old) (seen new) moment rs qs → AnswersEach here here' ss qs → Counts t t' qs 1 → 0 < length rs
       → AreSubmitted {X = Unit {0}} seen reason known (moment ∷ []) old new here here' t t' (length rs) (Ok tt)
-  taken_all qs x all call says chain counted some = record {
-    posts = steps_at moment here ss rs g;
+  taken_all qs x all call says by chain counted some = record {
+    posts = steps_at moment here ss rs qs g;
     commits = 1;
     are_commits = record {
-      few = omega (arith, steps_long moment here ss rs g, some);
+      few = omega (arith, steps_long moment here ss rs qs g, some);
       some = λ given. omega arith;
     };
     counts = λ h log shown. subst (λ (xs : List (List ℕ)). Counts t t' xs 1)
-        (says h log shown ∙ ap (replies_to log) (sym (steps_submit moment here ss rs g))) counted;
+        (says h log shown ∙ ap (replies_to log) (sym (steps_submit moment here ss rs qs g))) counted;
     refused = [];
     some = tt;
-    together = steps_posted moment here ss rs g;
-    few = omega (arith, steps_long moment here ss rs g);
-    moves = inl (omega (arith, steps_long moment here ss rs g));
+    together = steps_posted moment here ss rs qs g;
+    few = omega (arith, steps_long moment here ss rs qs g);
+    moves = inl (omega (arith, steps_long moment here ss rs qs g));
     whole = tt;
-    dated = λ some. inl (omega (arith, steps_long moment here ss rs g, some));
+    dated = λ some. inl (omega (arith, steps_long moment here ss rs qs g, some));
     beside = record {
-      whose = steps_whose moment here ss rs g;
+      whose = steps_whose moment here ss rs qs g;
       same = numbers_all_answered here here' ss rs qs g apart chain;
       stand = λ p y y' at at' k first before takes is.
           answered_each moment here here' ss rs qs g apart all chain p y y' at at' before
-          (λ h log shown. says h (followed_by log (submitted_by before)) (takes.shows (call.honest h) log shown))
           (stands_after y call.honest is);
     };
     whose_refused = tt;
@@ -160,7 +163,8 @@ module _ {C K R W X : Type 0} (seen : C → Seen) (contents : C → K) (reason :
     honest_first = call.honest;
     honest = λ h. h;
     up = λ down. absurd (call.up down);
-    takes = subst (λ (cs : List Command). Takes (seen old) (seen new) cs) (sym (steps_submit moment here ss rs g)) call.done;
+    takes = subst (λ (cs : List Command). Takes (seen old) (seen new) cs) (sym (steps_submit moment here ss rs qs g)) call.done;
+    due = λ h. posts_due (seen old) (seen new) moment here ss rs qs g h (says h) by;
     ends = (refl, refl);
     idle = λ down. call.untried (call.down down);
     why = tt;
@@ -176,30 +180,31 @@ module _ {C K R W X : Type 0} (seen : C → Seen) (contents : C → K) (reason :
     commits = 0;
     are_commits = no_commit;
     counts = λ h log shown. counts_none t;
-    refused = steps_at moment here ss rs g;
-    some = λ none. absurd (omega (arith, some, steps_long moment here ss rs g, ap length none));
+    refused = steps_at moment here ss rs [] g;
+    some = λ none. absurd (omega (arith, some, steps_long moment here ss rs [] g, ap length none));
     together = tt;
     few = omega arith;
     moves = tt;
-    whole = inl (omega (arith, steps_long moment here ss rs g));
-    dated = λ given. inr (inr (omega (arith, steps_long moment here ss rs g, some)));
+    whole = inl (omega (arith, steps_long moment here ss rs [] g));
+    dated = λ given. inr (inr (omega (arith, steps_long moment here ss rs [] g, some)));
     beside = record {
       whose = tt;
       same = numbers_all_refused here here' ss rs why g apart chain;
       stand = λ p y y' at at' k first before takes is. refused_beside seen old new here here' ss rs g apart why call.honest chain p y y' at at' k first before is;
     };
-    whose_refused = steps_whose moment here ss rs g;
+    whose_refused = steps_whose moment here ss rs [] g;
     are_told = λ p y y' at at' k first before takes is.
-        subst (λ (l : List Step). AreRefused known k (seen first) (seen new) l (Some why) (steps_at moment here ss rs g) y')
+        subst (λ (l : List Step). AreRefused known k (seen first) (seen new) l (Some why) (steps_at moment here ss rs [] g) y')
         (sym (append-nil before))
         (told_each moment here here' ss rs why g apart all chain p y y' at at' (stands_after y call.honest is));
-    fare = fare_refused moment here here' ss rs why g apart (all_among why (steps_at moment here ss rs g)) chain;
+    fare = fare_refused moment here here' ss rs why g apart (all_among why (steps_at moment here ss rs [] g)) chain;
     stood = old;
     honest_first = λ h. h;
     honest = call.honest;
     up = λ down. down;
     takes = takes_none (seen old);
-    ends = subst (λ (cs : List Command). Refuses why (seen old) (seen new) cs) (sym (steps_submit moment here ss rs g))
+    due = λ h. answers_none (seen old) (seen old) (call.honest h) (stays_itself (seen old));
+    ends = subst (λ (cs : List Command). Refuses why (seen old) (seen new) cs) (sym (steps_submit moment here ss rs [] g))
         call.fault;
     idle = λ down. call.untried (call.down down);
     why = why_first seen contents reason old new (posts moment rs) why call;
@@ -233,12 +238,13 @@ module _ {C K R W X : Type 0} (seen : C → Seen) (contents : C → K) (reason :
         };
         whose_refused = tt;
         are_told = λ p y y' at at' k first before takes is. tt;
-        fare = fare_refused moment here here' ss rs why g apart (all_spared why e (clients_of (steps_at moment here ss rs g))) chain;
+        fare = fare_refused moment here here' ss rs why g apart (all_spared why e (clients_of (steps_at moment here ss rs [] g))) chain;
         stood = new;
         honest_first = call.honest;
         honest = λ h. h;
         up = call.fault.down;
         takes = unchanged_takes (seen old) (seen new) call.honest call.fault;
+        due = λ h. answers_none (seen old) (seen new) h (unchanged_stays (seen old) (seen new) call.fault);
         ends = (refl, refl);
         idle = λ down. call.untried (call.down down);
         why = tt;
@@ -320,6 +326,10 @@ submitted_then {C = C} seen {reason} {known} readings old mid new here one two {
       takes = subst (λ (cs : List Command). Takes (seen old) (seen b.stood) cs) (sym (submitted-append a.posts b.posts))
           (Takes-append (seen old) (seen mid) (seen b.stood) (submitted_by a.posts) (submitted_by b.posts) took b.takes
           b.honest_first);
+      due = λ h.
+          let before = b.honest_first (b.honest h) in
+          answers_then (seen old) (seen mid) (seen b.stood) a.posts b.posts before took
+          (subst (λ (c : C). AnswersAll (seen old) (seen c) a.posts) (sym a.ends.1) (a.due before)) (b.due h);
       ends = b.ends;
       idle = idle_after seen old mid a.idle new b.idle;
       why = why_then seen reason old mid new (submitted_by a.posts) result took honest a.idle b.why;
@@ -368,6 +378,7 @@ submitted_few n m le spared a = record {
   honest = a.honest;
   up = a.up;
   takes = a.takes;
+  due = a.due;
   ends = a.ends;
   idle = a.idle;
   why = a.why;

@@ -6,6 +6,7 @@ use Rattle.std.specs.Io.KnownBytes.{Appends}
 use Rattle.posting_rules.specs.declared.fault.Fault.{Fault}
 use Rattle.posting_rules.specs.believed.Commands.{Command}
 use Rattle.posting_rules.specs.believed.Counter.{Seen, ShowsLog, Takes, Refuses}
+use Rattle.posting_rules.specs.Counter.{StaysByTables}
 use Rattle.posting_core.specs.believed.Batches.{joined}
 use Rattle.posting_core.specs.believed.Clock.{AreReadings}
 use Rattle.posting_core.specs.Stream.{IsOfCall}
@@ -58,12 +59,14 @@ pub record IsRefusedAt {C : Type 0} (seen : C → Seen) (old new : C) (fault : F
   pub honest : (seen new).honest → (seen stood).honest
   pub up : (seen stood).is_down → (seen old).is_down
   pub takes : Takes (seen old) (seen stood) []
+  pub stays : StaysByTables (seen old) (seen stood)
   pub refuses : Refuses fault (seen stood) (seen new) commands
 
 -- the bank was asked, and was given no command
 pub record IsAsked {C X : Type 0} (seen : C → Seen) (reason : Fault → C → C → Type 0) (old new : C)
     (result : Result X Fault) : Type 0 where
   pub done : OnOk result (Takes (seen old) (seen new) [])
+  pub stays : OnOk result (StaysByTables (seen old) (seen new))
   pub up : OnOk result ((seen new).is_down → (seen old).is_down)
   pub why : IfErr result (IsOfCall seen reason old new)
   pub fault : IfErr result (λ fault. IsRefusedAt seen old new fault [])

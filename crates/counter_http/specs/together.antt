@@ -1,4 +1,5 @@
 pub mod Order
+pub mod Due
 pub mod Serving
 pub mod Faring
 pub mod Standing

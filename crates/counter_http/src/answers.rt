@@ -1,7 +1,8 @@
 //! The answer to each message.
-ghost use Rattle.std.specs.Prelude.{◌≡◌, [], ℕ, List, take, true, Err, IfOk, string_bytes};
+ghost use Rattle.std.specs.Prelude.{◌≡◌, [], ℕ, List, take, true, Err, IfOk, OnOk, string_bytes};
 ghost use Rattle.std.specs.Io.KnownBytes.{Appends};
 ghost use Rattle.posting_rules.specs.believed.Commands.{Command};
+ghost use Rattle.posting_rules.specs.Counter.{StaysByTables};
 ghost use Rattle.posting_rules.specs.believed.Counter.{Answers, IsCounterCall, ShowsLog};
 ghost use Rattle.counter_http.specs.believed.Answers.{refusal, answer_text, shows, unavailable, is_posting};
 ghost use Rattle.counter_http.specs.believed.Answers.{balance_answer, entries_answer};
@@ -144,6 +145,7 @@ fn balance_of<C: Followed>(holder: &Holder, bank: &mut C) -> Result<Option<Cents
     ensures answer { Answers (C.seen bank.old) (C.seen bank.new) result
         (λ log balance. balance ≡ balance_of log holder.now) }
     ensures call { IsCounterCall C.seen C.contents C.reason bank.old bank.new [] result }
+    ensures by_tables { OnOk result (StaysByTables (C.seen bank.old) (C.seen bank.new)) }
     ensures spares { C.spares bank.old bank.new }
 {
     match holder {

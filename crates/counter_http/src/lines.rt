@@ -1,12 +1,11 @@
 //! The lines of accounts, tellers and branches.
-ghost use Rattle.std.specs.Prelude.{◌≡◌, ◌++◌, ℕ, List, [], IfOk, OnOk, IfErr, OnErr, string_bytes};
-ghost use Rattle.posting_core.specs.Stream.{IsOfCall};
+ghost use Rattle.std.specs.Prelude.{◌≡◌, ◌++◌, ℕ, List, [], IfOk, OnOk, string_bytes};
 ghost use Rattle.posting_rules.specs.believed.Commands.{Command, opened_with};
-ghost use Rattle.posting_rules.specs.believed.Counter.{ShowsLog, Takes};
+ghost use Rattle.posting_rules.specs.believed.Counter.{ShowsLog};
 ghost use Rattle.counter_http.specs.Listing.{listed, names_of, shown_line};
 ghost use Rattle.counter_http.specs.Holders.{holder_line};
 ghost use Rattle.counter_http.specs.believed.Answers.{account_line, branch_line, plan_line, teller_line};
-ghost use Rattle.counter_http.specs.Turns.{IsRefusedAt};
+ghost use Rattle.counter_http.specs.Turns.{IsAsked};
 
 use crate::holders::Holder;
 use message_records::{Account, Cents, Teller};
@@ -119,12 +118,7 @@ pub(crate) fn all_lines<C: Counter>(
 ) -> Result<String, Fault>
     ensures lines { IfOk result (λ body. (C.seen bank.new).honest
         → (log : List Command) → ShowsLog (C.seen bank.old) log → string_bytes body ≡ listed listing log) }
-    ensures done { OnOk result (Takes (C.seen bank.old) (C.seen bank.new) []) }
-    ensures up { OnOk result ((C.seen bank.new).is_down → (C.seen bank.old).is_down) }
-    ensures why { IfErr result (IsOfCall C.seen C.reason bank.old bank.new) }
-    ensures fault { IfErr result (λ fault. IsRefusedAt C.seen bank.old bank.new fault []) }
-    ensures idle { (C.seen bank.old).is_down → bank.new ≡ bank.old }
-    ensures honest { (C.seen bank.new).honest → (C.seen bank.old).honest }
+    ensures asked { IsAsked C.seen C.reason bank.old bank.new result }
     ensures spares { C.spares bank.old bank.new }
 {
     let mut body = String::new(alloc);

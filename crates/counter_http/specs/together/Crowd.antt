@@ -13,6 +13,7 @@ use Rattle.posting_core.specs.believed.Clock.{AreReadings}
 use Rattle.posting_core.specs.believed.EndCalls.{GrowsBy}
 use Rattle.counter_http.specs.Clients.{ClientsCall, Gave, Gave_up, Closed}
 use Rattle.counter_http.specs.Connections.{Known}
+use Rattle.counter_http.specs.together.Due.{AnswersAll}
 use Rattle.counter_http.specs.together.Order.{AreDated, AreFigured, BreaksOff, HasSpared, Step, Round, IsRound, steps_of, readings_of, submitted_by}
 use Rattle.counter_http.specs.together.Faring.{HasNoMore, IsToldSo}
 use Rattle.counter_http.specs.together.Reading.{Reads}
@@ -215,6 +216,7 @@ pub record ServesRounds {C R W : Type 0} (seen : C → Seen) (reason : Fault →
   pub honest : (seen new).honest → (seen stood).honest
   pub up : (seen stood).is_down → (seen old).is_down
   pub takes : Takes (seen old) (seen stood) (submitted_by (steps_of rounds))
+  pub due : (seen new).honest → AnswersAll (seen old) (seen stood) (steps_of rounds)
   pub ends : EndsTogether seen result stood new refused
   pub survives : (seen new).honest → (log : List Command) → StandsAt (seen old) log
       → LeavesOnly (seen new) (ShowsPrefix log (submitted_by (steps_of rounds ++ refused))

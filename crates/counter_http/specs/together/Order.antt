@@ -8,21 +8,22 @@ use Rattle.posting_rules.specs.declared.fault.Fault.{Fault}
 use Rattle.posting_rules.specs.declared.fault.Fault.TheVariants.{Memory}
 use Rattle.posting_rules.specs.declared.limits.TheConstants.{RECORDS_PER_BATCH}
 use Rattle.posting_rules.specs.believed.Commands.{Command}
-use Rattle.posting_rules.specs.believed.Runs.{followed_by, replies_to}
+use Rattle.posting_rules.specs.believed.Runs.{replies_to}
 use Rattle.counter_http.specs.believed.Answers.{asked_by, is_posting}
-use Rattle.counter_http.specs.Figures.{Counts, answer_told, nothing, told_to}
+use Rattle.counter_http.specs.Figures.{Counts, nothing, told_to}
 use Rattle.counter_http.specs.declared.figures.Figures.{Figures}
 use Rattle.counter_http.specs.declared.figures.Tally.{Tally}
-use Rattle.counter_http.specs.believed.Turns.{Turn, commands_in, commands_of}
+use Rattle.counter_http.specs.believed.Turns.{Turn, commands_of}
 
 -- ---- one order of all messages
 
--- a message that a client has its answer to: how many clients came before that one, the message in its turn, and the
--- figures, if it was told them
+-- a message that a client has its answer to: how many clients came before that one, the message in its turn, the
+-- figures, if it was told them, and the answer
 pub record Step : Type 0 where
   pub client : ℕ
   pub turn : Turn
   pub figures : Option Figures
+  pub answer : List ℕ
 
 abbrev pub turn_in : Step → Turn
 turn_in s = s.turn
@@ -49,12 +50,10 @@ abbrev pub of_client : ℕ → List Step → List Turn
 of_client i [] = []
 of_client i (s ∷ ss) = if_own (s.client == i) s.turn (of_client i ss)
 
--- the answers that it has after a log: each is the answer after all that came before it, of whatever client
-abbrev pub answers_at : ℕ → List Command → List Step → List (List ℕ)
-answers_at i log [] = []
-answers_at i log (s ∷ ss) =
-    if_own (s.client == i) (answer_told s.figures log (asked_by s.turn.message))
-    (answers_at i (followed_by log (commands_in s.turn)) ss)
+-- and the answers to them
+abbrev pub answers_of : ℕ → List Step → List (List ℕ)
+answers_of i [] = []
+answers_of i (s ∷ ss) = if_own (s.client == i) s.answer (answers_of i ss)
 
 -- ---- rounds
 

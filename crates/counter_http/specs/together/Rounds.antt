@@ -10,6 +10,7 @@ use Rattle.posting_rules.specs.believed.Runs.{replies_to}
 use Rattle.posting_core.specs.Stream.{IsOfCall}
 use Rattle.posting_core.specs.believed.Clock.{AreReadings}
 use Rattle.counter_http.specs.Connections.{Known}
+use Rattle.counter_http.specs.together.Due.{AnswersAll}
 use Rattle.counter_http.specs.together.Faring.{AllFare, HasNoMore}
 use Rattle.counter_http.specs.together.Order.{BreaksOff, FillsRound, HasSpared, IsRound, Round, Step, clients_of, steps_in, submitted_by}
 use Rattle.counter_http.specs.together.Standing.{AreRefused, HasMuch, StandsHere}
@@ -110,6 +111,7 @@ pub record AnswersRound {C R W X : Type 0} (seen : C → Seen) (reason : Fault �
   pub honest : (seen new).honest → (seen stood).honest
   pub up : (seen stood).is_down → (seen old).is_down
   pub takes : Takes (seen old) (seen stood) (submitted_by (steps_in round))
+  pub due : (seen new).honest → AnswersAll (seen old) (seen stood) (steps_in round)
   pub ends : EndsRound seen result stood new refused
   -- a crash leaves all that it took
   pub survives : (seen new).honest → (log : List Command) → StandsAt (seen old) log

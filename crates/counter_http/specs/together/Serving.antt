@@ -7,8 +7,7 @@ use Rattle.std.specs.List.{AllByRecursion}
 use Rattle.std.specs.Io.KnownBytes.{Appends, Consumes}
 use Rattle.posting_rules.specs.declared.fault.Fault.{Fault}
 use Rattle.posting_rules.specs.declared.fault.Fault.TheVariants.{Memory}
-use Rattle.posting_rules.specs.believed.Commands.{Command}
-use Rattle.posting_rules.specs.believed.Counter.{Seen, ShowsLog, Refuses}
+use Rattle.posting_rules.specs.believed.Counter.{Seen, Refuses}
 use Rattle.posting_core.specs.Stream.{given, IsOfCall}
 use Rattle.posting_core.specs.believed.Batches.{joined}
 use Rattle.posting_core.specs.believed.EndCalls.{EndsWith, GrowsBy, ReadCall}
@@ -23,7 +22,7 @@ use Rattle.counter_http.specs.believed.Ends.{HasEnded}
 use Rattle.counter_http.specs.believed.Turns.{Turn, texts_of}
 use Rattle.counter_http.specs.believed.Serving.{KeepsConnection, BeginsWithNoMessage, IsWalked, IsBrokenOff}
 use Rattle.counter_http.specs.believed.Serving.{ServingIsCutOff}
-use Rattle.counter_http.specs.together.Order.{Step, clients_of, of_client, answers_at, submitted_by}
+use Rattle.counter_http.specs.together.Order.{Step, clients_of, of_client, answers_of, submitted_by}
 
 -- ---- where a client stands
 
@@ -78,8 +77,7 @@ pub record HoldsOwnAnswers (i : ℕ) (w : Option (List ℕ)) (t : Option (List W
   pub rest : List ℕ
   pub input_is : input ≡ texts_of (of_client i before) ++ rest
   pub no_more : BeginsWithNoMessage rest
-  pub wrote : c'.honest → (log : List Command) → ShowsLog c log
-      → Appends w sink.contents (joined (answers_at i log before))
+  pub wrote : Appends w sink.contents (joined (answers_of i before))
   pub through : IsThrough t sink.calls
 
 -- so it was at each of a client's reads
@@ -108,8 +106,7 @@ pub record ClientIsServed (i : ℕ) (k l : Known) (c c' : Seen) (steps : List St
   pub written : List ℕ
   pub wrote : Appends k.writer l.writer written
   pub parts : PartsAs p (HasEnded l.reader k.reads l.reads) (of_client i steps) lost rest last
-  pub answers : c'.honest → (log : List Command) → ShowsLog c log
-      → IsWrittenAs p written (joined (answers_at i log steps ++ last))
+  pub answers : IsWrittenAs p written (joined (answers_of i steps ++ last))
   pub ends : PartingIsOfItsEnd p k.reads l.reads k.writes l.writes
   pub prompt : AnswersBeforeItsReads i k.reads l.reads k.beside l.beside k.writer k.writes c c' steps
       (texts_of (of_client i steps ++ lost) ++ rest)

@@ -14,6 +14,7 @@ use Rattle.posting_core.specs.believed.EndCalls.{EndsWith}
 use Rattle.posting_core.specs.believed.Batches.{joined}
 use Rattle.counter_http.specs.Connections.{Known}
 use Rattle.counter_http.specs.Next.{IsUnfinished}
+use Rattle.counter_http.specs.together.Due.{AreDue}
 use Rattle.counter_http.specs.together.Faring.{Fares}
 use Rattle.counter_http.specs.together.Serving.{AnswersBeforeItsReads, IsOfRefusal, IsWrittenAs, PartingIsOfItsEnd, PartsAs}
 use Rattle.counter_http.specs.Turns.{IsAsked}
@@ -22,7 +23,7 @@ use Rattle.counter_http.specs.believed.Answers.{Answer, answer_text, asked_by, b
 use Rattle.counter_http.specs.believed.Ends.{HasEnded}
 use Rattle.counter_http.specs.believed.Messages.{Message, message_text, IsMessage, closes}
 use Rattle.counter_http.specs.believed.Serving.{BeginsWithNoMessage, IsBrokenOff, KeepsConnection}
-use Rattle.counter_http.specs.together.Order.{Step, answers_at, clients_of, is_read_under, of_client, submitted_by}
+use Rattle.counter_http.specs.together.Order.{Step, answers_of, clients_of, is_read_under, of_client, submitted_by}
 use Rattle.counter_http.specs.declared.figures.Figures.{Figures}
 use Rattle.counter_http.specs.believed.Turns.{Turn, texts_of}
 use Rattle.counter_http.specs.declared.answers.Reading.{Reading}
@@ -46,8 +47,7 @@ pub record IsGoing (i : ℕ) (k l : Known) (c c' : Seen) (steps : List Step) (ha
   pub waits : has_more ≡ false → IsUnfinished rest shown
   pub written : List ℕ
   pub wrote : Appends k.writer l.writer written
-  pub answers : c'.honest → (log : List Command) → ShowsLog c log
-      → written ++ pending ≡ joined (answers_at i log steps)
+  pub answers : written ++ pending ≡ joined (answers_of i steps)
   pub more : HasMore k.writes l.writes
   pub through : pending ≡ [] → IsThrough k.writes l.writes
   pub prompt : AnswersBeforeItsReads i k.reads l.reads k.beside l.beside k.writer k.writes c c' steps
@@ -71,8 +71,7 @@ pub record IsParted (i : ℕ) (k l : Known) (c c' : Seen) (steps : List Step) (p
   pub written : List ℕ
   pub wrote : Appends k.writer l.writer written
   pub parts : PartsAs p (HasEnded l.reader k.reads l.reads) (of_client i steps) lost rest last
-  pub answers : c'.honest → (log : List Command) → ShowsLog c log
-      → IsWrittenAs p (written ++ pending) (joined (answers_at i log steps ++ last))
+  pub answers : IsWrittenAs p (written ++ pending) (joined (answers_of i steps ++ last))
   pub more : HasMore k.writes l.writes
   pub left : MayBeLeft p pending
   pub ends : pending ≡ [] → PartingIsOfItsEnd p k.reads l.reads k.writes l.writes
@@ -182,6 +181,7 @@ pub record IsAnswered {C R W X : Type 0} (seen : C → Seen) (reason : Fault →
   pub reads : AllByRecursion (is_read_under figures) more
   pub own : AllByRecursion (λ s. s.client ≡ client.number) more
   pub asked : IsAsked seen reason old new result
+  pub due : (seen new).honest → (log : List Command) → ShowsLog (seen old) log → AreDue log more
   pub told : IfErr result (TellsRefusal seen known old new client client' more)
   -- whatever else was refused with its message, if one was
   pub fares : (fault : Option Fault) (refused : List Step)

@@ -11,6 +11,7 @@ use Rattle.posting_rules.specs.believed.Runs.{replies_to}
 use Rattle.posting_core.specs.Stream.{IsOfCall}
 use Rattle.posting_core.specs.believed.Clock.{AreReadings}
 use Rattle.counter_http.specs.Connections.{Known}
+use Rattle.counter_http.specs.together.Due.{AnswersAll, AreDue}
 use Rattle.counter_http.specs.together.Faring.{AllFare, HasNoMore}
 use Rattle.counter_http.specs.together.Order.{AreCommits, HasSpared, Step, is_posted_under, is_read_under, submitted_by}
 use Rattle.counter_http.specs.together.Rounds.{AreToldAt, EndsRound, IsOfOneOf, fault_in, numbers}
@@ -139,6 +140,7 @@ pub record Gathers {C R W X : Type 0} (seen : C → Seen) (reason : Fault → C 
   pub reads : List Step
   pub are_reads : AllByRecursion (is_read_under figures) reads
   pub asked : IsAsked seen reason old new result
+  pub due : (seen new).honest → (log : List Command) → ShowsLog (seen old) log → AreDue log reads
   -- the one that the bank refused last, and its client was told so
   pub refused : List Step
   pub some : IfErr result (λ fault. refused ≢ [])
@@ -175,6 +177,7 @@ pub record AreSubmitted {C R W X : Type 0} (seen : C → Seen) (reason : Fault �
   pub honest : (seen new).honest → (seen stood).honest
   pub up : (seen stood).is_down → (seen old).is_down
   pub takes : Takes (seen old) (seen stood) (submitted_by posts)
+  pub due : (seen new).honest → AnswersAll (seen old) (seen stood) posts
   pub ends : EndsRound seen result stood new refused
   pub idle : (seen old).is_down → new ≡ old
   pub why : IfErr result (IsOfCall seen reason old new)

@@ -17,7 +17,8 @@ use Rattle.counter_http.specs.Connections.{Known}
 use Rattle.counter_http.specs.believed.Ends.{HasEnded}
 use Rattle.counter_http.specs.believed.Serving.{BeginsWithNoMessage}
 use Rattle.counter_http.specs.believed.Turns.{Turn, texts_of}
-use Rattle.counter_http.specs.together.Order.{AreDated, AreFigured, BreaksOff, FillsRound, HasSpared, IsRound, Round, Step, answers_at}
+use Rattle.counter_http.specs.together.Due.{AnswersAll}
+use Rattle.counter_http.specs.together.Order.{AreDated, AreFigured, BreaksOff, FillsRound, HasSpared, IsRound, Round, Step, answers_of}
 use Rattle.counter_http.specs.together.Order.{clients_of, of_client, readings_of, steps_in, steps_of, submitted_by}
 use Rattle.counter_http.specs.together.Serving.{Broken_off, Goes_on, Stands, Walk_ended}
 use Rattle.counter_http.specs.together.Serving.{ClientIsServed, EndsTogether, IfBank, IsOfVisit, IsToldTo, IsVisited, IsVisitWhy}
@@ -127,8 +128,7 @@ pub record LeftMuch {E : Type 0} (known : E → Known) (c c' : Seen) (steps : Li
   pub came : Contains calls (Gave n given)
   pub written : List ℕ
   pub wrote : Appends (known given).writer (known ends).writer written
-  pub many : c'.honest → (log : List Command) → ShowsLog c log
-      → length written + UNTAKEN < length (joined (answers_at n log steps))
+  pub many : length written + UNTAKEN < length (joined (answers_of n steps))
 
 -- A whole message may be left of a client after a round, where another one of it was answered in that, where it had many
 -- answers to take first, and where it was late for that.
@@ -220,6 +220,8 @@ pub record ServesTogether {C E : Type 0} (seen : C → Seen) (reason : Fault →
   pub honest : (seen new).honest → (seen stood).honest
   pub up : (seen stood).is_down → (seen old).is_down
   pub takes : Takes (seen old) (seen stood) (submitted_by (steps_of rounds))
+  -- each answer is the one that is due, and it took what that says, also on tables of no log
+  pub due : (seen new).honest → AnswersAll (seen old) (seen stood) (steps_of rounds)
   pub ends : EndsTogether seen result stood new refused
   -- a crash leaves all that it took
   pub survives : (seen new).honest → (log : List Command) → StandsAt (seen old) log

@@ -10,7 +10,7 @@ returns-in-Ok g c = record {
       c.submit.new.self c.args.here.now.items c.answer_at.new.here.items c.args.tally.now c.count_commit.new.self
       (c.args.sender ∷ []) (c.args.bytes.now ∷ []) (c.requires.gives, tt) (tt, tt) (c.in-Ok.reply ∷ []) c.in-Ok.reply
       c.requires.others c.in-Ok.ensures.call
-      (λ h log shown. ap (λ (q : List ℕ). q ∷ []) (c.in-Ok.ensures.answer h log shown))
+      (λ h log shown. ap (λ (q : List ℕ). q ∷ []) (c.in-Ok.ensures.answer h log shown)) c.in-Ok.ensures.by_tables
       (c.answer_at.new.here.items, c.answer_at.ensures, refl) c.count_commit.ensures (omega arith);
   only = record { client = c.answer_at.ensures.after; is = c.answer_at.ensures.is };
   spares = c.in-Ok.ensures.spares;

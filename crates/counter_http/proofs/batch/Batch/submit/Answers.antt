@@ -1,5 +1,6 @@
 use Rattle.std.proofs.Common.{◌≡◌, ◌<◌, ◌∙◌, ℕ, List, [], ◌∷◌, ap, arith, eqb, false, inl, inr, length, refl, subst, sym}
 use Rattle.std.proofs.lemmas.{Bool.eqb-true, Bool.true≢false}
+use Rattle.posting_rules.specs.believed.AnyTables.{AnswersByTables}
 use Rattle.counter_http.specs.together.Submitting.{AreGiven}
 use Rattle.counter_http.proofs.FaredEach.{all_go, all_told, none_go}
 use Rattle.counter_http.proofs.Submitted.{refused_all, spared_all, spared_by, submitted_after, submitted_nothing}
@@ -54,7 +55,10 @@ returns-in-Ok g c =
             (taken_all g.C.Counter.seen g.C.Counter.contents g.C.Counter.reason c.now-moment.result c.args.bank.now
             c.submit_all.new.self here c.answer.new.here.items c.args.tally.now c.count_commit.new.self ss rs given
             c.requires.gives.apart c.deref.result.now c.in-Ok.replies c.requires.others c.in-Ok.ensures.call
-            (λ h log shown. c.deref.ensures.value ∙ c.in-Ok.ensures.answer h log shown) c.answer.ensures
+            (λ h log shown. c.deref.ensures.value ∙ c.in-Ok.ensures.answer h log shown)
+            (subst (λ (qs : List (List ℕ)). AnswersByTables (g.C.Counter.seen c.args.bank.now)
+            (g.C.Counter.seen c.submit_all.new.self) c.now-moment.result rs qs) (sym c.deref.ensures.value)
+            c.in-Ok.ensures.by_tables) c.answer.ensures
             (rw (c.deref-in-Ok.ensures.value, sym c.deref.ensures.value) at c.count_commit.ensures) some);
       };
       each = inl (all_go here c.answer.new.here.items ss rs c.deref.result.now given c.requires.gives.apart c.answer.ensures);
