@@ -6,6 +6,7 @@ random moment, and is then checked: each answered posting stands once, with its 
     tools/failover.py volume [ROUNDS]      on the replicated volume of examples/cluster: failover_volume.py says how
     tools/failover.py follower [ROUNDS]    with another machine that follows, as by examples/standby.sh:
                                            failover_follower.py
+    tools/failover.py rates [ROUNDS]       postings a second over the quorum, the volume and the disk: failover_rates.py
 
 100 rounds, if none are said. KEEP in the environment keeps the folder."""
 import importlib
@@ -20,7 +21,7 @@ from serve_client import Failed, need_program
 
 def main():
     kind, count = (sys.argv[1:] + ["", "100"][len(sys.argv) - 1:])[:2]
-    if kind not in ("quorum", "volume", "follower"):
+    if kind not in ("quorum", "volume", "follower", "rates"):
         sys.exit(__doc__)
     need_program()
     signal.signal(signal.SIGTERM, lambda *_: sys.exit("failover: stopped"))

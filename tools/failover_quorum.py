@@ -12,12 +12,16 @@ started again every second, as by the units of examples/quorum. Each round somet
     short   the same for up to two seconds
     full    a member's disk is full, until it is emptied
     anew    a host's file is gone, and is made anew when its counter starts
+    clock   the clock of a host's counter jumps by up to ten minutes, and stays there
+    aside   `bank post` posts into the file of a host that stands by, without the quorum: its counter names the difference
+    alone   the same on the host that serves next: its counter appends it
 
 After each round each answered posting stands once, with its reply, in the log and in the file of whoever served last; each
 file's entries are the first of the log's; that file audits and replays; and a host that was cut off has answered nothing
 more since another one served.
 
-It needs root, the built program, and Debian's etcd-server and etcd-client. KINDS names the failures that are drawn from."""
+It needs root, the built program, and Debian's etcd-server, etcd-client and faketime. The members' clocks aren't moved, since
+programs of Go ask the kernel for the time, and not the C library. KINDS names the failures that are drawn from."""
 import os
 import random
 import statistics
@@ -28,7 +32,14 @@ import time
 from failover_volume import PORT, PROBE, Probe, ask, enter_network, run
 from serve_client import BANK, HERE, check_books, copy_bank, done, ensure, make_bank, record, within
 
-KINDS = (os.environ.get("KINDS") or "serve member two other lost lost cut cut idle short full anew").split()
+KINDS = (os.environ.get("KINDS") or
+         "serve member two other lost lost cut cut idle short full anew clock aside alone").split()
+# Who posts into a file without the quorum.
+ASIDE = 22
+FAKETIME = "/usr/lib/x86_64-linux-gnu/faketime/libfaketime.so.1"
+PROGRAM = """#!/bin/sh
+LD_PRELOAD={1} FAKETIME_TIMESTAMP_FILE={0}/clock FAKETIME_CACHE_DURATION=1 DONT_FAKE_MONOTONIC=1 exec {2} "$@"
+"""
 TELLERS, PLAN, ENTRY = 16, [(1, 100), (2, 100), (3, 100)], 308
 # The member's disk, in megabytes.
 DISK = 192
@@ -45,7 +56,7 @@ done) &
 while :; do
     if [ ! -e {0}/held ]; then
         if [ ! -e {0}/bank.db ]; then {3} init {0}/bank.db && {3} load {0}/bank.db {0}/../plan.csv; fi
-        TMPDIR={0} BANK={3} PLAN={0}/../plan.csv {5}/examples/quorum/counter.sh {0}/bank.db 0.0.0.0:{4}
+        TMPDIR={0} BANK={0}/bank PLAN={0}/../plan.csv {5}/examples/quorum/counter.sh {0}/bank.db 0.0.0.0:{4}
         echo "ended $?"
     fi
     sleep 1
@@ -60,6 +71,14 @@ class Host:
         run("truncate", "-s", f"{DISK}M", self.folder + "/disk.img")
         run("mkfs.ext4", "-q", self.folder + "/disk.img")
         self.told = open(self.folder + "/told", "a+")
+        self.set_clock(0)
+        with open(self.folder + "/bank", "w") as program:
+            program.write(PROGRAM.format(self.folder, FAKETIME, BANK))
+        os.chmod(self.folder + "/bank", 0o755)
+
+    def set_clock(self, seconds):
+        with open(self.folder + "/clock", "w") as clock:
+            clock.write(f"{seconds:+d}")
 
     def boot(self):
         self.set_link("up")
@@ -88,15 +107,32 @@ class Host:
     def kill_serve(self):
         self.call(f"kill -9 $(pgrep -f '^{BANK} serve')")
 
+    def hold(self, is_held):
+        """Whether its counter is started."""
+        if is_held:
+            open(self.folder + "/held", "w").close()
+        elif os.path.exists(self.folder + "/held"):
+            os.remove(self.folder + "/held")
+
+    def is_stopped(self):
+        return self.call(f"pgrep -f '^{BANK} serve'").returncode
+
+    def post(self, body):
+        """Posts a record into its file, without the quorum, while its counter is stopped."""
+        self.hold(True)
+        self.kill_serve()
+        within(30, "no counter", self.is_stopped)
+        ensure(b"POSTED" in done("post", self.file, data=body), "a record wasn't posted into the file")
+
     def fill(self):
         self.call(f"dd if=/dev/zero of={self.folder}/etcd/filler bs=1M")
 
     def empty(self):
         self.call(f"rm -f {self.folder}/etcd/filler; etcdctl alarm disarm; kill -9 $(cat {self.folder}/member)")
 
-    def ends(self):
-        """How often the counter has ended here."""
-        return open(self.folder + "/told").read().count("ended ")
+    def ends(self, how="ended "):
+        """How often the counter has ended here, or has said so."""
+        return open(self.folder + "/told").read().count(how)
 
 
 class Teller(threading.Thread):
@@ -137,8 +173,15 @@ class Drill:
         self.folder, self.is_open, self.acks, self.probed, self.asked, self.tellers = folder, False, [], {}, 0, []
         self.hosts = [Host(number, folder) for number in (1, 2, 3)]
         self.front, self.kind, self.kinds, self.refusals = self.hosts[0], "the start", [], []
+        self.count_aside = 0
 
     def begin(self):
+        self.boot()
+        self.tellers = [Teller(self, it) for it in range(1, TELLERS + 1)]
+        for it in self.tellers:
+            it.start()
+
+    def boot(self):
         run("ip", "netns", "add", "bank0")
         run("ip", "-n", "bank0", "link", "add", "name", "switch", "type", "bridge")
         run("ip", "-n", "bank0", "link", "set", "switch", "up")
@@ -158,17 +201,11 @@ class Drill:
             host.boot()
         within(60, "a log", lambda: not self.hosts[0].call("etcdctl put bank/office/end " + "0" * 20).returncode)
         self.hold(False)
-        self.tellers = [Teller(self, it) for it in range(1, TELLERS + 1)]
-        for it in self.tellers:
-            it.start()
 
     def hold(self, is_held):
         """Whether counters are started."""
         for host in self.hosts:
-            if is_held:
-                open(host.folder + "/held", "w").close()
-            elif os.path.exists(host.folder + "/held"):
-                os.remove(host.folder + "/held")
+            host.hold(is_held)
 
     def acks_since(self, moment, but=None):
         return [it for it in self.acks[-5000:] if it[0] > moment and it[1] is not but]
@@ -265,6 +302,50 @@ class Drill:
         host.boot()
         return self.answered_since(time.monotonic() + 0.5)
 
+    def clock(self, front, now):
+        random.choice((front, *self.hosts)).set_clock(random.randint(-600, 600))
+        time.sleep(random.uniform(1.5, 4))
+        return self.answered_since(time.monotonic())
+
+    def record_aside(self):
+        self.count_aside += 1
+        return record(1, ASIDE, 3, self.count_aside, 1)
+
+    def aside(self, front, now):
+        host, body = random.choice(self.others(front)), self.record_aside()
+        said = host.ends("another than the quorum's")
+        host.post(body)
+        host.hold(False)
+        within(60, "a difference that is named", lambda: host.ends("another than the quorum's") > said or body in self.log())
+        return self.answered_since(time.monotonic())
+
+    def alone(self, front, now):
+        host, body = random.choice(self.hosts), self.record_aside()
+        self.pause()
+        log = self.log()
+        self.stop_counters()
+        # It has followed to the end, or its file is made anew by what differs then.
+        is_at_end = self.entries(host) == log
+        host.post(body)
+        said = host.ends("another than the quorum's")
+        host.hold(False)
+        within(60, "what was posted aside in the log, or a difference that is named",
+               lambda: body in self.log() if is_at_end else host.ends("another than the quorum's") > said or body in self.log())
+        self.hold(False)
+        self.is_open = True
+        return self.answered_since(time.monotonic())
+
+    def stop_counters(self):
+        self.hold(True)
+        for host in self.hosts:
+            host.kill_serve()
+        within(30, "no counter", lambda: all(host.is_stopped() for host in self.hosts))
+
+    def entries(self, host):
+        """Those of a host's file."""
+        copy_bank(host.file, host.folder + "/copy.db")
+        return done("log", host.folder + "/copy.db")
+
     def round(self, number):
         """One failure; each kind comes before one comes again."""
         numbers = [it.number + 1 for it in self.tellers]
@@ -298,16 +379,10 @@ class Drill:
 
     def check(self):
         """Each file is a beginning of the log, and the books of the longest are what was answered."""
-        self.hold(True)
-        for host in self.hosts:
-            host.kill_serve()
+        self.stop_counters()
         within(60, "a quorum", lambda: not self.hosts[0].call("etcdctl get bank/office/end").returncode)
-        within(30, "no counter", lambda: all(host.call(f"pgrep -f '^{BANK} serve'").returncode for host in self.hosts))
-        log, files = self.log(), {}
-        for host in self.hosts:
-            if os.path.exists(host.file):
-                copy_bank(host.file, host.folder + "/copy.db")
-                files[host] = done("log", host.folder + "/copy.db")
+        log = self.log()
+        files = {host: self.entries(host) for host in self.hosts if os.path.exists(host.file)}
         longest = max(files, key=lambda it: len(files[it]))
         for host, entries in files.items():
             common = min(len(entries), len(log))
@@ -316,7 +391,7 @@ class Drill:
         ensure(files[longest][:len(log)] == log, "no file has all of the log")
         answered = {(it.teller, number): reply for it in self.tellers for number, reply in it.replies.items()}
         answered |= {(PROBE, number): reply for number, reply in self.probed.items()}
-        more = [key for key in check_books(longest.folder + "/copy.db", answered) if key[0] != PROBE]
+        more = [key for key in check_books(longest.folder + "/copy.db", answered) if key[0] not in (PROBE, ASIDE)]
         ensure(not more, f"{more} stand, and nobody has an answer")
         self.hold(False)
 

@@ -194,6 +194,12 @@ class Drill:
         self.front, self.kind, self.kinds, self.refusals = self.hosts[0], "the start", [], []
 
     def begin(self):
+        self.boot()
+        self.tellers = [Teller(self, it) for it in range(1, TELLERS + 1)]
+        for it in self.tellers:
+            it.start()
+
+    def boot(self):
         run("ip", "netns", "add", "bank0")
         run("ip", "-n", "bank0", "link", "add", "name", "switch", "type", "bridge")
         run("ip", "-n", "bank0", "link", "set", "switch", "up")
@@ -208,9 +214,6 @@ class Drill:
         for host in self.hosts:
             host.boot()
         self.make_volume()
-        self.tellers = [Teller(self, it) for it in range(1, TELLERS + 1)]
-        for it in self.tellers:
-            it.start()
 
     def make_volume(self):
         """By the example's script, and a bank on it."""
