@@ -44,6 +44,7 @@ CLAIMS = CALLS + [
     ("bank_store", "balance", []),
     ("bank_store", "next_branch", []),
     ("bank_reports", "audit", ["file"]),
+    ("shared_log", "sharing_law", []),
     ("bank_commands", "command_over", []),
     ("bank_commands", "run", []),
 ]

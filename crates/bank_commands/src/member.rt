@@ -1,6 +1,6 @@
 //! A connection to a member of a quorum. **Not verified, review by hand**: no clause says of a stream where it leads, nor how
 //! long a call waits.
-use etcd_log::Dial;
+use shared_log::Dial;
 use std::net::{SocketAddr, TcpStream};
 use std::time::Duration;
 

@@ -6,3 +6,6 @@ pub mod Along
 pub mod Same
 pub mod Spared
 pub mod Shared
+pub mod Pieces
+pub mod Parts
+pub mod Picked

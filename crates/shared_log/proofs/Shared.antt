@@ -4,7 +4,7 @@ use Rattle.std.proofs.lemmas.List.{drop_at}
 use Rattle.std.specs.Prelude.{IfSome, get_or}
 use Rattle.posting_rules.specs.believed.Commands.{Command}
 use Rattle.posting_rules.specs.believed.Counter.{Seen, ShowsLog}
-use Rattle.posting_rules.specs.believed.Runs.{followed_by, posts}
+use Rattle.posting_rules.specs.believed.Runs.{followed_by}
 use Rattle.posting_core.specs.believed.LogEntries.{log_entries}
 use Rattle.shared_log.specs.Known.{Known}
 use Rattle.shared_log.specs.Replicated.{replicated_seen}
@@ -50,18 +50,18 @@ module _ {C L : Type 0} (seen : C → Seen) (known : L → Known) where
   are_shared r log entries it = shown r log entries it.shows it.knows
 
   pub answered_shared : AnsweredAreShared seen known
-  answered_shared old new log m records entries it =
-      shown new (followed_by log (posts m records)) entries (it.takes.shows it.honest log it.was) it.knows
+  answered_shared old new log commands entries it =
+      shown new (followed_by log commands) entries (it.takes.shows it.honest log it.was) it.knows
 
   pub all_had : AllAreHad seen known
-  all_had old new log m records entries it r all machine is =
-      subst (λ (l : List (List ℕ)). Begins (log_entries (followed_by log (posts m records))) l)
-      (sym (all_known r all entries machine.shows is)) (answered_shared old new log m records entries it)
+  all_had old new log commands entries it r all machine is =
+      subst (λ (l : List (List ℕ)). Begins (log_entries (followed_by log commands)) l)
+      (sym (all_known r all entries machine.shows is)) (answered_shared old new log commands entries it)
 
   pub none_behind : NoneIsAnsweredBehind seen known
-  none_behind old new log m records entries others own it there are =
+  none_behind old new log commands entries others own it there are =
       begins_behind (log_entries log) others own entries there
-      (subst (λ (l : List (List ℕ)). Begins l entries) are (answered_shared old new log m records entries it))
+      (subst (λ (l : List (List ℕ)). Begins l entries) are (answered_shared old new log commands entries it))
 
   pub one_order : AreOfOneOrder seen known
   one_order one two a b entries first second =

@@ -5,3 +5,4 @@ pub mod Holding
 pub mod Published
 pub mod Joined
 pub mod Sharing
+pub mod etcd

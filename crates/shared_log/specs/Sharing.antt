@@ -2,7 +2,7 @@
 use Rattle.std.specs.Prelude.{◌≡◌, ◌⊎◌, ◌++◌, ℕ, List, Some}
 use Rattle.posting_rules.specs.believed.Commands.{Command}
 use Rattle.posting_rules.specs.believed.Counter.{Seen, ShowsLog, Takes}
-use Rattle.posting_rules.specs.believed.Runs.{followed_by, posts}
+use Rattle.posting_rules.specs.believed.Runs.{followed_by}
 use Rattle.posting_core.specs.believed.LogEntries.{log_entries}
 use Rattle.shared_log.specs.Known.{Known}
 use Rattle.shared_log.specs.Replicated.{replicated_seen}
@@ -30,30 +30,30 @@ module _ {C L : Type 0} (seen : C → Seen) (known : L → Known) where
   AreShared = (r : Replicated C L) (log : List Command) (entries : List (List ℕ)) → IsMachine r log entries
       → Begins (log_entries log) entries
 
-  -- a machine that answered some records
-  pub record HasAnswered (old new : Replicated C L) (log : List Command) (m : ℕ) (records : List (List ℕ))
-      (entries : List (List ℕ)) : Type 0 where
-    pub was : ShowsLog (replicated_seen seen known old) log
-    pub takes : Takes (replicated_seen seen known old) (replicated_seen seen known new) (posts m records)
-    pub honest : (seen new.counter).honest
-    pub knows : Knows (known new.log) entries
+  -- a machine that took some commands, as it answers each: a batch, a stream, or all rounds of its clients
+  pub record HasAnswered (old new : Replicated C L) (log commands : List Command) (entries : List (List ℕ)) : Type 0
+    where
+      pub was : ShowsLog (replicated_seen seen known old) log
+      pub takes : Takes (replicated_seen seen known old) (replicated_seen seen known new) commands
+      pub honest : (seen new.counter).honest
+      pub knows : Knows (known new.log) entries
 
   -- what it answered stands there, behind all that it answered before
   abbrev pub AnsweredAreShared : Type 0
-  AnsweredAreShared = (old new : Replicated C L) (log : List Command) (m : ℕ) (records entries : List (List ℕ))
-      → HasAnswered old new log m records entries → Begins (log_entries (followed_by log (posts m records))) entries
+  AnsweredAreShared = (old new : Replicated C L) (log commands : List Command) (entries : List (List ℕ))
+      → HasAnswered old new log commands entries → Begins (log_entries (followed_by log commands)) entries
 
   -- one that knows all entries has all that any machine answered before
   abbrev pub AllAreHad : Type 0
-  AllAreHad = (old new : Replicated C L) (log : List Command) (m : ℕ) (records entries : List (List ℕ))
-      → HasAnswered old new log m records entries → (r : Replicated C L) (all : List Command) → IsMachine r all entries
-      → known r.log ≡ Some entries → Begins (log_entries (followed_by log (posts m records))) (log_entries all)
+  AllAreHad = (old new : Replicated C L) (log commands : List Command) (entries : List (List ℕ))
+      → HasAnswered old new log commands entries → (r : Replicated C L) (all : List Command) → IsMachine r all entries
+      → known r.log ≡ Some entries → Begins (log_entries (followed_by log commands)) (log_entries all)
 
   -- where others appended behind what it showed, it answers nothing as new but what they appended
   abbrev pub NoneIsAnsweredBehind : Type 0
-  NoneIsAnsweredBehind = (old new : Replicated C L) (log : List Command) (m : ℕ) (records entries others own : List (List ℕ))
-      → HasAnswered old new log m records entries → Begins (log_entries log ++ others) entries
-      → log_entries (followed_by log (posts m records)) ≡ log_entries log ++ own
+  NoneIsAnsweredBehind = (old new : Replicated C L) (log commands : List Command) (entries others own : List (List ℕ))
+      → HasAnswered old new log commands entries → Begins (log_entries log ++ others) entries
+      → log_entries (followed_by log commands) ≡ log_entries log ++ own
       → Begins others own ⊎ Begins own others
 
   -- of two machines one has all that the other one answered, in the same order

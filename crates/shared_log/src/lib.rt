@@ -33,10 +33,13 @@
 //!
 //! A machine that stands by follows the others until a [`Turn`] says that it is to serve.
 //!
+//! A log over etcd is a [`DialedLog`], which asks a member by the connections that a [`Dial`] makes.
+//!
 //! Read next: [`SharedLog`]; [`Replicated`], with `specs/Replicated`, which says what it shows; [`Replicated::join`], with
-//! `specs/Joined`.
+//! `specs/Joined`; `src/etcd`, how etcd is asked, in answers of [`MOST_ANSWER_BYTES`] at most; [`EtcdLog`].
 #![tactic(auto)]
 
+mod etcd;
 mod joining;
 mod laws;
 mod log;
@@ -44,6 +47,7 @@ mod publishing;
 mod replicated;
 mod settled;
 
+pub use etcd::{Dial, DialedLog, EtcdLog, MOST_ANSWER_BYTES};
 pub use joining::{AtOnce, JoinFault, Joined, Turn};
 pub use laws::sharing_law;
 pub use log::{LogFault, SharedLog};

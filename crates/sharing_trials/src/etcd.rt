@@ -1,8 +1,11 @@
 //! A log over etcd, by answers that a member of version 3.4.23 gave, and by what no member gives.
 use crate::first_log::first_log;
-use etcd_log::{Dial, EtcdLog};
-use posting_core::ENTRY_BYTES;
-use shared_log::SharedLog;
+use crate::first_machine::first_machine;
+use crate::scenes::{Quiet, post};
+use branch_loader::Plan;
+use message_records::Branch;
+use posting_core::{Counter, ENTRY_BYTES, PlainBank};
+use shared_log::{Dial, DialedLog, EtcdLog, SharedLog};
 use std::alloc::Global;
 use std::io;
 
@@ -80,6 +83,34 @@ impl<'a> Dial for Recorded<'a> {
     }
 }
 
+// A bank joins over a log of which connections give one answer each, and posts twice. The first posting is appended by
+// the fourth connection, and nobody answers the second one.
+fn play_machine(rt: HostRuntime) -> io::Result<()> {
+    let alloc = rt.alloc();
+    let answers = [AT_THE_END, AT_THE_END, &DONE[..0], DONE];
+    let dial = Recorded {
+        alloc,
+        answers: &answers,
+        next: 0,
+    };
+    let name = Vec::from_slice(alloc, b"office")?;
+    let Some(log) = DialedLog::connect(alloc, name, dial) else {
+        return Ok(());
+    };
+    let Ok(plan) = Plan::from_list(Vec::new(alloc)) else {
+        return Ok(());
+    };
+    let mut bank = PlainBank::new(alloc);
+    let _ = bank.open_branch(Branch::new(1).unwrap(), 3, None);
+    match first_machine(alloc, &plan, bank, log, &mut Quiet) {
+        Ok(mut machine) => {
+            post(rt, "over etcd", &mut machine, 1, 500)?;
+            post(rt, "over etcd, nobody answers", &mut machine, 2, 600)
+        }
+        Err(fault) => println!(rt; "over etcd: {fault:?}"),
+    }
+}
+
 /// The scenes.
 pub fn play_etcd(rt: HostRuntime) -> io::Result<()> {
     append(rt, "done", DONE)?;
@@ -112,5 +143,6 @@ pub fn play_etcd(rt: HostRuntime) -> io::Result<()> {
     let count = log.read().map(|given| given.len());
     println!(rt; "and again: {count:?}")?;
     let count = log.read().map(|given| given.len());
-    println!(rt; "nobody answers: {count:?}")
+    println!(rt; "nobody answers: {count:?}")?;
+    play_machine(rt)
 }

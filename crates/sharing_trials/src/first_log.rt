@@ -1,5 +1,5 @@
-//! The program of the page of `etcd_log`.
-use etcd_log::{Dial, DialedLog};
+//! The program of the page of `src/etcd` of `shared_log`.
+use shared_log::{Dial, DialedLog};
 use std::alloc::Global;
 
 pub fn first_log<D: Dial + Drop>(alloc: Global, dial: D) -> Option<DialedLog<D>> {

@@ -11,8 +11,9 @@ use shared_log::Replicated;
 use std::cell::RefCell;
 use std::io;
 
+/// Who is told nothing.
 #[derive(Drop)]
-struct Quiet;
+pub struct Quiet;
 
 impl FollowWatch for Quiet {
     fn followed(&mut self, _entries: Count) {}
@@ -35,8 +36,8 @@ fn record(number: u64, cents: i64) -> [u8; REQUEST_BYTES] {
     }
 }
 
-// Submits a record, and prints who answered what.
-fn post<C: Counter>(
+/// Submits a record, and prints who answered what.
+pub fn post<C: Counter>(
     rt: HostRuntime,
     who: &str,
     counter: &mut C,

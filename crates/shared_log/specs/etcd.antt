@@ -1,0 +1,4 @@
+pub mod Texts
+pub mod Answers
+pub mod Asked
+pub mod Told
