@@ -22,7 +22,7 @@ use Rattle.command_line.specs.declared.reading.Task.{Task}
 use Rattle.command_line.specs.declared.reading.Task.TheVariants.{Init, Migrate, Share, With}
 use Rattle.command_line.specs.declared.reading.Work.{Work}
 use Rattle.command_line.specs.declared.reading.Work.TheVariants.{Audit, Digest, Drive, Export, Follow, Load, Log, Plan, Post}
-use Rattle.command_line.specs.declared.reading.Work.TheVariants.{Replay, Serve, Statement, Statements}
+use Rattle.command_line.specs.declared.reading.Work.TheVariants.{Replay, Seal, Serve, Statement, Statements}
 
 -- a required positional argument, which takes one value and has a name in help
 abbrev pub required_rule : Text → Rule
@@ -203,6 +203,10 @@ serve_app = with_rule (with_rule (with_rule alone_app quorum_rule) name_rule) st
 abbrev pub migrate_app : App
 migrate_app = with_rule (new_app (codes "migrate")) file_rule
 
+-- `seal FILE`
+abbrev pub seal_app : App
+seal_app = with_rule (new_app (codes "seal")) file_rule
+
 -- `why FILE`, which is called `faults` too
 abbrev pub why_app : App
 why_app = let why = with_rule (new_app (codes "why")) file_rule in
@@ -233,8 +237,8 @@ bank_alone = let bank = new_app (codes "bank") in record bank {
 -- the commands of `bank`, in the order of its help
 abbrev pub bank_commands : List App
 bank_commands = init_app ∷ load_app ∷ post_app ∷ drive_app ∷ audit_app ∷ statement_app ∷ statements_app ∷ replay_app
-    ∷ digest_app ∷ export_app ∷ log_app ∷ plan_app ∷ follow_app ∷ serve_app ∷ migrate_app ∷ why_app ∷ encode_app
-    ∷ decode_app ∷ []
+    ∷ digest_app ∷ export_app ∷ log_app ∷ plan_app ∷ follow_app ∷ serve_app ∷ migrate_app ∷ seal_app ∷ why_app
+    ∷ encode_app ∷ decode_app ∷ []
 
 -- the command line `bank` with these commands
 abbrev pub with_commands : App → List App → App
@@ -299,6 +303,7 @@ IsWorkOf p (Export after) = (p.0 ≡ codes "export") × (after ≡ unwrap_or (sp
 IsWorkOf p (Log after) = (p.0 ≡ codes "log") × (after ≡ unwrap_or (spelled (one_of (codes "after") p.1)) 0)
 IsWorkOf p Plan = p.0 ≡ codes "plan"
 IsWorkOf p (Follow plan) = (p.0 ≡ codes "follow") × IsText (codes "plan") p.1 plan.now
+IsWorkOf p Seal = p.0 ≡ codes "seal"
 IsWorkOf p (Serve address connections) = (p.0 ≡ codes "serve") × IsText (codes "address") p.1 address.now
     × (connections ≡ spelled (one_of (codes "connections") p.1)) × IsAlone p.1
 

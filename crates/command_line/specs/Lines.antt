@@ -11,6 +11,8 @@ use Rattle.load_driver.specs.declared.drive.Driven.{Driven}
 use Rattle.branch_loader.specs.declared.loader.Loaded.{Loaded}
 use Rattle.clap.specs.declared.error.kind.ErrorKind.{ErrorKind}
 use Rattle.clap.specs.declared.error.kind.ErrorKind.TheVariants as kind
+use Rattle.posting_rules.specs.declared.closed_numbers.Closing.{Closing}
+use Rattle.posting_rules.specs.declared.closed_numbers.Closing.TheVariants.{Closed}
 use Rattle.posting_core.specs.believed.EndCalls.{EndsWith}
 use Rattle.posting_core.specs.EndCalls.{HasWriteFailed, IsFlush, IsThrough, WriteCall}
 use Rattle.shared_log.specs.declared.joining.Joined.{Joined}
@@ -60,6 +62,11 @@ migrated_line from to = line (codes "migrated " ++ signed_decimal from ++ codes 
 -- it had this version already
 abbrev pub already_line : ℤ → List ℕ
 already_line version = line (codes "already version " ++ signed_decimal version)
+
+-- the books are sealed, or were
+abbrev pub sealed_line : Closing → List ℕ
+sealed_line Closed = line (codes "sealed")
+sealed_line _ = line (codes "already sealed")
 
 -- where the counter listens
 abbrev pub listening_line : SocketAddr → List ℕ

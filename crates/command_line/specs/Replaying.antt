@@ -20,10 +20,15 @@ before_digits requests = codes "requests    " ++ right_in 20 (decimal requests) 
 abbrev pub digest_lines : ℕ → List ℕ → List ℕ
 digest_lines requests sha256 = before_digits requests ++ (encode_lower sha256 ++ codes "\n")
 
--- a replay agreed; its third line is the digest of the plan
-abbrev pub agreeing_lines : ℕ → (sha256 plan : List ℕ) → List ℕ
-agreeing_lines requests sha256 plan =
-    digest_lines requests sha256 ++ (codes "plan        " ++ (encode_lower plan ++ codes "\nAGREES\n"))
+-- and the digest of the plan
+abbrev pub plan_lines : ℕ → (sha256 plan : List ℕ) → List ℕ
+plan_lines requests sha256 plan =
+    digest_lines requests sha256 ++ (codes "plan        " ++ (encode_lower plan ++ codes "\n"))
+
+-- a replay agreed; its fourth line is the digest of the closed numbers
+abbrev pub agreeing_lines : ℕ → (sha256 plan closings : List ℕ) → List ℕ
+agreeing_lines requests sha256 plan closings =
+    plan_lines requests sha256 plan ++ (codes "closing     " ++ (encode_lower closings ++ codes "\nAGREES\n"))
 
 -- the text of a value, where its `Display` says which that is
 abbrev pub IsTextOf : Option (List ℕ) → List ℕ → Type 0

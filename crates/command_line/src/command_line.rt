@@ -35,6 +35,7 @@ pub fn bank_command<'a>(alloc: Global) -> Result<Command<'a>, AllocError>
     let bank = with_command(bank, follow_command(alloc));
     let bank = with_command(bank, serve_command(alloc));
     let bank = with_command(bank, command_on_file(alloc, "migrate", books::MIGRATE));
+    let bank = with_command(bank, command_on_file(alloc, "seal", books::SEAL));
     let bank = with_command(bank, why_command(alloc));
     let bank = with_command(bank, command_alone(alloc, "encode", counter::ENCODE));
     with_command(bank, decode_command(alloc))

@@ -54,8 +54,8 @@ pub use following::follow_into;
 pub use limits::MAX_CONNECTIONS;
 pub use lines::{
     ListeningLine, explain, print_after, print_already, print_created, print_driven,
-    print_followed, print_joined, print_listening, print_loaded, print_migrated, print_usable,
-    tell, tell_no_words,
+    print_followed, print_joined, print_listening, print_loaded, print_migrated, print_sealed,
+    print_usable, tell, tell_no_words,
 };
 pub use loading::{Plans, load_from, load_into};
 pub use prompting::prompt;

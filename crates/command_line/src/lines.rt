@@ -9,7 +9,7 @@ ghost use Rattle.command_line.specs.CommandFaults.{status_of};
 ghost use Rattle.command_line.specs.Lines.{IsHelpOrVersion, IsShown, PrintsLine, WritesOut, already_line};
 ghost use Rattle.command_line.specs.Lines.{after_line, created_line, driven_line, fault_line, followed_line};
 ghost use Rattle.command_line.specs.Lines.{joined_line, listening_line, loaded_line, migrated_line, no_words_line};
-ghost use Rattle.command_line.specs.Lines.{usable_line};
+ghost use Rattle.command_line.specs.Lines.{sealed_line, usable_line};
 ghost use Rattle.command_line.specs.Statuses.{status_of_no_words};
 ghost use Rattle.report_contents.specs.Written.{AppendsPart};
 
@@ -21,6 +21,7 @@ use clap::error::ErrorKind;
 use itoa::Buffer;
 use load_driver::Driven;
 use posting_core::{Count, Sink, write_out};
+use posting_rules::Closing;
 use shared_log::Joined;
 use std::fmt::Write as WriteText;
 use std::io;
@@ -97,7 +98,7 @@ pub fn print_followed<W: Sink>(entries: Count, output: &mut W) -> Result<(), Com
     print_line(followed_text(entries).as_str(), output)
 }
 
-/// Prints from which version to which a bank was carried over, as `migrated 1 to 3`.
+/// Prints from which version to which a bank was carried over, as `migrated 1 to 4`.
 pub fn print_migrated<W: Sink>(from: i64, to: i64, output: &mut W) -> Result<(), CommandFault>
     ensures prints { PrintsLine (migrated_line from to) (W.contents output.old) (W.contents output.new)
         (W.calls output.old) (W.calls output.new) result }
@@ -107,7 +108,7 @@ pub fn print_migrated<W: Sink>(from: i64, to: i64, output: &mut W) -> Result<(),
     print_line(migrated_text(from, to).as_str(), output)
 }
 
-/// Prints which version a bank had already, as `already version 3`.
+/// Prints which version a bank had already, as `already version 4`.
 pub fn print_already<W: Sink>(version: i64, output: &mut W) -> Result<(), CommandFault>
     ensures prints { PrintsLine (already_line version) (W.contents output.old) (W.contents output.new)
         (W.calls output.old) (W.calls output.new) result }
@@ -115,6 +116,16 @@ pub fn print_already<W: Sink>(version: i64, output: &mut W) -> Result<(), Comman
     ensures failed { OnErr result (HasWriteFailed (W.calls output.old) (W.calls output.new)) }
 {
     print_line(already_text(version).as_str(), output)
+}
+
+/// Prints that books are sealed, or that they were sealed already.
+pub fn print_sealed<W: Sink>(closing: Closing, output: &mut W) -> Result<(), CommandFault>
+    ensures prints { PrintsLine (sealed_line closing) (W.contents output.old) (W.contents output.new)
+        (W.calls output.old) (W.calls output.new) result }
+    ensures fault { OnErr result (IsErrOf result CommandFault.Write) }
+    ensures failed { OnErr result (HasWriteFailed (W.calls output.old) (W.calls output.new)) }
+{
+    print_line(sealed_text(closing), output)
 }
 
 /// Prints how many entries the quorum held before a machine joined, and how many both hold now, as
@@ -249,6 +260,16 @@ fn already_text(version: i64) -> ArrayString<LINE>
     line.push_str(digits.format(version));
     line.push_str("\n");
     line
+}
+
+// The line that `seal` prints.
+fn sealed_text(closing: Closing) -> &'static str
+    ensures { result.now ≡ sealed_line closing }
+{
+    match closing {
+        Closing::Closed => "sealed\n",
+        _ => "already sealed\n",
+    }
 }
 
 // The line that `serve` prints first where machines share its log.

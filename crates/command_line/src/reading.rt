@@ -111,6 +111,8 @@ pub enum Work<'a> {
     Follow {
         plan: &'a str,
     },
+    /// Seal the books.
+    Seal,
     /// Serve the bank over HTTP at this address, to so many connections, or to all that come.
     Serve {
         address: &'a str,
@@ -333,6 +335,7 @@ fn work_of<'a>(name: &str, values: &ArgMatches<'a>) -> Option<Work<'a>>
         "follow" => Some(Work::Follow {
             plan: text_in(values, "plan")?,
         }),
+        "seal" => Some(Work::Seal),
         _ => None,
     }
 }

@@ -1,7 +1,7 @@
 //! What `replay` and `digest` print.
 ghost use Rattle.std.specs.Prelude.{◌≡◌, ℕ, List, IfOk, string_bytes};
 ghost use Rattle.command_line.specs.Replaying.{IsTextOf, PrintsText, agreeing_lines, before_digits};
-ghost use Rattle.command_line.specs.Replaying.{differing_lines, digest_lines};
+ghost use Rattle.command_line.specs.Replaying.{differing_lines, digest_lines, plan_lines};
 
 use crate::CommandFault;
 use crate::lines::print_line;
@@ -30,18 +30,19 @@ pub fn print_digest<W: Sink>(
     print_line(text.as_str(), output)
 }
 
-/// Prints the same of all requests, the digest of the plan, and that a replay agreed.
+/// Prints the same of all requests, the digests of the plan and of the closed numbers, and that a replay agreed.
 pub fn print_agreeing<W: Sink>(
     alloc: Global,
     requests: u64,
     sha256: &[u8; 32],
     plan: &[u8; 32],
+    closings: &[u8; 32],
     output: &mut W,
 ) -> Result<(), CommandFault>
-    ensures { PrintsText (agreeing_lines requests sha256.now plan.now) (W.contents output.old) (W.contents output.new)
-        (W.calls output.old) (W.calls output.new) result }
+    ensures { PrintsText (agreeing_lines requests sha256.now plan.now closings.now) (W.contents output.old)
+        (W.contents output.new) (W.calls output.old) (W.calls output.new) result }
 {
-    let Ok(text) = agreeing_text(alloc, requests, sha256, plan) else {
+    let Ok(text) = agreeing_text(alloc, requests, sha256, plan, closings) else {
         return Err(CommandFault::Memory);
     };
     print_line(text.as_str(), output)
@@ -87,14 +88,32 @@ fn agreeing_text(
     requests: u64,
     sha256: &[u8; 32],
     plan: &[u8; 32],
+    closings: &[u8; 32],
 ) -> Result<String, AllocError>
-    ensures { IfOk result (λ text. string_bytes text ≡ agreeing_lines requests sha256.now plan.now) }
+    ensures { IfOk result (λ text. string_bytes text ≡ agreeing_lines requests sha256.now plan.now closings.now) }
+{
+    let digits = hex::encode(alloc, closings)?;
+    let mut text = plan_text(alloc, requests, sha256, plan)?;
+    text.push_str("closing     ")?;
+    text.push_str(digits.as_str())?;
+    text.push_str("\nAGREES\n")?;
+    Ok(text)
+}
+
+// The lines of a digest and of a plan.
+fn plan_text(
+    alloc: Global,
+    requests: u64,
+    sha256: &[u8; 32],
+    plan: &[u8; 32],
+) -> Result<String, AllocError>
+    ensures { IfOk result (λ text. string_bytes text ≡ plan_lines requests sha256.now plan.now) }
 {
     let digits = hex::encode(alloc, plan)?;
     let mut text = digest_text(alloc, requests, sha256)?;
     text.push_str("plan        ")?;
     text.push_str(digits.as_str())?;
-    text.push_str("\nAGREES\n")?;
+    text.push_str("\n")?;
     Ok(text)
 }
 

@@ -107,8 +107,9 @@ pub const REPLAY: CommandTexts = CommandTexts {
     at_length: "\
 Make a new bank in memory, open the branches of FILE in it, post the requests
 that FILE keeps, and compare all tables of the two. Where they are the same,
-print how many requests there are, their digest, that of the plan, and
-`AGREES`. Else print the first difference and `DIFFERS`; then the status is 5.",
+print how many requests there are, their digest, those of the plan and of the
+closed numbers, and `AGREES`. Else print the first difference and `DIFFERS`;
+then the status is 5.",
     details: "\
 A difference is a table, a key, what stands there in FILE, and what is due:
   account 2 stands 0 due -100
@@ -116,9 +117,10 @@ A difference is a table, a key, what stands there in FILE, and what is due:
 
 A changed moment or reference, or requests cut off at the end, are not
 differences, but they change the digest. The plan's is the SHA-256 of what
-`bank plan` prints: it has the branches, their accounts and floors. Write down
-the lines of today, and compare them with those of `bank digest` and of
-`bank replay` tomorrow. FILE stays as it is.
+`bank plan` prints: it has the branches, their accounts and floors. That of the
+closed numbers is over a line LAST,FIRST for each row of table `closing`, where
+a seal is 0,0. Write down the lines of today, and compare them with those of
+`bank digest` and of `bank replay` tomorrow. FILE stays as it is.
 
 Example:
   bank replay bank.db
@@ -270,16 +272,17 @@ pub const MIGRATE: CommandTexts = CommandTexts {
     about: "Carry over a bank of an older version",
     at_length: "\
 Carry the bank of FILE, which an older version of this program made, over to
-this version, and print both, as `migrated 1 to 3`. A bank of this version
-stays as it is, and `already version 3` is printed.",
+this version, and print both, as `migrated 1 to 4`. A bank of this version
+stays as it is, and `already version 4` is printed.",
     details: "\
 Copy both files before, FILE and the one beside it whose name ends in `-wal`,
 while no command runs on them. From then on an older program answers the file
-with `bank: version 3`, and the copy is the only way back.
+with `bank: version 4`, and the copy is the only way back.
 
 Branches, balances, postings and the replies to resent requests stay as they
-were. Version 1 had no floors, and versions 1 and 2 no references, so there are
-none. A kill leaves the file of either version: give the command again.
+were. There are no floors then of version 1, no references of 1 and 2, and no
+closed numbers of 1 to 3. A kill leaves the file of either version: give the
+command again.
 
 Example:
   cp bank.db safe.db
@@ -297,6 +300,30 @@ Statuses: 0 done, 2 no command, and with a line on standard error
   4  no bank, foreign tables: FILE is no bank; anything that already has the
      name of a table to be made counts as a foreign table
   4  table T is defined otherwise: another program made that table anew",
+};
+
+pub const SEAL: CommandTexts = CommandTexts {
+    about: "Seal the books: FILE decides nothing more",
+    at_length: "\
+Seal the bank of FILE, and print `sealed`, or `already sealed` where it was.
+From now on it decides nothing more: what it decided keeps its first reply, and
+any other record gets outcome 19, SEALED, and goes to another bank.",
+    details: "\
+Reports, replays and resends go on as before. Nothing takes a seal off: copy
+both files before, FILE and the one beside it whose name ends in `-wal`, while no
+command runs on them.
+
+Example:
+  bank seal bank.db
+
+Statuses: 0 done, 2 no command, and with a line on standard error
+  3  store fault: FILE can't be used, is in use, or the disk is full or failed:
+     see `bank help faults`
+  3  no memory: the machine refused memory
+  3  write failed: standard output failed; the bank is sealed even so
+  3  damaged rule N: FILE has rows that no history could produce
+  4  no bank, foreign tables, a table defined otherwise, version N: FILE is no
+     bank: see `bank help faults`",
 };
 
 pub const WHY: CommandTexts = CommandTexts {

@@ -1,7 +1,7 @@
 -- Each command is added in its turn.
 use Rattle.command_line.specs.CommandLine.{audit_app, bank_alone, decode_app, digest_app, drive_app, encode_app}
 use Rattle.command_line.specs.CommandLine.{export_app, follow_app, init_app, load_app, log_app, migrate_app}
-use Rattle.command_line.specs.CommandLine.{plan_app, post_app, replay_app, serve_app, statement_app, statements_app}
+use Rattle.command_line.specs.CommandLine.{plan_app, post_app, replay_app, seal_app, serve_app, statement_app, statements_app}
 use Rattle.command_line.specs.CommandLine.{why_app}
 use Rattle.command_line.proofs.command_line.bank_command.Goals as goal
 
@@ -22,6 +22,7 @@ returns c =
     let follow = c.with_command-bank-13.ensures _ follow_app plan c.follow_command.ensures in
     let serve = c.with_command-bank-14.ensures _ serve_app follow c.serve_command.ensures in
     let migrate = c.with_command-bank-15.ensures _ migrate_app serve c.command_on_file-5.ensures in
-    let why = c.with_command-bank-16.ensures _ why_app migrate c.why_command.ensures in
-    let encode = c.with_command-bank-17.ensures _ encode_app why c.command_alone.ensures in
+    let seal = c.with_command-bank-16.ensures _ seal_app migrate c.command_on_file-6.ensures in
+    let why = c.with_command-bank-17.ensures _ why_app seal c.why_command.ensures in
+    let encode = c.with_command-bank-18.ensures _ encode_app why c.command_alone.ensures in
     c.with_command.ensures _ decode_app encode c.decode_command.ensures

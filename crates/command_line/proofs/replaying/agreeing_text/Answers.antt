@@ -1,15 +1,15 @@
--- The lines of the digest, and then that of the plan.
+-- The lines of the digest and of the plan, and then that of the closed numbers.
 use Rattle.std.proofs.Common.{rules, ◌≡◌, ◌∙◌, ◌++◌, ℕ, List, string_bytes, ap, append_assoc}
 use Rattle.std.specs.Prelude.{codes}
 use Rattle.hex.specs.Hex.{encode_lower}
-use Rattle.command_line.specs.Replaying.{digest_lines}
+use Rattle.command_line.specs.Replaying.{plan_lines}
 use Rattle.command_line.proofs.replaying.agreeing_text.Goals as goal
 
 pub returns : goal.returns
 returns c =
-    let first = digest_lines c.args.requests c.args.sha256.now in
-    let digits = encode_lower c.args.plan.now in
-    let label = codes "plan        " in
+    let first = plan_lines c.args.requests c.args.sha256.now c.args.plan.now in
+    let digits = encode_lower c.args.closings.now in
+    let label = codes "closing     " in
     let end = codes "\nAGREES\n" in
     let made : string_bytes c.in_ok-text.text ≡ first = search rules in
     let hex : c.as_str.result.now ≡ digits = search rules in
