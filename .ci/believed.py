@@ -102,26 +102,36 @@ class Module:
         self.path, text = path, path.read_text()
         self.names, self.definitions, self.place = Names(text), {}, {}
         self.about = next((l[3:] for l in text.splitlines() if l.startswith("-- ")), "")
-        outer, current, comment = "", None, []
+        # The heads of the modules round a line, each with its comment, may go on over several lines.
+        around, current, comment, is_open = [], None, [], False
         for number, line in enumerate(text.splitlines()):
             bare = line.split("--")[0].rstrip()
+            if is_open:
+                around[-1][1].append(line)
+                is_open = not bare.endswith("where")
+                continue
             if not bare:
                 comment = [*comment, line] if line.strip() else []
                 continue
-            if re.match(r"(pub )?use ", bare) or bare.startswith("module "):
-                outer, current, comment = (bare if bare.startswith("module ") else outer), None, []
-                continue
             indent = len(bare) - len(bare.lstrip())
+            around = [it for it in around if it[0] < indent]
+            if re.match(r"(pub )?use ", bare):
+                current, comment = None, []
+                continue
+            if bare.lstrip().startswith("module "):
+                around.append((indent, [*comment, line]))
+                current, comment, is_open = None, [], not bare.endswith("where")
+                continue
             found = HEAD.match(bare)
-            deep = 2 if outer else 0
-            if found and (indent == 0 or indent == deep) and not (current and current.holds and indent > current.indent):
+            deep = around[-1][0] + 2 if around else 0
+            if found and indent == deep and not (current and current.holds and indent > current.indent):
                 name = found.group(2)
                 current = self.definitions.setdefault(name, Definition(self, name, number))
                 current.holds, current.indent = bare.endswith("where"), indent
                 current.is_data = bare.lstrip().removeprefix("pub ").startswith("data ")
-                current.outer = outer
+                current.outer = [it for _, head in around for it in head]
                 current.text += comment
-                current.words |= set(WORD.findall(outer))
+                current.words |= set(WORD.findall(without_comments("\n".join(current.outer), "--")))
             elif current is None:
                 continue
             elif indent <= current.indent and not bare.lstrip().startswith((current.name + " ", current.name + "(", "(", "{", "}")):
@@ -281,7 +291,7 @@ def page():
         "README's promise, read this page from top to bottom: it has every definition that the promise needs, down to names of",
         "the kit, as in the code but for `pub`, `abbrev` and `unfoldable`. `.ci/believed.py CRATE FUNCTION` prints such a page",
         "for any other contract, and `.ci/run` fails when this page isn't what `.ci/believed.py` prints. The tables of a bank are",
-        "those that the eight texts in `MAKE_TABLES` define, by `tables_law` of `store_rows`: read the texts, and not what",
+        "those that the nine texts in `MAKE_TABLES` define, by `tables_law` of `store_rows`: read the texts, and not what",
         "`sqlite` makes of them. `specs/believed` of a crate has what the promise and the calls need, and nothing else.",
         "",
         "| For | Definitions |",
@@ -332,9 +342,9 @@ def texts(found):
             rows += [f"### `{crate}`", ""]
             crate_before = crate
         rows += [f"`specs/{name}`: {its[0].module.about.rstrip('.,:;')}", "", "```antt"]
-        outer = ""
+        outer = []
         for it in its:
-            rows += [it.outer] if it.outer != outer else []
+            rows += [line for place, line in enumerate(it.outer) if it.outer[:place + 1] != outer[:place + 1]]
             outer = it.outer
             rows += [*(KEYWORDS.sub(r"\1", line) for line in it.text), ""]
         rows[-1] = "```"
