@@ -8,6 +8,7 @@ posts       `post` is killed at random moments (LIVES times), and sent again fro
 serves      the same of `serve`, by TELLERS clients at once, each with 8 messages on their way
 full, unreadable    What is told is a store fault, and a prefix of the replies was written; once the cause is mended the same
             records get the replies of a run that nothing disturbed, and its tables stand. Needs root
+memory      the same where each allocation is refused in turn, one a run, of `post` and of what only reads. Needs a C compiler
 LIVES, RECORDS and TELLERS in the environment say how often, of how many records, and by how many."""
 import os
 import random
@@ -18,7 +19,7 @@ import tempfile
 import threading
 import time
 
-from serve_client import BANK, Failed, Sender, Server, ensure, make_bank, need_program, post, record, rows_of, run
+from serve_client import BANK, HERE, Failed, Sender, Server, ensure, make_bank, need_program, post, record, rows_of, run
 
 LIVES, RECORDS, TELLERS = (int(os.environ.get(name, usual)) for name, usual in
                            (("LIVES", 100), ("RECORDS", 20_000), ("TELLERS", 16)))
@@ -26,7 +27,7 @@ AHEAD = 8
 
 PLAN = [(1, 3), (2, 200)]
 ACCOUNTS = [1, 2, 3, 100001, 100050, 100200]
-STORE = b"bank: store fault\n"
+STORE, MEMORY = b"bank: store fault\n", b"bank: no memory\n"
 NOBODY = 65534
 
 
@@ -46,7 +47,7 @@ class Bench:
         self.whole = self.plain(["post", path + "/whole.db"], self.given)[1]
         self.rows = rows_of(path + "/whole.db")
 
-    def plain(self, words, given=b"", user=None):
+    def plain(self, words, given=b"", user=None, environment=None):
         """A run, as another user if one is given."""
         def prepare():
             if user is not None:
@@ -54,7 +55,7 @@ class Bench:
                 os.setgid(user)
                 os.setuid(user)
         ended = subprocess.run([BANK] + words, input=given, stdout=subprocess.PIPE, stderr=subprocess.PIPE, timeout=120,
-                               preexec_fn=prepare)
+                               preexec_fn=prepare, env=environment)
         self.runs += 1
         return ended.returncode, ended.stdout, ended.stderr
 
@@ -68,14 +69,13 @@ class Bench:
         make_bank(file, PLAN)
         return file
 
-    def is_told(self, ended):
-        """The run ended as it may where there is a cause, with a prefix of the replies."""
+    def is_told(self, ended, due=None, faults=(STORE,)):
+        """The run ended as it may where there is a cause, with the beginning of what is due: the replies, if nothing else is."""
         status, output, fault = ended
-        ensure((status, fault) in ((0, b""), (3, STORE)), f"status {status}, {fault!r}")
-        ensure(self.whole.startswith(output) and len(output) % 200 == 0, "other replies")
-        ensure(status != 0 or output == self.whole, "fewer replies, and no fault")
+        ensure(status == 0 and not fault or status == 3 and fault in faults, f"status {status}, {fault!r}")
+        ensure((due or self.whole).startswith(output) and (due or len(output) % 200 == 0), "another output")
+        ensure(status != 0 or output == (due or self.whole), "less output, and no fault")
         self.note(status, fault)
-        return len(output) // 200
 
     def is_mended(self, file):
         """The same records get their replies, and the bank is as if nothing had disturbed."""
@@ -138,6 +138,28 @@ def unreadable(bench):
             bench.note(status, fault)
         os.chmod(changed, before)
         bench.is_mended(file)
+
+
+def memory(bench):
+    """Each allocation is refused, one a run, until a run has fewer."""
+    library, count = bench.path + "/refuse.so", bench.path + "/count"
+    subprocess.run([os.environ.get("CC", "cc"), "-O1", "-shared", "-fPIC", "-o", library, HERE + "/tools/refuse_memory.c"], check=True)
+    few = Bench(bench.path, 4)
+    few.told = bench.told
+    for command, *more in (["post"], ["audit"], ["replay"], ["statement", "1"]):
+        bench.cause = few.cause = f"memory refused to {command}"
+        file, at, had = few.new_bank("refused"), 0, 0
+        if command != "post":
+            few.is_mended(file)
+        due = few.whole if command == "post" else few.plain([command, file, *more])[1]
+        while at <= had:
+            at += 1
+            refuses = {"LD_PRELOAD": library, "REFUSE_AT": str(at), "REFUSE_COUNT": count}
+            few.is_told(few.plain([command, file, *more], few.given, environment=refuses), due, (STORE, MEMORY))
+            with open(count, "rb") as counted:
+                had = int.from_bytes(counted.read(8), sys.byteorder)
+            few.is_mended(file)
+            file = few.new_bank("refused") if command == "post" else file
 
 # ---- kills
 
@@ -207,7 +229,7 @@ def serves(bench):
     bench.note(0, b"each is posted once, with its first reply")
 
 
-CAUSES = (posts, serves, full, unreadable)
+CAUSES = (posts, serves, full, unreadable, memory)
 
 
 def main():

@@ -302,6 +302,7 @@ def words(place, page):
     till(place, page)
     saved(place, page)
     days(page)
+    closed(page)
     told(place, page)
     clicks(page)
     widths(page)
@@ -480,6 +481,30 @@ def days(page):
     page.answered(2, "0.05", "AFTER IT")
     shown = page.browser.run("[...document.querySelectorAll('.posting td:first-child')].slice(0, 2).map(it => it.textContent.length)")
     same("the dates of two rows", shown, [5, 16])
+    page.load()
+    page.focus()
+
+
+def closed(page):
+    """After the books were closed: what they refuse waits for the new ones, and what the old ones decided keeps its first
+    answer. If this browser has none, no button lets it be posted twice. The replies come from here."""
+    page.act("window.code = '19', window.fetch = (real => (path, more) => path !== '/post' || !window.code ? real(path, more) : "
+             "Promise.resolve(new Response((`DR01${window.code}${more.body.slice(4, 51)}+000000000000`).padEnd(200))))(window.fetch)")
+    first = page.kept()
+    page.enter(2, "0.06", "CLOSED")
+    page.note("waiting", "The books of this counter are closed: the new ones will answer. 1 posting waits here")
+    page.act("window.code = '18'")
+    page.click("send-now")
+    page.settled()
+    said = "was decided before the books were closed. Don't enter it again: ask for the old statement"
+    page.note("wrong", said)
+    line = page.browser.run(LINES)[0]
+    holds("a number of closed books", line[4], f"Number {line[0]} {said}")
+    same("its buttons", page.browser.run("document.querySelector('.posting').querySelectorAll('button').length"), 0)
+    page.send_again()
+    kept = [it["answer"] for it in page.kept() if it["reference"] != "CLOSED"]
+    same("what closed books answered first", kept, [it["answer"] for it in first])
+    holds("what is said of it", page.browser.run(element("again") + ".textContent"), ": none of ")
     page.load()
     page.focus()
 
@@ -728,7 +753,7 @@ def check(place, page, entered):
     check_books(place.folder + "/copy.db", {(1, shown[reference]["number"]): (shown[reference]["answer"].encode(), cents)
                                             for reference, _, cents in entered})
     # Every record that the page kept, sent once more, gets the answer that the page shows, but for what isn't kept.
-    sent = [it for it in kept if it["answer"][4:6] not in ("11", "15", "16", "90")]
+    sent = [it for it in kept if it["answer"][4:6] not in ("11", "15", "16", "18", "90")]
     again = place.posts(it["record"].encode() for it in sent).decode()
     same("the replies", again, "".join(it["answer"] for it in sent))
 
