@@ -288,7 +288,7 @@ def words(place, page):
 
     page.focus()
     page.browser.keys("3", TAB, TAB, TAB, TAB, TAB, ENTER)
-    page.until("the balance", element("done") + ".textContent", "Account 3 has 900.00.")
+    page.note("done", "Account 3 has 900.00. Its postings: ask the back office for its statement.")
     page.focus("ask-branches")
     page.browser.keys(ENTER)
     page.until("the branches", element("branch-rows") + ".textContent.length > 0")
@@ -510,7 +510,7 @@ def closed(page):
 
 
 def told(place, page):
-    """What the server sets for all: the bank's name, the limit, the language and the lock, after which what waits goes out, and
+    """What the server sets for all: the bank's name, the limit, statements, the language and the lock, after which what waits goes out, and
     then the browser is signed out. A file that can't be read asks each time."""
     def sets(text):
         with open(place.folder + "/settings.json", "w", encoding="utf-8") as file:
@@ -527,6 +527,10 @@ def told(place, page):
         same(text, page.browser.run(element("question") + ".open"), is_asked)
         page.browser.keys(ESCAPE)
         page.settled()
+    sets('{"statements": "desk 4"}')
+    page.write("account", "3")
+    page.click("balance")
+    page.note("done", "Its postings: desk 4.")
     place.counter.stop()
     sets('{"lock after minutes": 0.2}')
     page.enter(2, "0.07", "LOCKED")

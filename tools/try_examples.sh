@@ -1,7 +1,7 @@
 #!/usr/bin/env bash
 # Tries what README, docs/USING.md and examples/ show, with the built program: README's minute as a script and pasted
-# into a terminal, the reports in SQL, the evening's copy, a recovery, each with what they refuse; and a bank that
-# follows another one.
+# into a terminal, the reports in SQL, the evening's copy, a recovery, each with what they refuse; a bank that follows
+# another one; and, if `rt` is on the path, the program of examples/embed, which it proves.
 #
 #     tools/try_examples.sh [TIMES]
 #
@@ -229,3 +229,16 @@ kill "$server"
 wait "$server" || true
 same "$status" 4 "following a leader that has less ($(cat said))"
 echo "standby.sh"
+
+# A program of one's own: at each fault it opens the file again, and gives up at the third. Then it goes on.
+if ! command -v rt >/dev/null; then exit; fi
+"$top/tools/own_crate.sh" "$top/examples/embed/main.rt.in" embed
+status=0
+(ulimit -f 200 && trap '' XFSZ && ./embed embed.db 1000) >said 2>faults || status=$?
+same "$status $(paste -sd ' ' faults)" "1 $(yes 'embed: store fault' | head -3 | paste -sd ' ')" "a program whose file may not grow"
+before="$(sqlite3 embed.db 'SELECT decided FROM meta')"
+if ((before < 1 || before > 999)); then fail "$before requests in a file that may not grow"; fi
+same "$(./embed embed.db 1000)" "answered 1000" "a program that goes on"
+same "$(sqlite3 embed.db 'SELECT count(*), sum(delta) FROM history')" "1000|100000" "what it posted"
+"$bank" replay embed.db | grep -q '^AGREES$' || fail "what it posted does not replay"
+echo "embed"
