@@ -33,6 +33,7 @@ CALLS = PROMISE + [
     ("bank_store", "submit", []),
     ("bank_store", "submit_all", []),
     ("bank_store", "open_branch", []),
+    ("bank_store", "seal", []),
     ("bank_store", "tables_law", []),
 ]
 CLAIMS = CALLS + [
@@ -297,7 +298,7 @@ def page():
         "| For | Definitions |",
         "|---|---|",
         f"| README's promise: `reopen` (`lives`) | {said}; {len(rust)} Rust types and constants, {listed_names} names of the kit |",
-        f"| with `lives_law`, `calls_law` and `streams_law`, which say what is acknowledged, `each_request_once`, `tables_are_consistent`, `sealed_law`, `two_years_law`, and `submit`, `submit_all`, `open_branch` | {said_calls} |",
+        f"| with `lives_law`, `calls_law` and `streams_law`, which say what is acknowledged, `each_request_once`, `tables_are_consistent`, `sealed_law`, `two_years_law`, and `submit`, `submit_all`, `open_branch`, `seal` | {said_calls} |",
         f"| all ten claims of README | {said_claims} |",
         "",
         "## The promise",
