@@ -92,6 +92,8 @@ def texts():
                        re.findall(r"'([^'\n]+)':((?:\s+(?:\+ )?'(?:[^'\\]|\\.)*'(?: \+)?)+)", part)} for part in parts[1::2])
     for other in others:
         same("the texts of two languages", sorted(other.items()), sorted(first.items()))
+    names = re.findall(r"'([^'\n]+)':\s", parts[1])
+    same("names of two texts", sorted(names), sorted(set(names)))
     named = set(re.findall(r"(?:words\(|data-text=|data-label=)['\"]([^'\"]+)['\"]", page))
     ensure(len(first) > 100 and not named - first.keys(), f"texts that are missing: {named - first.keys()}")
 
@@ -502,9 +504,8 @@ def closed(page):
     holds("a number of closed books", line[4], f"Number {line[0]} {said}")
     same("its buttons", page.browser.run("document.querySelector('.posting').querySelectorAll('button').length"), 0)
     page.send_again()
-    kept = [it["answer"] for it in page.kept() if it["reference"] != "CLOSED"]
-    same("what closed books answered first", kept, [it["answer"] for it in first])
-    holds("what is said of it", page.browser.run(element("again") + ".textContent"), ": none of ")
+    kept, was = ([(it["answer"], it.get("first")) for it in all if it["reference"] != "CLOSED"] for all in (page.kept(), first))
+    same("what closed books answered first", kept, was)
     page.load()
     page.focus()
 
