@@ -8,8 +8,8 @@
 #
 # FILE is the bank. FOLDER, a new one each evening, gets the copy, its audit and its replay; without one it is named by the
 # moment, in COPIES, /var/lib/bank-evening, and the oldest beyond KEEP, 30, go. The file DIGESTS gets a line `requests N
-# digest D` each evening, and DIGESTS.plan the branches with their accounts and floors, which no digest has. Let both be
-# where nobody who can write FILE can write: `digests` in COPIES is root's. A branch that was opened since the evening before
+# digest D` each evening, and DIGESTS.plan the branches with their accounts and floors, which no digest has, DIGESTS.closing
+# that of the closed numbers. Let them be where nobody who can write FILE can write: `digests` in COPIES is root's. A branch that was opened since the evening before
 # is shown; one whose accounts or floor changed, or that went, is an alarm. After a recovery, whose postings have other
 # moments, `--after-recovery` accepts what differs from the evening before, says so, and adds the new line.
 #
@@ -103,9 +103,14 @@ if [ -s "$digests.plan" ]; then
     comm -13 "$digests.plan" "$copy.branches" | sed 's/^/evening: opened since, or with another floor (branch,accounts,floor): /'
 fi
 cp "$copy.branches" "$digests.plan"
+grep '^closing ' "$copy.replay" >"$copy.closing" || alarm "bank replay has no line of closed numbers"
+if [ -s "$digests.closing" ] && ! cmp -s "$copy.closing" "$digests.closing"; then
+    differs "the closed numbers, or the seal, are not those of the evening before"
+fi
+cp "$copy.closing" "$digests.closing"
 one_line "$copy.replay" >>"$digests"
 cp "$digests" "$copy.digests"
-sync "$folder"/* "$folder" "$digests" "$digests.plan" "$(dirname "$digests")"
+sync "$folder"/* "$folder" "$digests" "$digests".{plan,closing} "$(dirname "$digests")"
 
 # What came back from the place away is what was replayed here: a copy that can be restored.
 if [ "${AWAY:-}" ]; then

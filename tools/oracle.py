@@ -18,9 +18,13 @@ import sys
 
 VERSION = 4
 LIMIT = 999_999_999_999
+# The keys of a teller's numbers in the table `closing` are this many times the teller, and the number.
+PER_TELLER = 10**10
 POSTED, NO_TELLER, WRONG_BRANCH, NO_ACCOUNT, OVER_LIMIT, REUSED_NUMBER, BELOW_FLOOR, MALFORMED = 0, 11, 12, 13, 14, 15, 17, 90
+CLOSED, SEALED = 18, 19
 NAMES = {POSTED: "POSTED", NO_TELLER: "NO TELLER", WRONG_BRANCH: "WRONG BRANCH", NO_ACCOUNT: "NO ACCOUNT",
-         OVER_LIMIT: "OVER LIMIT", REUSED_NUMBER: "REUSED NUMBER", BELOW_FLOOR: "BELOW FLOOR", MALFORMED: "MALFORMED"}
+         OVER_LIMIT: "OVER LIMIT", REUSED_NUMBER: "REUSED NUMBER", BELOW_FLOOR: "BELOW FLOOR", MALFORMED: "MALFORMED",
+         CLOSED: "CLOSED", SEALED: "SEALED"}
 KEPT = (POSTED, WRONG_BRANCH, NO_ACCOUNT, OVER_LIMIT, BELOW_FLOOR)
 
 # Each table in the order in which they are compared: the word for its rows, its greatest key, and its columns, as a
@@ -121,6 +125,16 @@ class Book:
         if floor is not None:
             self.rows["branch_floor"][bid] = (floor,)
 
+    def close(self, first, last):
+        """Closes the numbers of these keys, of which none may be closed yet; 0 and 0 seal the books."""
+        if not any(low <= last and first <= high for high, (low,) in self.rows["closing"].items()):
+            self.rows["closing"][last] = (first,)
+
+    def books(self, key):
+        """What closed books say of a number that isn't kept."""
+        closes = {at: any(low <= at <= high for high, (low,) in self.rows["closing"].items()) for at in (key, 0)}
+        return CLOSED if closes[key] else SEALED if closes[0] else POSTED
+
     def judge(self, tid, aid, bid, delta):
         """The outcome of a request that is decided, and the new balances of its account, teller and branch."""
         if bid != branch_of_teller(tid):
@@ -135,9 +149,9 @@ class Book:
         return (POSTED, after) if max(map(abs, after)) <= LIMIT else (OVER_LIMIT, (0,))
 
     def decide(self, moment, request, reference):
-        """Keeps a request, unless its teller isn't open or has used the number."""
+        """Keeps a request, unless its teller isn't open or has used the number, or books are closed."""
         tid, number, aid, bid, delta = request
-        if tid not in self.rows["teller"] or (tid, number) in self.kept:
+        if tid not in self.rows["teller"] or (tid, number) in self.kept or self.books(PER_TELLER * tid + number):
             return
         outcome, after = self.judge(tid, aid, bid, delta)
         self.decided += 1
@@ -160,6 +174,8 @@ class Book:
         if tid not in self.rows["teller"]:
             return reply_of(NO_TELLER, fields)
         self.decide(moment, *found)
+        if (tid, number) not in self.kept:
+            return reply_of(self.books(PER_TELLER * tid + number), fields)
         ordinal = self.kept[tid, number]
         *request, outcome, balance = self.rows["request"][ordinal]
         if (tuple(request), self.rows["request_reference"].get(ordinal, (None,))[0]) != found:
@@ -218,7 +234,7 @@ def requests_of(tables):
 
 def made_anew(tables):
     """The tables that the kept requests lead to, where each branch is opened as late as it can be. It isn't opened with
-    a floor above zero, and one that no balance reaches is none. In the end they are sealed, if they were."""
+    a floor above zero, and one that no balance reaches is none. In the end the numbers are closed that were."""
     book, moment = Book(), 0
     plan = {bid: (row[0], tables["branch_floor"].get(bid, (None,))[0]) for bid, row in tables["branch"].items()}
 
@@ -237,7 +253,9 @@ def made_anew(tables):
             book.decide(moment, request, reference)
     for bid in sorted(plan):
         open_for(bid)
-    return book.tables() | {"closing": {0: (0,)} if 0 in tables["closing"] else {}}
+    for last, (first,) in sorted(tables["closing"].items()):
+        book.close(first, last)
+    return book.tables()
 
 
 def entry_of(request, reference, posting):
@@ -267,6 +285,12 @@ def plan_line(tables):
     return f"{'plan':<12}{hashlib.sha256(plan_text(tables).encode()).hexdigest()}"
 
 
+def closing_line(tables):
+    """The line of a replay for the closed numbers."""
+    rows = "".join(f"{last},{first}\n" for last, (first,) in sorted(tables["closing"].items()))
+    return f"{'closing':<12}{hashlib.sha256(rows.encode()).hexdigest()}"
+
+
 def unread(table, row):
     """The rule that a row breaks which can't be read, 0 if it can be."""
     key, *rest = row
@@ -276,6 +300,9 @@ def unread(table, row):
         return 6
     if table == "history" and not 0 <= moment_of(rest) <= 253_402_300_799:
         return 6
+    if table == "closing" and (key or rest[0]) and not (
+            PER_TELLER < rest[0] <= key and rest[0] % PER_TELLER and rest[0] // PER_TELLER == key // PER_TELLER):
+        return 10
     is_text = table != "request_reference" or len(rest[0]) == 20 and all(" " <= byte <= "~" for byte in rest[0])
     return 0 if is_text else 9
 
@@ -326,7 +353,7 @@ def replay(file):
     line = difference(tables, made_anew(tables))
     if line:
         return ([line], 3) if line.startswith("bank: ") else ([line, "DIFFERS"], 5)
-    return digest_lines(list(requests_of(tables))) + [plan_line(tables), "AGREES"], 0
+    return digest_lines(list(requests_of(tables))) + [plan_line(tables), closing_line(tables), "AGREES"], 0
 
 
 # ---- an audit by SQL
