@@ -77,10 +77,11 @@ request_broken db a b =
     (λ rule rows keeps r. found_all (λ e. read_request e ≢ Err rule) (has_two (pos a) (pos b)) rows.requests r
     keeps.requests)
 
-pub seal_broken : (db : Database) (fault : TableFault)
-    → OfRows (λ rows. FindsStored (row_under rows.closings 0) read_closing (Err fault)) db → IsOf db fault
-seal_broken db = find_broken db (λ rows. row_under rows.closings 0) read_closing
-    (λ rule rows keeps r. found_all (λ e. read_closing e ≢ Err rule) (has_key (pos 0)) rows.closings r keeps.closings)
+-- the closed numbers that pass a test
+pub closing_broken : (db : Database) (p : Entry → Bool) (fault : TableFault)
+    → OfRows (λ rows. FindsStored (find p rows.closings) read_closing (Err fault)) db → IsOf db fault
+closing_broken db p = find_broken db (λ rows. find p rows.closings) read_closing
+    (λ rule rows keeps r. found_all (λ e. read_closing e ≢ Err rule) p rows.closings r keeps.closings)
 
 pub reference_broken : (db : Database) (n : ℕ) (fault : TableFault)
     → OfRows (λ rows. FindsStored (row_under rows.references n) read_reference (Err fault)) db → IsOf db fault

@@ -10,15 +10,14 @@ use Rattle.posting_rules.specs.believed.Tables.{row_at}
 use Rattle.posting_batch.specs.declared.slots.{AccountSlot.AccountSlot, TellerSlot.TellerSlot, BranchSlot.BranchSlot}
 use Rattle.posting_batch.specs.declared.slots.{FloorSlot.FloorSlot, RequestSlot.RequestSlot}
 use Rattle.posting_batch.specs.{Batch.HasHomes, Batch.branch_filled, Batch.floor_filled, Batch.teller_filled}
-use Rattle.posting_batch.specs.{Batch.account_filled, Batch.filled, Batch.request_filled, Overlay.Overlay}
+use Rattle.posting_batch.specs.{Batch.account_filled, Batch.filled, Overlay.Overlay}
 use Rattle.posting_batch.specs.Slots.{branch_slot_key, row_of_slot}
 use Rattle.store_rows.specs.declared.fault.TableFault.{TableFault}
 use Rattle.bank_transactions.specs.{Doing.Reads, Doing.ReadsWhere, Filling.TellsBranch, Filling.emptied, Filling.handing}
-use Rattle.bank_transactions.specs.Filling.{known, with_rows}
+use Rattle.bank_transactions.specs.Filling.{books_filled, kept_filled, known, with_rows}
 use Rattle.bank_transactions.specs.Filling.{emptied_account, emptied_branch, emptied_floor, emptied_request, emptied_teller}
 use Rattle.bank_transactions.proofs.{HeldSlots.know_all, LookUps.reads_both, LookUps.reads_but}
 use Rattle.bank_transactions.proofs.{LookUps.reads_so}
-use Rattle.posting_rules.specs.declared.rows.ClosingRow.{ClosingRow}
 
 -- nothing is damaged, and each branch that is asked for has its slot
 abbrev pub So : Overlay → Tables → Type 0
@@ -43,9 +42,6 @@ with_accounts slots o = record o { accounts = slots }
 
 abbrev pub with_kept : List RequestSlot → Overlay → Overlay
 with_kept slots o = record o { kept = slots }
-
-abbrev pub with_runs : List ClosingRow → Overlay → Overlay
-with_runs runs o = record o { runs = runs }
 
 -- the same slots, held elsewhere
 pub same_known : (o : Overlay) (n : ℕ) (b b' : List BranchSlot) (f f' : List FloorSlot) (e e' : List TellerSlot)
@@ -163,20 +159,21 @@ module _ {S : Type 0} {g : Ghosts S} {a b : Transaction S} where
               (same ∙ ap (λ (q : Overlay). q.branches) e) is,
         ))
 
-    -- what is kept of requests, after all that
-    pub kept_after : {xs ys : List RequestSlot} → ReadsWhere g a b (So o) (λ t. known t o) (Ok p) → xs ≡ o.kept
-        → ReadsWhere g b c (Plain xs) (λ t. map (request_filled t) xs) (Ok ys)
-        → ReadsWhere g a c (So o) (λ t. filled t o) (Ok (with_kept ys p))
-    kept_after {xs} {ys} first is second =
-        part o with_kept request_filled p (λ t. known t o) xs o.kept ys is first second
-        (λ t so e. (so.0, nothing_asked xs))
+    -- what closed books say of requests, after the rows
+    pub books_after : {xs ys : List RequestSlot} → ReadsWhere g a b (So o) (λ t. with_rows t o) (Ok p) → xs ≡ o.kept
+        → Reads g b c (λ t. map (books_filled t) xs) (Ok ys)
+        → ReadsWhere g a c (So o) (λ t. known t o) (Ok (with_kept ys p))
+    books_after {xs} {ys} first is second =
+        part o with_kept books_filled p (λ t. with_rows t o) xs o.kept ys is first second (λ t so e. so.0)
 
-    -- whether the books are sealed, after the rows
-    pub runs_after : ReadsWhere g a b (So o) (λ t. with_rows t o) (Ok p) → (runs : List ClosingRow)
-        → Reads g b c (λ t. t.closings) (Ok runs)
-        → ReadsWhere g a c (So o) (λ t. known t o) (Ok (with_runs runs p))
-    runs_after first runs second = reads_both first second (λ t so e. so.0) (λ t so e h.
-        ap (with_runs runs) e ∙ ap (λ (rs : List ClosingRow). with_runs rs (with_rows t o)) h)
+    -- and what is kept of them, after all that
+    pub kept_after : {xs ys : List RequestSlot} → ReadsWhere g a b (So o) (λ t. known t o) (Ok p) → xs ≡ p.kept
+        → ReadsWhere g b c (Plain xs) (λ t. map (kept_filled t) xs) (Ok ys)
+        → ReadsWhere g a c (So o) (λ t. filled t o) (Ok (with_kept ys p))
+    kept_after {xs} {ys} first is second = reads_both first second (λ t so e. (so.0, nothing_asked xs)) (λ t so e h.
+        ap (with_kept ys) e ∙ ap (λ (ws : List RequestSlot). with_kept ws (known t o))
+        (h ∙ ap (map (kept_filled t)) (is ∙ ap (λ (q : Overlay). q.kept) e)
+        ∙ map-map (kept_filled t) (books_filled t) o.kept))
 
 -- ---- without what they are filled with
 

@@ -1,22 +1,23 @@
 -- What lies in a file lies there still after a write of another row.
-use Rattle.std.proofs.Common.{◌≡◌, ◌∙◌, ◌+◌, ◌*◌, ℕ, ℤ, pos, true, false, nat_eq, List, [], ◌∷◌, length, Some, None, Option}
+use Rattle.std.proofs.Common.{◌≡◌, ◌∙◌, ◌+◌, ◌*◌, ℕ, ℤ, pos, true, false, nat_eq, List, [], ◌∷◌, length, Some, None, Option, filter}
 use Rattle.std.proofs.Common.{refl, sym, ap, subst, inl, inr, arith}
 use Rattle.std.proofs.lemmas.Bool.{Decides.nat_tests}
 use Rattle.std.specs.Prelude.{◌≢◌, IfSome}
 use Rattle.sqlite.specs.{Effect.Database, Order.Row, Order.column, Table.Table}
 use Rattle.sqlite_rules.specs.Lists.{Has}
 use Rattle.posting_rules.specs.declared.rows.{BranchRow.BranchRow, ClosingRow.ClosingRow, FloorRow.FloorRow}
-use Rattle.sql_meanings.specs.Under.{rows_under}
+use Rattle.sql_meanings.specs.Under.{rows_of, rows_under}
 use Rattle.store_rows.specs.believed.BankTables as bank
 use Rattle.store_rows.specs.believed.BankTables.{bank_tables}
 use Rattle.store_rows.specs.Lying.{BalanceLies, BranchLies, CountLies, FloorLies, IsBankFile, LeavesBeside, LeavesOthers, LiesAs}
-use Rattle.store_rows.specs.Lying.{SealLies}
-use Rattle.store_rows.specs.believed.Readings.{Reading, balance_of, branch_of, closing_of, floor_of}
+use Rattle.sql_meanings.specs.believed.{Entries.IsTree, Tables.width_of}
+use Rattle.sqlite.specs.Tree.{has_rowid}
+use Rattle.store_rows.specs.believed.Readings.{Reading, balance_of, branch_of, floor_of}
 use Rattle.store_rows.specs.declared.holders.Member.TheVariants.{Account, Teller}
 use Rattle.store_rows.specs.believed.Inserts.{meta_key}
 use Rattle.bank_transactions.specs.Known.{KnowsNothing}
 use Rattle.bank_transactions.specs.KnownRows.{AllKnown}
-use Rattle.bank_transactions.specs.Memory.{Fits, IsBlank}
+use Rattle.bank_transactions.specs.Memory.{Fits, IsBlank, NumbersLie}
 use Rattle.bank_transactions.specs.declared.known_rows.table.Known.{Known}
 use Rattle.bank_transactions.specs.declared.memory.Memory.{Memory}
 use Rattle.bank_transactions.proofs.KnownRows.{known_none}
@@ -24,7 +25,7 @@ use Rattle.bank_transactions.proofs.KnownRows.{known_none}
 -- nothing was written
 pub leaves_same : (table : Table) (key : ℕ) (db : Database) → IsBankFile db → LeavesOthers table key db db
 leaves_same table key db file = record {
-  beside = record { file = file; beside = λ other among apart k. refl };
+  beside = record { file = file; beside = λ other among apart. refl };
   others = λ k other. refl;
 }
 
@@ -59,12 +60,11 @@ module _ (was now : Database) where
   count_still None same lies = tt
   count_still (Some n) same lies = (lies.0, subst (λ (l : List Row). Has l lies.0) (sym same) lies.1, lies.2)
 
-  pub seal_still : (o : Option (Option ClosingRow))
-      → rows_under now bank.closing (pos 0) ≡ rows_under was bank.closing (pos 0) → IfSome o (SealLies was)
-      → IfSome o (SealLies now)
-  seal_still None same lies = tt
-  seal_still (Some row) same lies =
-      lies_still bank.closing (λ row. column row 0 ∷ column row 2 ∷ []) closing_of 0 row same lies
+  pub closed_still : (o : Option (List ClosingRow)) → rows_of now bank.closing ≡ rows_of was bank.closing
+      → IfSome o (NumbersLie was) → IfSome o (NumbersLie now)
+  closed_still None same lies = tt
+  closed_still (Some runs) same lies = λ rows tree.
+      lies rows (subst (λ (l : List Row). IsTree (width_of bank.closing) l rows) same tree)
 
 -- ---- after a write of one table
 
@@ -119,34 +119,39 @@ references_apart = record {
 }
 
 module _ (table : Table) (was now : Database) (left : LeavesBeside table was now) (m : Memory) (fits : Fits was m) where
+  -- those under a key
+  under_beside : (other : Table) → Has bank_tables other → other.name ≢ table.name → (k : ℤ)
+      → rows_under now other k ≡ rows_under was other k
+  under_beside other among apart k = ap (filter (has_rowid k)) (left.beside other among apart)
+
   pub count_beside : bank.meta.name ≢ table.name → IfSome m.decided (CountLies now)
-  count_beside apart = count_still was now m.decided (left.beside bank.meta (inl refl) apart (pos meta_key)) fits.decided
+  count_beside apart = count_still was now m.decided (under_beside bank.meta (inl refl) apart (pos meta_key)) fits.decided
 
   pub branches_beside : bank.branch.name ≢ table.name → AllKnown m.branches (λ k row. BranchLies k now row)
   branches_beside apart k row known =
-      branch_still was now k row (left.beside bank.branch (inr (inl refl)) apart (pos k)) (fits.branches k row known)
+      branch_still was now k row (under_beside bank.branch (inr (inl refl)) apart (pos k)) (fits.branches k row known)
 
   pub tellers_beside : bank.teller.name ≢ table.name → AllKnown m.tellers (λ k balance. BalanceLies (Teller k) now balance)
   tellers_beside apart k balance known = teller_still was now k balance
-      (left.beside bank.teller (inr (inr (inl refl))) apart (pos k)) (fits.tellers k balance known)
+      (under_beside bank.teller (inr (inr (inl refl))) apart (pos k)) (fits.tellers k balance known)
 
   pub accounts_beside : bank.account.name ≢ table.name
       → AllKnown m.accounts (λ k balance. BalanceLies (Account k) now balance)
   accounts_beside apart k balance known = account_still was now k balance
-      (left.beside bank.account (inr (inr (inr (inl refl)))) apart (pos k)) (fits.accounts k balance known)
+      (under_beside bank.account (inr (inr (inr (inl refl)))) apart (pos k)) (fits.accounts k balance known)
 
   pub floors_beside : bank.floor.name ≢ table.name → AllKnown m.floors (λ k row. FloorLies k now row)
   floors_beside apart k row known = floor_still was now k row
-      (left.beside bank.floor (inr (inr (inr (inr (inr (inr (inl refl))))))) apart (pos k)) (fits.floors k row known)
+      (under_beside bank.floor (inr (inr (inr (inr (inr (inr (inl refl))))))) apart (pos k)) (fits.floors k row known)
 
-  pub seal_beside : bank.closing.name ≢ table.name → IfSome m.seal (SealLies now)
-  seal_beside apart = seal_still was now m.seal
-      (left.beside bank.closing (inr (inr (inr (inr (inr (inr (inr (inr (inl refl))))))))) apart (pos 0)) fits.seal
+  pub closed_beside : bank.closing.name ≢ table.name → IfSome m.closed (NumbersLie now)
+  closed_beside apart = closed_still was now m.closed
+      (left.beside bank.closing (inr (inr (inr (inr (inr (inr (inr (inr (inl refl))))))))) apart) fits.closed
 
   pub fits_beside : IsApart table → Fits now m
   fits_beside apart = record {
     decided = count_beside apart.meta;
-    seal = seal_beside apart.closing;
+    closed = closed_beside apart.closing;
     branches = branches_beside apart.branch;
     floors = floors_beside apart.floor;
     tellers = tellers_beside apart.teller;
@@ -161,12 +166,12 @@ apart_keys k key other is = other (let same : k ≡ key = cc in same)
 -- what is remembered of the other tables is what it was
 module _ (m n : Memory) (was now : Database) (fits : Fits was m) where
   -- the count
-  pub count_noted : n.seal ≡ m.seal → n.branches ≡ m.branches → n.floors ≡ m.floors → n.tellers ≡ m.tellers → n.accounts ≡ m.accounts
+  pub count_noted : n.closed ≡ m.closed → n.branches ≡ m.branches → n.floors ≡ m.floors → n.tellers ≡ m.tellers → n.accounts ≡ m.accounts
       → LeavesOthers bank.meta meta_key was now → IfSome n.decided (CountLies now) → Fits now n
   count_noted sl bs fs ts accts left lies = record {
     decided = lies;
-    seal = subst (λ (o : Option (Option ClosingRow)). IfSome o (SealLies now)) (sym sl)
-        (seal_beside bank.meta was now left.beside m fits (names_apart bank.closing.name bank.meta.name refl));
+    closed = subst (λ (o : Option (List ClosingRow)). IfSome o (NumbersLie now)) (sym sl)
+        (closed_beside bank.meta was now left.beside m fits (names_apart bank.closing.name bank.meta.name refl));
     branches = subst (λ (rows : Known (Option BranchRow)). AllKnown rows (λ k row. BranchLies k now row)) (sym bs)
         (branches_beside bank.meta was now left.beside m fits (names_apart bank.branch.name bank.meta.name refl));
     floors = subst (λ (rows : Known (Option FloorRow)). AllKnown rows (λ k row. FloorLies k now row)) (sym fs)
@@ -178,13 +183,13 @@ module _ (m n : Memory) (was now : Database) (fits : Fits was m) where
   }
 
   -- branches
-  pub branches_noted : (key : ℕ) → n.seal ≡ m.seal → n.decided ≡ m.decided → n.floors ≡ m.floors → n.tellers ≡ m.tellers
+  pub branches_noted : (key : ℕ) → n.closed ≡ m.closed → n.decided ≡ m.decided → n.floors ≡ m.floors → n.tellers ≡ m.tellers
       → n.accounts ≡ m.accounts → LeavesOthers bank.branch key was now
       → (((k : ℕ) (row : Option BranchRow) → k ≢ key → BranchLies k was row → BranchLies k now row)
       → AllKnown n.branches (λ k row. BranchLies k now row)) → Fits now n
   branches_noted key sl d fs ts accts left own = record {
-    seal = subst (λ (o : Option (Option ClosingRow)). IfSome o (SealLies now)) (sym sl)
-        (seal_beside bank.branch was now left.beside m fits (names_apart bank.closing.name bank.branch.name refl));
+    closed = subst (λ (o : Option (List ClosingRow)). IfSome o (NumbersLie now)) (sym sl)
+        (closed_beside bank.branch was now left.beside m fits (names_apart bank.closing.name bank.branch.name refl));
     decided = subst (λ (o : Option ℕ). IfSome o (CountLies now)) (sym d)
         (count_beside bank.branch was now left.beside m fits (names_apart bank.meta.name bank.branch.name refl));
     branches = own (λ k row other. branch_still was now k row (left.others (pos k) (apart_keys k key other)));
@@ -197,13 +202,13 @@ module _ (m n : Memory) (was now : Database) (fits : Fits was m) where
   }
 
   -- floors
-  pub floors_noted : (key : ℕ) → n.seal ≡ m.seal → n.decided ≡ m.decided → n.branches ≡ m.branches → n.tellers ≡ m.tellers
+  pub floors_noted : (key : ℕ) → n.closed ≡ m.closed → n.decided ≡ m.decided → n.branches ≡ m.branches → n.tellers ≡ m.tellers
       → n.accounts ≡ m.accounts → LeavesOthers bank.floor key was now
       → (((k : ℕ) (row : Option FloorRow) → k ≢ key → FloorLies k was row → FloorLies k now row)
       → AllKnown n.floors (λ k row. FloorLies k now row)) → Fits now n
   floors_noted key sl d bs ts accts left own = record {
-    seal = subst (λ (o : Option (Option ClosingRow)). IfSome o (SealLies now)) (sym sl)
-        (seal_beside bank.floor was now left.beside m fits (names_apart bank.closing.name bank.floor.name refl));
+    closed = subst (λ (o : Option (List ClosingRow)). IfSome o (NumbersLie now)) (sym sl)
+        (closed_beside bank.floor was now left.beside m fits (names_apart bank.closing.name bank.floor.name refl));
     decided = subst (λ (o : Option ℕ). IfSome o (CountLies now)) (sym d)
         (count_beside bank.floor was now left.beside m fits (names_apart bank.meta.name bank.floor.name refl));
     branches = subst (λ (rows : Known (Option BranchRow)). AllKnown rows (λ k row. BranchLies k now row)) (sym bs)
@@ -216,13 +221,13 @@ module _ (m n : Memory) (was now : Database) (fits : Fits was m) where
   }
 
   -- tellers
-  pub tellers_noted : (key : ℕ) → n.seal ≡ m.seal → n.decided ≡ m.decided → n.branches ≡ m.branches → n.floors ≡ m.floors
+  pub tellers_noted : (key : ℕ) → n.closed ≡ m.closed → n.decided ≡ m.decided → n.branches ≡ m.branches → n.floors ≡ m.floors
       → n.accounts ≡ m.accounts → LeavesOthers bank.teller key was now
       → (((k : ℕ) (z : Option ℤ) → k ≢ key → BalanceLies (Teller k) was z → BalanceLies (Teller k) now z)
       → AllKnown n.tellers (λ k z. BalanceLies (Teller k) now z)) → Fits now n
   tellers_noted key sl d bs fs accts left own = record {
-    seal = subst (λ (o : Option (Option ClosingRow)). IfSome o (SealLies now)) (sym sl)
-        (seal_beside bank.teller was now left.beside m fits (names_apart bank.closing.name bank.teller.name refl));
+    closed = subst (λ (o : Option (List ClosingRow)). IfSome o (NumbersLie now)) (sym sl)
+        (closed_beside bank.teller was now left.beside m fits (names_apart bank.closing.name bank.teller.name refl));
     decided = subst (λ (o : Option ℕ). IfSome o (CountLies now)) (sym d)
         (count_beside bank.teller was now left.beside m fits (names_apart bank.meta.name bank.teller.name refl));
     branches = subst (λ (rows : Known (Option BranchRow)). AllKnown rows (λ k row. BranchLies k now row)) (sym bs)
@@ -235,13 +240,13 @@ module _ (m n : Memory) (was now : Database) (fits : Fits was m) where
   }
 
   -- accounts
-  pub accounts_noted : (key : ℕ) → n.seal ≡ m.seal → n.decided ≡ m.decided → n.branches ≡ m.branches → n.floors ≡ m.floors
+  pub accounts_noted : (key : ℕ) → n.closed ≡ m.closed → n.decided ≡ m.decided → n.branches ≡ m.branches → n.floors ≡ m.floors
       → n.tellers ≡ m.tellers → LeavesOthers bank.account key was now
       → (((k : ℕ) (z : Option ℤ) → k ≢ key → BalanceLies (Account k) was z → BalanceLies (Account k) now z)
       → AllKnown n.accounts (λ k z. BalanceLies (Account k) now z)) → Fits now n
   accounts_noted key sl d bs fs ts left own = record {
-    seal = subst (λ (o : Option (Option ClosingRow)). IfSome o (SealLies now)) (sym sl)
-        (seal_beside bank.account was now left.beside m fits (names_apart bank.closing.name bank.account.name refl));
+    closed = subst (λ (o : Option (List ClosingRow)). IfSome o (NumbersLie now)) (sym sl)
+        (closed_beside bank.account was now left.beside m fits (names_apart bank.closing.name bank.account.name refl));
     decided = subst (λ (o : Option ℕ). IfSome o (CountLies now)) (sym d)
         (count_beside bank.account was now left.beside m fits (names_apart bank.meta.name bank.account.name refl));
     branches = subst (λ (rows : Known (Option BranchRow)). AllKnown rows (λ k row. BranchLies k now row)) (sym bs)
@@ -253,30 +258,13 @@ module _ (m n : Memory) (was now : Database) (fits : Fits was m) where
     accounts = own (λ k z other. account_still was now k z (left.others (pos k) (apart_keys k key other)));
   }
 
-  -- the seal
-  pub seal_noted : n.decided ≡ m.decided → n.branches ≡ m.branches → n.floors ≡ m.floors → n.tellers ≡ m.tellers
-      → n.accounts ≡ m.accounts → LeavesOthers bank.closing 0 was now → IfSome n.seal (SealLies now) → Fits now n
-  seal_noted d bs fs ts accts left lies = record {
-    decided = subst (λ (o : Option ℕ). IfSome o (CountLies now)) (sym d)
-        (count_beside bank.closing was now left.beside m fits (names_apart bank.meta.name bank.closing.name refl));
-    seal = lies;
-    branches = subst (λ (rows : Known (Option BranchRow)). AllKnown rows (λ k row. BranchLies k now row)) (sym bs)
-        (branches_beside bank.closing was now left.beside m fits (names_apart bank.branch.name bank.closing.name refl));
-    floors = subst (λ (rows : Known (Option FloorRow)). AllKnown rows (λ k row. FloorLies k now row)) (sym fs)
-        (floors_beside bank.closing was now left.beside m fits (names_apart bank.floor.name bank.closing.name refl));
-    tellers = subst (λ (rows : Known (Option ℤ)). AllKnown rows (λ k z. BalanceLies (Teller k) now z)) (sym ts)
-        (tellers_beside bank.closing was now left.beside m fits (names_apart bank.teller.name bank.closing.name refl));
-    accounts = subst (λ (rows : Known (Option ℤ)). AllKnown rows (λ k z. BalanceLies (Account k) now z)) (sym accts)
-        (accounts_beside bank.closing was now left.beside m fits (names_apart bank.account.name bank.closing.name refl));
-  }
-
 -- ---- where nothing is remembered
 
 -- it lies in any file
-pub fits_nothing : (m : Memory) → m.seal ≡ None → m.decided ≡ None → KnowsNothing m.branches → KnowsNothing m.floors
+pub fits_nothing : (m : Memory) → m.closed ≡ None → m.decided ≡ None → KnowsNothing m.branches → KnowsNothing m.floors
     → KnowsNothing m.tellers → KnowsNothing m.accounts → IsBlank m
 fits_nothing m unsealed none branches floors tellers accounts db = record {
-  seal = subst (λ (o : Option (Option ClosingRow)). IfSome o (SealLies db)) (sym unsealed) tt;
+  closed = subst (λ (o : Option (List ClosingRow)). IfSome o (NumbersLie db)) (sym unsealed) tt;
   decided = subst (λ (o : Option ℕ). IfSome o (CountLies db)) (sym none) tt;
   branches = known_none _ m.branches branches;
   floors = known_none _ m.floors floors;

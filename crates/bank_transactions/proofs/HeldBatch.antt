@@ -13,7 +13,7 @@ use Rattle.posting_rules.specs.believed.Kept.{KeptFields}
 use Rattle.posting_rules.specs.believed.Numbering.{branch_of_account, branch_of_teller}
 use Rattle.posting_rules.specs.believed.Changes.{tables_past_all}
 use Rattle.posting_rules.specs.believed.Tables.{Tables, branch_key, row_at, teller_key}
-use Rattle.posting_rules.specs.declared.rows.BranchRow.{BranchRow}
+use Rattle.posting_rules.specs.declared.rows.{BranchRow.BranchRow, ClosingRow.ClosingRow}
 use Rattle.posting_rules.proofs.Keyed.{by_test}
 use Rattle.posting_batch.specs.{declared.batch.Batch.Batch, declared.slots.RequestSlot.RequestSlot}
 use Rattle.posting_batch.specs.{Overlay.Overlay, Placed.IsRising, Placed.number_below}
@@ -35,7 +35,7 @@ use Rattle.store_rows.specs.declared.fault.TableFault.{TableFault}
 use Rattle.bank_transactions.specs.{Doing.Ends, Stored.HoldsTellerRow}
 use Rattle.bank_transactions.specs.Filling.{AreHeld, HasOwnRow, HoldsBranch, IsRowOf}
 use Rattle.bank_transactions.specs.Filling.{emptied, emptied_account, emptied_branch, emptied_floor, emptied_request}
-use Rattle.bank_transactions.specs.Filling.{emptied_teller}
+use Rattle.bank_transactions.specs.Filling.{Closes, TellsBooks, emptied_teller}
 use Rattle.bank_transactions.specs.believed.Stored.{HasRead, HasStored, HoldsAccount, HoldsFloor}
 use Rattle.bank_transactions.specs.believed.Stored.{HoldsKept, RepliesToAllStored}
 use Rattle.bank_transactions.specs.{Running.Leads, Writing.AreBranchNumbers, Writing.MayWrite}
@@ -177,18 +177,22 @@ is_own : (n : ℕ) (o : Option BranchRow) → IfSome o (IsRowOf n) → IfSome o 
 is_own n None own = tt
 is_own n (Some b) own = own.0
 
-module _ (free : ℕ) (reads : List (Result RequestFields Bad)) (slots : Overlay)
-    (same : emptied slots ≡ emptied (covering_all no_slots reads)) (own : AllByRecursion HasOwnRow slots.branches) where
-  -- tables that have what the slots tell, with so many ordinals free
+module _ (free : ℕ) (runs : List ClosingRow) (reads : List (Result RequestFields Bad)) (slots : Overlay)
+    (same : emptied slots ≡ emptied (covering_all no_slots reads)) (own : AllByRecursion HasOwnRow slots.branches)
+    (books : AllByRecursion (TellsBooks runs) slots.kept) where
+  -- tables that have what the slots tell, with these closings, and so many ordinals free
   abbrev its_tables : Tables
-  its_tables = tables_told free slots
+  its_tables = tables_told free runs slots
 
   rises : HasRisingSlots slots
   rises = rising_filled slots (subst HasRisingSlots (sym same)
       (rising_emptied (covering_all no_slots reads) (made_all reads).rising))
 
   filled_so : slots ≡ filled its_tables (covering_all no_slots reads)
-  filled_so = sym (told_filled free slots rises (all_weaker HasOwnRow IsOwn (λ s. is_own s.branch s.stored) slots.branches own)) ∙ filled_over its_tables slots (covering_all no_slots reads) same
+  filled_so =
+      sym (told_filled free runs slots rises
+      (all_weaker HasOwnRow IsOwn (λ s. is_own s.branch s.stored) slots.branches own) books)
+      ∙ filled_over its_tables slots (covering_all no_slots reads) same
 
   they_stand : Stands slots its_tables reads
   they_stand = subst (λ (o : Overlay). Stands o its_tables reads) (sym filled_so) (stands its_tables reads)
@@ -237,28 +241,28 @@ pub in_turn : (old new : Database) (b b' : Batch) (records : List (List ℕ)) (m
     (items : List (List ℕ)) → IsMadeOf b records → reads_of b' ≡ reads_of b
     → emptied (view b'.overlay) ≡ emptied (view b.overlay)
     → AllByRecursion HasOwnRow (view b'.overlay).branches
-    → OfRows (λ rows. AreHeld rows (view b'.overlay)) old
+    → OfRows (λ rows. AreHeld rows (view b'.overlay)) old → Closes old (view b'.overlay).kept
     → ((t : Tables) (rs : List (List ℕ)) → IsFilledFrom b' t rs → HasFreeOrdinals t (length rs)
     → IsJudged o items t m rs)
     → (o.decided ≡ (view b'.overlay).decided → new ≡ old)
     → RepliesToAllStored old new m records items
-in_turn old new b b' records m o items made reads same own held judged idle =
+in_turn old new b b' records m o items made reads same own held closed judged idle =
     let its : List (Result RequestFields Bad) = map request_of records in
     let slots = view b'.overlay in
     let so = same ∙ ap emptied made.overlay in
     let free = length records in
-    let t : Tables = its_tables free its slots so own in
-    let stand = they_stand free its slots so own in
+    let t : Tables = its_tables free closed.0 its slots so own closed.1 in
+    let stand = they_stand free closed.0 its slots so own closed.1 in
     let is = judged t records (record {
       reads = reads ∙ made.reads;
-      overlay = filled_so free its slots so own;
-    }) (told_free free slots) in
+      overlay = filled_so free closed.0 its slots so own closed.1;
+    }) (told_free free closed.0 slots) in
     record {
       tables = t;
       stored = λ rows has.
           (has_records rows slots t its stand (held rows has) records stand.covers, (held rows has).decided);
-      sealed = λ rows has. (held rows has).runs;
-      free = told_free free slots;
+      free = told_free free closed.0 slots;
+      closed = closed.2;
       are = is.answers;
       stays = λ none. idle (ap (λ (u : Tables). u.decided) is.tables ∙ none);
     }
@@ -268,7 +272,7 @@ pub answers_all : (old new : Database) (b b' : Batch) (records : List (List ℕ)
     (items : List (List ℕ)) → IsMadeOf b records → reads_of b' ≡ reads_of b
     → emptied (view b'.overlay) ≡ emptied (view b.overlay)
     → AllByRecursion HasOwnRow (view b'.overlay).branches
-    → OfRows (λ rows. AreHeld rows (view b'.overlay)) old
+    → OfRows (λ rows. AreHeld rows (view b'.overlay)) old → Closes old (view b'.overlay).kept
     → ((t : Tables) (rs : List (List ℕ)) → IsFilledFrom b' t rs → HasFreeOrdinals t (length rs)
     → IsJudged o items t m rs)
     → (o.decided ≡ (view b'.overlay).decided → new ≡ old)
@@ -276,16 +280,16 @@ pub answers_all : (old new : Database) (b b' : Batch) (records : List (List ℕ)
     → ((o ≡ view b'.overlay) × (new ≡ old)) ⊎ Runs (AddsForRecords old records) (Leads (MayWrite o) (tables_over o)) old new
     → AnswersAll old new m records items
 unfolding in_turn
-answers_all old new b b' records m o items made reads same own held judged idle rising wrote =
+answers_all old new b b' records m o items made reads same own held closed judged idle rising wrote =
     let its : List (Result RequestFields Bad) = map request_of records in
     let slots = view b'.overlay in
     let so = same ∙ ap emptied made.overlay in
     let free = length records in
-    let t : Tables = its_tables free its slots so own in
-    let filled_from = filled_so free its slots so own in
-    let is = judged t records (record { reads = reads ∙ made.reads; overlay = filled_from }) (told_free free slots) in
+    let t : Tables = its_tables free closed.0 its slots so own closed.1 in
+    let filled_from = filled_so free closed.0 its slots so own closed.1 in
+    let is = judged t records (record { reads = reads ∙ made.reads; overlay = filled_from }) (told_free free closed.0 slots) in
     record {
-      answers = in_turn old new b b' records m o items made reads same own held judged idle;
+      answers = in_turn old new b b' records m o items made reads same own held closed judged idle;
       wrote = elim wrote [
         | inl none ↦
             let back : tables_past_all t m records ≡ t = sym is.tables
@@ -294,7 +298,7 @@ answers_all old new b b' records m o items made reads same own held judged idle 
         | inr ran ↦
             let within = numbers_of t.branches (told_key _ branch_key IsBranch slots.branches
             (all_weaker HasOwnRow _ (λ s. is_within s.branch s.stored) slots.branches own)) o.branches is.changes.branches in
-            let may : MayWrite o t = (within, rising (rises free its slots so own), is.changes, is.adds) in
+            let may : MayWrite o t = (within, rising (rises free closed.0 its slots so own closed.1), is.changes, is.adds) in
             runs_for (λ text values adds. adds)
             (λ statements lead. subst (λ (u : Tables). LeadTo t u statements) is.tables (lead t may)) ran
       ];

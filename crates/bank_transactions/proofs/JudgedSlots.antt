@@ -11,7 +11,7 @@ use Rattle.posting_batch.specs.Batch.{HasRisingSlots, filled}
 use Rattle.posting_batch.specs.{Batch.IsJudged, believed.Batch.HasFreeOrdinals}
 use Rattle.posting_batch.proofs.Covered.{stands}
 use Rattle.store_rows.specs.{believed.Failures.Additions, believed.Rules.OfRows, declared.fault.TableFault.TableFault}
-use Rattle.bank_transactions.specs.{believed.Batches.HasRoomFor, Filling.AreHeld, Filling.emptied}
+use Rattle.bank_transactions.specs.{believed.Batches.HasRoomFor, Filling.AreHeld, Filling.Closes, Filling.emptied}
 use Rattle.bank_transactions.specs.Doing.{Acts, Does, Looks, ReadsWhere}
 use Rattle.bank_transactions.proofs.Chained.{acts_read, acts_wrote, does_both, does_but, does_for, does_tell}
 use Rattle.bank_transactions.proofs.{LookUps.finds_so, ShownSlots.shown_filled, Together.numbers}
@@ -68,9 +68,10 @@ module _ {X : Type 0} {So : Tables → Type 0} {after : Tables → Tables} {want
 pub fills : {S : Type 0} {g : Ghosts S} {old new : Transaction S} {So : Tables → Type 0} {w : Tables → Overlay}
     (count : ℕ) (p' p : Overlay) → ReadsWhere g old new So w (Ok p') → emptied p' ≡ emptied p
     → (HasCleanDisk (state g new.conn.now) → OfRows (λ rows. AreHeld rows p') (state g old.conn.now).now)
+    → (HasCleanDisk (state g new.conn.now) → Closes (state g old.conn.now).now p'.kept)
     → ReadsWhere g old new (HasRoomFor count) (λ t. filled t p) (Ok p')
-fills {g = g} {old = old} count p' p reads same held = finds_so reads (λ clean t shows room.
-    shown_filled (state g old.conn.now).now t count p' p shows room same (held clean))
+fills {g = g} {old = old} count p' p reads same held closed = finds_so reads (λ clean t shows room.
+    shown_filled (state g old.conn.now).now t count p' p shows room same (held clean) (closed clean))
 
 pub judging_all : (b b' : Batch) (records : List (List ℕ)) (m : ℕ) (o : Overlay) (items : List (List ℕ))
     → IsMadeOf b records → reads_of b' ≡ reads_of b

@@ -2,6 +2,7 @@
 pub mod Blamed
 pub mod Broken
 pub mod Chained
+pub mod ClosedAnswers
 pub mod Left
 pub mod FittingAccounts
 pub mod HeldRows
@@ -13,7 +14,6 @@ pub mod NextRow
 pub mod OpeningRows
 pub mod ReadsInTurn
 pub mod SoundRows
-pub mod Sealed
 pub mod ShownSlots
 pub mod Statements
 pub mod Transacted
@@ -41,3 +41,6 @@ pub mod Wrote
 pub mod NewBatch
 pub mod AfterLookUp
 pub mod Exits
+pub mod ClosedRows
+pub mod Gathered
+pub mod ToldBooks

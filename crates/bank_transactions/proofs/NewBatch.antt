@@ -27,8 +27,9 @@ use Rattle.sqlite_rules.specs.Lists.{Has}
 use Rattle.bank_transactions.specs.{believed.Additions.AddsRequests, believed.Causes.Damage}
 use Rattle.bank_transactions.specs.{believed.Stored.HoldsKept, Writing.MayAddRequests}
 use Rattle.bank_transactions.specs.Doing.{Acts, CommitsNothing, Does, DoesBy, Looks, ReadsWhere}
-use Rattle.bank_transactions.specs.Filling.{AreHeld, AreKnown, RequestHeld, emptied}
+use Rattle.bank_transactions.specs.Filling.{AreHeld, RequestHeld, RowsAreKnown, emptied, unbooked}
 use Rattle.bank_transactions.specs.Tries.{IsMadeAgain, may_be_kept}
+use Rattle.bank_transactions.proofs.ToldBooks.{unkept_still}
 use Rattle.bank_transactions.proofs.JudgedSlots.{Judging, Knows, written_so}
 use Rattle.bank_transactions.proofs.LookUps.{does_look, finds_so}
 use Rattle.bank_transactions.specs.Writing.{MayWrite}
@@ -112,15 +113,14 @@ held_none rows (s ∷ slots) unkept nowhere = (
 )
 
 pub known_held : (rows : StoredRows) (p : Overlay) → AllByRecursion (λ s. s.kept ≡ None) p.kept
-    → AllByRecursion (IsNowhere rows.requests) p.kept → AreKnown rows p → AreHeld rows p
+    → AllByRecursion (IsNowhere rows.requests) p.kept → RowsAreKnown rows p → AreHeld rows p
 known_held rows p unkept nowhere it = record {
-  branches = it.slots.branches;
-  floors = it.slots.floors;
-  tellers = it.slots.tellers;
-  accounts = it.slots.accounts;
+  branches = it.branches;
+  floors = it.floors;
+  tellers = it.tellers;
+  accounts = it.accounts;
   kept = held_none rows p.kept unkept nowhere;
-  decided = it.slots.decided;
-  runs = it.runs;
+  decided = it.decided;
 }
 
 -- the requests that a file holds
@@ -246,7 +246,7 @@ refused_new (Damaged rule) none first second = absurd cc
 module _ {S : Type 0} {g : Ghosts S} {old mid done : Transaction S} (b : Batch) (p' o : Overlay)
     (rows : List RequestRow) (records : List (List ℕ)) (made : IsMadeOf b records)
     {So : Tables → Type 0} {w : Tables → Overlay} (look : ReadsWhere g old mid So w (Ok p'))
-    (kept : p'.kept ≡ (view b.overlay).kept) (keys : blanked o ≡ blanked p')
+    (kept : map unbooked p'.kept ≡ map unbooked (view b.overlay).kept) (keys : blanked o ≡ blanked p')
     (own : KeepsNew p' → KeepsNew o) (whole : has_gap o.kept ≡ false) (are : rows ≡ o.requests)
     (puts : Does {X = Unit {0}} g (AddsRequests (Has rows)) mid done (MayAddRequests rows) (requests_put rows)
     (λ _. tt {0}) (Ok (tt {0})))
@@ -254,7 +254,7 @@ module _ {S : Type 0} {g : Ghosts S} {old mid done : Transaction S} (b : Batch) 
     → PutsNew (state g mid.conn.now).now (state g done.conn.now).now rows)
     (clean : HasCleanDisk (state g done.conn.now)) (live : IsTrue (state g old.conn.now).in_transaction) where
   unkept : AllByRecursion (λ s. s.kept ≡ None) p'.kept
-  unkept = subst (AllByRecursion (λ s. s.kept ≡ None)) (sym kept) (made_empty b records made)
+  unkept = unkept_still p'.kept (view b.overlay).kept kept (made_empty b records made)
 
   all_new : (es : List Entry) → HoldsRows (state g old.conn.now).now request es
       → AllByRecursion (IsNowhere es) p'.kept
@@ -267,7 +267,7 @@ module _ {S : Type 0} {g : Ghosts S} {old mid done : Transaction S} (b : Batch) 
       nowhere es p' o whole (own (keeps_none p' unkept)) keys
       (subst (AllByRecursion (IsNew es)) are new)
 
-  pub all_held : OfRows (λ rows. AreKnown rows p') (state g old.conn.now).now
+  pub all_held : OfRows (λ rows. RowsAreKnown rows p') (state g old.conn.now).now
       → OfRows (λ rows. AreHeld rows p') (state g old.conn.now).now
   all_held held = λ its has.
       known_held its p' unkept

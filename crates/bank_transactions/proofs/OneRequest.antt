@@ -12,8 +12,6 @@ use Rattle.posting_rules.specs.believed.{LookUps.found_in, Tables.Tables}
 use Rattle.posting_rules.specs.declared.judgments.{Found.Found, Verdict.TheVariants.Again, Verdict.TheVariants.Unkept}
 use Rattle.store_rows.specs.believed.Rules.{HoldsBank, StoredRows}
 use Rattle.bank_transactions.specs.believed.Stored.{HasRead, HasStored, IsStoredFound, RepliesToAllStored, RepliesToStored}
-use Rattle.posting_rules.specs.declared.rows.ClosingRow.{ClosingRow}
-use Rattle.posting_rules.specs.believed.Closings.{books_of}
 
 -- a request that is kept changes nothing
 module _ (t : Tables) (m : ℕ) (r : RequestFields) where
@@ -46,6 +44,8 @@ module _ {old new : Database} {m : ℕ} {bytes reply : List ℕ} {r : RequestFie
 
   found_stored : IsStoredFound old r (found_in its r)
   found_stored = record {
+    runs = its.closings;
+    closed = it.closed;
     teller = record { found = λ rows holds. (has rows holds).teller; fits = λ rows holds. (has rows holds).teller_fits };
     account = record {
       found = λ rows holds. (has rows holds).account.found;
@@ -55,7 +55,7 @@ module _ {old new : Database} {m : ℕ} {bytes reply : List ℕ} {r : RequestFie
     floor = λ rows holds. (has rows holds).floor;
     kept = λ rows holds. (has rows holds).kept;
     decided = λ rows holds. (it.stored rows holds).1;
-    books = λ rows holds. ap (λ (runs : List ClosingRow). books_of runs r.teller r.number) (it.sealed rows holds);
+    books = refl;
   }
 
   replied : reply ≡ reply_bytes its r

@@ -48,7 +48,8 @@ use Rattle.bank_transactions.specs.believed.Stored.{HoldsTerms}
 use Rattle.bank_transactions.specs.Filling.{AccountHeld, AreHeld, BranchHeld, FloorHeld, RequestHeld}
 use Rattle.bank_transactions.specs.Filling.{TellerHeld, emptied}
 use Rattle.bank_transactions.proofs.{HeldBatch.filled_over, SoundRows.within_or_none}
-use Rattle.bank_transactions.proofs.Sealed.{runs_are, seal_shown}
+use Rattle.bank_transactions.specs.Filling.{Closes, TellsBooks}
+use Rattle.bank_transactions.proofs.ToldBooks.{tells_shown}
 
 -- ---- a row that is read at all is read as it is
 
@@ -193,6 +194,11 @@ all_same P fill same [] all = refl
 all_same P fill same (s ∷ slots) all =
     ap (λ x. x ∷ slots) (same s all.0) ∙ ap (λ xs. fill s ∷ xs) (all_same P fill same slots all.1)
 
+both_all : {S : Type 0} (P Q : S → Type 0) (slots : List S) → AllByRecursion P slots → AllByRecursion Q slots
+    → AllByRecursion (λ s. P s × Q s) slots
+both_all P Q [] one other = tt
+both_all P Q (s ∷ slots) one other = ((one.0, other.0), both_all P Q slots one.1 other.1)
+
 -- the count in the one row of these tables
 count_is : (m : StoredMeta) (n : ℕ) → Some m ≡ meta_in (meta_entry VERSION n ∷ []) → m.decided ≡ pos n
 count_is m n is = cc
@@ -248,12 +254,16 @@ module _ (t : Tables) where
       ap Some (both_same kept r.decision (reference_in t.references r.ordinal) (holds.4 ∙ its.1)
       (reference_same holds.1.ordinal kept.reference holds.5 ∙ ap (reference_in t.references) its.0))
 
-  request_same : (s : RequestSlot) → RequestHeld (stored_rows t) s → s ≡ request_filled t s
-  request_same s held =
+  -- what is kept of its request, and what closed books say
+  abbrev Told : RequestSlot → Type 0
+  Told s = RequestHeld (stored_rows t) s × TellsBooks t.closings s
+
+  request_same : (s : RequestSlot) → Told s → s ≡ request_filled t s
+  request_same s (held, tells) =
       let is = kept_is (request_in t s.teller s.number) _
       (found_by request_key request_entry (λ _. refl) (has_two (pos s.teller) (pos s.number)) _
       (has_both s.teller s.number) t.requests) s.kept (as_one s.teller s.number s.kept held) in
-      rw (sym is) refl
+      rw (sym is, sym tells) refl
 
   decided_same : (n : ℕ) → HoldsDecided (stored_rows t) n → n ≡ t.decided
   decided_same n holds = pos_same n t.decided
@@ -289,23 +299,25 @@ module _ (t : Tables) where
         rw (sym is) refl
 
     -- so they are filled from those tables
-    pub held_filled : (o : Overlay) → AreHeld (stored_rows t) o → o.runs ≡ t.closings → o ≡ filled t o
-    held_filled o held closed = rw (
-      sym closed,
+    pub held_filled : (o : Overlay) → AreHeld (stored_rows t) o → AllByRecursion (TellsBooks t.closings) o.kept
+        → o ≡ filled t o
+    held_filled o held tells = rw (
       sym (all_same (BranchHeld (stored_rows t)) (branch_filled t) branch_same o.branches held.branches),
       sym (all_same (FloorHeld (stored_rows t)) (floor_filled t) floor_same o.floors held.floors),
       sym (all_same (TellerHeld (stored_rows t)) (teller_filled t) teller_same o.tellers held.tellers),
       sym (all_same (AccountHeld (stored_rows t)) (account_filled t) account_same o.accounts held.accounts),
-      sym (all_same (RequestHeld (stored_rows t)) (request_filled t) request_same o.kept held.kept),
+      sym (all_same Told (request_filled t) request_same o.kept (both_all (RequestHeld (stored_rows t))
+          (TellsBooks t.closings) o.kept held.kept tells)),
       sym (decided_same o.decided held.decided),
     ) refl
 
 -- slots that were filled, of a file that shows these tables
 pub shown_filled : (db : Database) (t : Tables) (count : ℕ) (p' p : Overlay) → Shows db t → HasRoomFor count t
-    → emptied p' ≡ emptied p → OfRows (λ rows. AreHeld rows p') db → p' ≡ filled t p
-shown_filled db t count p' p shows room same held =
-    let has = held (stored_rows t) (holds_shown db t shows) in
-    held_filled t room p' has (has.runs ∙ sym (runs_are (stored_rows t)) ∙ seal_shown db t shows)
+    → emptied p' ≡ emptied p → OfRows (λ rows. AreHeld rows p') db → Closes db p'.kept → p' ≡ filled t p
+shown_filled db t count p' p shows room same held closed =
+    let stored = holds_shown db t shows in
+    held_filled t room p' (held (stored_rows t) stored)
+    (tells_shown closed.0 t.closings p'.kept (closed.2 (stored_rows t) stored) closed.1)
     ∙ filled_over t p' p same
 
 -- what a branch was opened with, of a file that shows these tables

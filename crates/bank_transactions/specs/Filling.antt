@@ -1,13 +1,15 @@
 -- What the parts of filling a batch say.
-use Rattle.std.specs.Prelude.{◌≡◌, ℕ, Bool, List, [], map, Option, Some, None, IfSome, Result, Ok, Err}
+use Rattle.std.specs.Prelude.{◌≡◌, ℕ, List, [], ◌∷◌, map, Option, Some, None, IfSome, Result, Ok, Err}
 use Rattle.std.specs.List.{AllByRecursion}
 use Rattle.message_records.specs.believed.Ranges.{whole_within}
 use Rattle.message_records.specs.declared.limits.TheConstants.{MAX_BRANCH}
 use Rattle.posting_rules.specs.believed.Damage.{IsUndamaged}
 use Rattle.posting_rules.specs.believed.Tables.{Tables, row_at, branch_key}
 use Rattle.posting_rules.specs.declared.rows.BranchRow.{BranchRow}
+use Rattle.posting_rules.specs.believed.{Closings.books_of, LookUps.kept_in}
+use Rattle.posting_rules.specs.declared.judgments.Books.{Books, TheVariants.Closed, TheVariants.Current}
+use Rattle.posting_rules.specs.declared.judgments.Books.TheVariants.{Sealed}
 use Rattle.posting_rules.specs.declared.rows.ClosingRow.{ClosingRow}
-use Rattle.posting_batch.specs.View.{runs_of}
 use Rattle.posting_batch.specs.declared.slots.AccountSlot.{AccountSlot}
 use Rattle.posting_batch.specs.declared.slots.BranchSlot.{BranchSlot}
 use Rattle.posting_batch.specs.declared.slots.FloorSlot.{FloorSlot}
@@ -17,10 +19,11 @@ use Rattle.posting_batch.specs.Batch.{filled}
 use Rattle.posting_batch.specs.Overlay.{Overlay}
 use Rattle.posting_batch.specs.Slots.{in_slot, row_of_slot, branch_slot_key, slot_floor}
 use Rattle.store_rows.specs.believed.Readings.{read_branch}
-use Rattle.store_rows.specs.believed.Rules.{StoredRows, branch_under}
+use Rattle.sqlite.specs.Effect.{Database}
+use Rattle.store_rows.specs.believed.Rules.{OfRows, StoredRows, branch_under}
 use Rattle.store_rows.specs.believed.Stored.{FindsStored}
 use Rattle.store_rows.specs.declared.fault.TableFault.{TableFault}
-use Rattle.bank_transactions.specs.believed.Stored.{HoldsAccount, HoldsDecided, HoldsFloor, HoldsKept, runs_in}
+use Rattle.bank_transactions.specs.believed.Stored.{HoldsAccount, HoldsDecided, HoldsFloor, HoldsKept, HoldsNumbers}
 use Rattle.bank_transactions.specs.Stored.{HoldsTellerRow}
 
 -- this is the answer, where the call was answered
@@ -36,18 +39,47 @@ HasBranch branch n t = IsUndamaged t × (branch ≡ row_at branch_key t.branches
 abbrev pub TellsBranch : List BranchSlot → Tables → ℕ → Type 0
 TellsBranch slots t n = in_slot row_of_slot (row_at branch_slot_key slots n) ≡ row_at branch_key t.branches n
 
--- the rows filled from tables, but for what is kept of requests
+-- the slot of a request, with what closed books say of it, and with what is kept of it
+abbrev pub books_filled : Tables → RequestSlot → RequestSlot
+books_filled t s = record s { books = books_of t.closings s.teller s.number }
+
+abbrev pub kept_filled : Tables → RequestSlot → RequestSlot
+kept_filled t s = record s { kept = kept_in t.requests t.references s.teller s.number }
+
+-- the slot says of closed books what these runs say
+abbrev pub TellsBooks : List ClosingRow → RequestSlot → Type 0
+TellsBooks runs s = s.books ≡ books_of runs s.teller s.number
+
+-- as these runs say
+abbrev pub told_by : List ClosingRow → RequestSlot → RequestSlot
+told_by runs s = record s { books = books_of runs s.teller s.number }
+
+-- what is said where one run says the first and others the second
+abbrev pub books_with : Books → Books → Books
+books_with Closed others = Closed
+books_with Sealed Current = Sealed
+books_with Sealed others = others
+books_with Current others = others
+
+-- the slot, with what one run more says
+abbrev pub told_more : ClosingRow → RequestSlot → RequestSlot
+told_more r s = record s { books = books_with (books_of (r ∷ []) s.teller s.number) s.books }
+
+-- the slot, without what is kept of its request
+abbrev pub unkept : RequestSlot → RequestSlot
+unkept s = record s { kept = None }
+
+-- the slot, without what closed books say
+abbrev pub unbooked : RequestSlot → RequestSlot
+unbooked s = record s { books = Current }
+
+-- the rows filled from tables, but for those of requests
 abbrev pub with_rows : Tables → Overlay → Overlay
-with_rows t o = record (filled t o) { kept = o.kept; runs = o.runs }
+with_rows t o = record (filled t o) { kept = o.kept }
 
--- and whether the books are sealed
+-- and what closed books say of them
 abbrev pub known : Tables → Overlay → Overlay
-known t o = record (filled t o) { kept = o.kept }
-
--- whether they are, as what a batch knows of closed books
-abbrev pub runs_read : Result Bool TableFault → Result (List ClosingRow) TableFault
-runs_read (Ok sealed) = Ok (runs_of sealed)
-runs_read (Err e) = Err e
+known t o = record (filled t o) { kept = map (books_filled t) o.kept }
 
 -- ---- of whatever rows a file holds
 
@@ -65,7 +97,7 @@ abbrev pub emptied_account : AccountSlot → AccountSlot
 emptied_account s = record s { stored = None }
 
 abbrev pub emptied_request : RequestSlot → RequestSlot
-emptied_request s = record s { kept = None }
+emptied_request s = record s { kept = None; books = Current }
 
 -- the overlay, without what it is filled with
 abbrev pub emptied : Overlay → Overlay
@@ -75,7 +107,6 @@ emptied o = record o {
   tellers = map emptied_teller o.tellers;
   accounts = map emptied_account o.accounts;
   kept = map emptied_request o.kept;
-  runs = [];
   decided = 0;
 }
 
@@ -107,12 +138,7 @@ pub record RowsAreKnown (rows : StoredRows) (o : Overlay) : Type 0 where
   pub accounts : AllByRecursion (AccountHeld rows) o.accounts
   pub decided : HoldsDecided rows o.decided
 
--- and whether the books are sealed
-pub record AreKnown (rows : StoredRows) (o : Overlay) : Type 0 where
-  pub slots : RowsAreKnown rows o
-  pub runs : o.runs ≡ runs_in rows
-
--- each slot has, and the count is that of the rows, and so is whether the books are sealed
+-- each slot has, and the count is that of the rows
 pub record AreHeld (rows : StoredRows) (o : Overlay) : Type 0 where
   pub branches : AllByRecursion (BranchHeld rows) o.branches
   pub floors : AllByRecursion (FloorHeld rows) o.floors
@@ -120,7 +146,11 @@ pub record AreHeld (rows : StoredRows) (o : Overlay) : Type 0 where
   pub accounts : AllByRecursion (AccountHeld rows) o.accounts
   pub kept : AllByRecursion (RequestHeld rows) o.kept
   pub decided : HoldsDecided rows o.decided
-  pub runs : o.runs ≡ runs_in rows
+
+-- what closed books say of the slots is by the numbers that the rows close
+abbrev pub Closes : Database → List RequestSlot → Type 0
+Closes db slots = (runs : List ClosingRow) × AllByRecursion (TellsBooks runs) slots
+    × OfRows (λ rows. HoldsNumbers rows runs) db
 
 -- ---- whatever tables a file has
 

@@ -20,3 +20,4 @@ pub mod KnownRows
 pub mod Memory
 pub mod Noted
 pub mod Tries
+pub mod Gathering

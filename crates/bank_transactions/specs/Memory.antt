@@ -7,29 +7,42 @@ use Rattle.sqlite.specs.State.{State, HasCleanDisk}
 use Rattle.sqlite.specs.declared.transaction.Transaction.{Transaction}
 use Rattle.sqlite_trees.specs.declared.store.Store.{Ghosts}
 use Rattle.posting_rules.specs.declared.fault.Rule.{Rule}
+use Rattle.posting_rules.specs.declared.rows.ClosingRow.{ClosingRow}
 use Rattle.sql_meanings.specs.Calls.{Says}
 use Rattle.sql_meanings.specs.StatementAnswers.{WriteFails}
-use Rattle.sql_meanings.specs.believed.Entries.{Entry}
+use Rattle.sql_meanings.specs.Under.{rows_of}
+use Rattle.sql_meanings.specs.believed.Entries.{Entry, IsTree}
+use Rattle.sql_meanings.specs.believed.Tables.{width_of}
+use Rattle.store_rows.specs.believed.BankTables.{closing}
 use Rattle.store_rows.specs.Calls.{OfStored}
 use Rattle.store_rows.specs.Failures.{HasReason}
 use Rattle.store_rows.specs.believed.Rules.{StoredRows}
 use Rattle.store_rows.specs.believed.Stored.{FindsStored}
 use Rattle.store_rows.specs.declared.fault.TableFault.{TableFault}
-use Rattle.store_rows.specs.Lying.{AfterWrite, BalanceLies, BranchLies, CountLies, FloorLies, IsBankFile, SealLies}
+use Rattle.store_rows.specs.Lying.{AfterWrite, BalanceLies, BranchLies, CountLies, FloorLies, IsBankFile}
 use Rattle.store_rows.specs.declared.holders.Member.{Member, TheVariants.Account, TheVariants.Teller}
 use Rattle.bank_transactions.specs.Known.{known_under, places}
 use Rattle.bank_transactions.specs.declared.known_rows.table.Known.{Known}
 use Rattle.posting_batch.specs.declared.slots.RequestSlot.{RequestSlot}
 use Rattle.bank_transactions.specs.KnownRows.{AllKnown}
 use Rattle.bank_transactions.specs.Doing.{Stays}
+use Rattle.bank_transactions.specs.believed.Stored.{HasNumbers}
 use Rattle.bank_transactions.specs.declared.memory.Memory.{Memory}
 use Rattle.bank_transactions.specs.declared.memory.TheConstants.{SENT_AGAIN}
 
--- It lies in the database, whatever other rows that has: so many decided requests the row of the bank counts, the seal,
--- and the rows that are known, and where it is known that there is none.
+-- whatever rows of numbers lie in the table of closed numbers by rising keys
+abbrev pub OfClosingTree : (List Entry → Type 0) → Database → Type 0
+OfClosingTree P db = (rows : List Entry) → IsTree (width_of closing) (rows_of db closing) rows → P rows
+
+-- these runs have the numbers that they close
+abbrev pub NumbersLie : Database → List ClosingRow → Type 0
+NumbersLie db runs = OfClosingTree (λ rows. HasNumbers rows runs) db
+
+-- It lies in the database, whatever other rows that has: so many decided requests the row of the bank counts, the closed
+-- numbers, and the rows that are known, and where it is known that there is none.
 pub record Fits (db : Database) (memory : Memory) : Type 0 where
   pub decided : IfSome memory.decided (CountLies db)
-  pub seal : IfSome memory.seal (SealLies db)
+  pub closed : IfSome memory.closed (NumbersLie db)
   pub branches : AllKnown memory.branches (λ branch row. BranchLies branch db row)
   pub floors : AllKnown memory.floors (λ branch row. FloorLies branch db row)
   pub tellers : AllKnown memory.tellers (λ teller balance. BalanceLies (Teller teller) db balance)

@@ -1,4 +1,5 @@
 pub mod Causes
+pub mod Closed
 pub mod Doing
 pub mod Stored
 pub mod Stray

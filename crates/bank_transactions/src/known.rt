@@ -5,22 +5,20 @@ ghost use Rattle.sqlite.specs.Held.{state};
 ghost use Rattle.sqlite.specs.State.{HasCleanDisk};
 ghost use Rattle.store_rows.specs.Holders.{entry_under, holder_of};
 ghost use Rattle.store_rows.specs.Lying.{holder_key};
-ghost use Rattle.store_rows.specs.believed.Readings.{read_balance, read_branch, read_closing, read_floor};
+ghost use Rattle.store_rows.specs.believed.Readings.{read_balance, read_branch, read_floor};
 ghost use Rattle.store_rows.specs.believed.Rules.{OfRows, row_under};
 ghost use Rattle.posting_rules.specs.believed.Damage.{IsUndamaged};
 ghost use Rattle.bank_transactions.specs.Causes.{IsFirstDamaged};
-ghost use Rattle.bank_transactions.specs.Doing.{Reads, ReadsBy};
-ghost use Rattle.bank_transactions.specs.Filling.{runs_read};
-ghost use Rattle.posting_batch.specs.View.{runs_of};
+ghost use Rattle.bank_transactions.specs.Doing.{ReadsBy};
 ghost use Rattle.bank_transactions.specs.Memory.{AsksOnce, Recalls, Remembers, balances_of};
-ghost use Rattle.bank_transactions.specs.believed.Stored.{HoldsDecided, runs_in};
+ghost use Rattle.bank_transactions.specs.believed.Stored.{HoldsDecided};
 
 use crate::Memory;
 use crate::strays::last_decided;
 use message_records::{Branch, Cents};
-use posting_rules::{BranchRow, ClosingRow, FloorRow, MAX_DECIDED};
+use posting_rules::{BranchRow, FloorRow, MAX_DECIDED};
 use sqlite::{Alter, Transaction};
-use store_rows::{Member, TableFault, balance_of, find_branch, find_floor, find_seal};
+use store_rows::{Member, TableFault, balance_of, find_branch, find_floor};
 
 /// How many requests are decided, which is asked of the tables where it isn't remembered. So is whether a row is beyond
 /// them.
@@ -44,40 +42,6 @@ pub(crate) fn known_decided<S: Alter>(
     let decided = last_decided(tx)?;
     memory.note(decided);
     Ok(decided)
-}
-
-/// The row that seals the books, which is asked of the tables where it isn't remembered.
-fn known_seal_row<S: Alter>(
-    tx: &mut Transaction<'_, S>,
-    memory: &mut Memory,
-) -> Result<Option<ClosingRow>, TableFault>
-    requires { ∥ Remembers S.Store tx.old.conn.now memory.old ∥₁ }
-    ensures recalls { Recalls S.Store tx.old tx.new (λ rows. row_under rows.closings 0) read_closing result }
-    ensures once { AsksOnce tx.old tx.new memory.old.seal result }
-    ensures noted { IfOk result (λ row. memory.new.seal ≡ Some row) }
-    ensures remembers { OnOk result (∥ Remembers S.Store tx.new.conn.now memory.new ∥₁) }
-{
-    if let Some(row) = memory.seal_row() {
-        return Ok(row);
-    }
-    let row = find_seal(tx)?;
-    memory.note_seal(&row);
-    Ok(row)
-}
-
-/// Whether the books are sealed. The tables are asked where it isn't remembered.
-pub(crate) fn known_seal<S: Alter>(
-    tx: &mut Transaction<'_, S>,
-    memory: &mut Memory,
-) -> Result<bool, TableFault>
-    requires { ∥ Remembers S.Store tx.old.conn.now memory.old ∥₁ }
-    ensures says { Reads S.Store tx.old tx.new (λ tables. tables.closings) (runs_read result) }
-    ensures stored { IfOk result (λ sealed. HasCleanDisk (state S.Store tx.new.conn.now)
-        → OfRows (λ rows. runs_of sealed ≡ runs_in rows) (state S.Store tx.old.conn.now).now) }
-    ensures remembers { OnOk result (∥ Remembers S.Store tx.new.conn.now memory.new ∥₁) }
-{
-    let row = known_seal_row(tx, memory)?;
-    Ok(row.is_some())
 }
 
 /// The row of a branch, which is asked of the tables where it isn't remembered.

@@ -7,7 +7,7 @@ ghost use Rattle.bank_transactions.specs.KnownRows.{AreLow};
 use crate::known_rows::Known;
 use message_records::{Branch, Cents};
 use posting_batch::RequestSlot;
-use posting_rules::{BranchRow, ClosingRow, FloorRow};
+use posting_rules::{BranchRow, FloorRow, NumberRuns};
 use std::alloc::Global;
 use std::mem;
 use store_rows::{Holder, Member};
@@ -39,8 +39,8 @@ fn table<V: Copy>(alloc: Global, bits: u32) -> Known<V>
 pub struct Memory {
     // How many requests are decided.
     pub(crate) decided: Option<u64>,
-    // The row that seals the books, or that there is none.
-    pub(crate) seal: Option<Option<ClosingRow>>,
+    // The numbers that are closed, with the key of the seal.
+    pub(crate) closed: Option<NumberRuns>,
     // The row of a branch, or that it has none.
     pub(crate) branches: Known<Option<BranchRow>>,
     // The row of a branch's floor, or that it has none.
@@ -51,6 +51,8 @@ pub struct Memory {
     pub(crate) accounts: Known<Option<Cents>>,
     // The highest number that a teller is known to have sent.
     pub(crate) numbers: Known<u64>,
+    // Where memory for the closed numbers comes from, if they are to be remembered.
+    pub(crate) alloc: Option<Global>,
     ghost few: { ∥ IfSome decided (λ n. n ≤ MAX_DECIDED) ∥₁ },
     ghost low: { ∥ AreLow floors ∥₁ },
 }
@@ -60,12 +62,13 @@ impl Drop for Memory {
     fn drop(self) {
         let Memory {
             decided: _,
-            seal: _,
+            closed: _,
             branches: _,
             floors: _,
             tellers: _,
             accounts: _,
             numbers: _,
+            alloc: _,
         } = self;
     }
 }
@@ -74,14 +77,15 @@ impl Memory {
     ghost use Rattle.std.specs.Prelude.{◌≡◌, ◌≤ℤ◌, pos, Some};
     ghost use Rattle.bank_transactions.specs.Known.{Knows, known_under, places};
     ghost use Rattle.sqlite.specs.Effect.{Database};
-    ghost use Rattle.store_rows.specs.believed.BankTables.{branch as branch_table, closing as closing_table};
+    ghost use Rattle.store_rows.specs.believed.BankTables.{branch as branch_table};
     ghost use Rattle.store_rows.specs.believed.BankTables.{floor as floor_table, meta};
     ghost use Rattle.store_rows.specs.Holders.{holder_of, holder_table};
-    ghost use Rattle.store_rows.specs.Lying.{BalanceLies, BranchLies, CountLies, FloorLies, LeavesOthers, SealLies};
+    ghost use Rattle.store_rows.specs.Lying.{BalanceLies, BranchLies, CountLies, FloorLies, LeavesOthers};
     ghost use Rattle.store_rows.specs.Lying.{SetsBalance, holder_key};
     ghost use Rattle.store_rows.specs.declared.holders.Holder.TheVariants as holder;
     ghost use Rattle.store_rows.specs.believed.Inserts.{meta_key};
-    ghost use Rattle.bank_transactions.specs.Memory.{Fits, IfSingle, IsBlank, KeepsRoom, balances_of, highest_sent};
+    ghost use Rattle.bank_transactions.specs.Memory.{Fits, IfSingle, IsBlank, KeepsRoom, NumbersLie, balances_of};
+    ghost use Rattle.bank_transactions.specs.Memory.{highest_sent};
     ghost use Rattle.bank_transactions.specs.Memory.{is_above, is_single_above};
     ghost use Rattle.bank_transactions.specs.Noted.{KnowsWritten};
 
@@ -93,12 +97,13 @@ impl Memory {
     {
         Memory {
             decided: None,
-            seal: None,
+            closed: None,
             branches: table(alloc, BRANCH_BITS),
             floors: table(alloc, BRANCH_BITS),
             tellers: table(alloc, TELLER_BITS),
             accounts: table(alloc, ACCOUNT_BITS),
             numbers: table(alloc, TELLER_BITS),
+            alloc: Some(alloc),
         }
     }
 
@@ -109,12 +114,13 @@ impl Memory {
     {
         Memory {
             decided: None,
-            seal: None,
+            closed: None,
             branches: Known::none(),
             floors: Known::none(),
             tellers: Known::none(),
             accounts: Known::none(),
             numbers: Known::none(),
+            alloc: None,
         }
     }
 
@@ -124,7 +130,7 @@ impl Memory {
         ensures room { KeepsRoom self.old self.new }
     {
         self.decided = None;
-        self.seal = None;
+        self.closed = None;
         self.branches.forget();
         self.floors.forget();
         self.tellers.forget();
@@ -150,21 +156,12 @@ impl Memory {
         self.decided = Some(decided);
     }
 
-    /// The row that seals the books, if it is known.
-    pub(crate) fn seal_row(&self) -> Option<Option<ClosingRow>>
-        ensures value { result ≡ self.now.seal }
-        ensures lies { (db : Database) → Fits db self.now → IfSome result (SealLies db) }
+    /// Notes the numbers that are closed, as they were read.
+    pub(crate) fn note_closed(&mut self, closed: NumberRuns)
+        ensures noted { self.new.closed ≡ Some closed }
+        ensures fits { (db : Database) → NumbersLie db closed → Fits db self.old → Fits db self.new }
     {
-        self.seal
-    }
-
-    /// Notes the row that seals the books, as it was read.
-    pub(crate) fn note_seal(&mut self, row: &Option<ClosingRow>)
-        ensures noted { self.new.seal ≡ Some row.now }
-        ensures fits { (was now : Database) → LeavesOthers closing_table 0 was now → SealLies now row.now
-            → Fits was self.old → Fits now self.new }
-    {
-        self.seal = Some(*row);
+        self.closed = Some(closed);
     }
 
     /// The row of a branch, if it is known.

@@ -17,14 +17,17 @@ ghost use Rattle.bank_transactions.specs.Causes.{IsFirstDamaged};
 ghost use Rattle.bank_transactions.specs.Doing.{Reads, ReadsBy, ReadsWhere};
 ghost use Rattle.store_rows.specs.believed.Rules.{OfRows, StoredRows};
 ghost use Rattle.bank_transactions.specs.Filling.{handing, HasBranch, HoldsBranch, TellsBranch};
-ghost use Rattle.bank_transactions.specs.Filling.{AreHeld, AreKnown, HasOwnRow, TellsFloor, TellsStored};
-ghost use Rattle.bank_transactions.specs.Filling.{emptied};
+ghost use Rattle.bank_transactions.specs.Filling.{AreHeld, HasOwnRow, TellsFloor, TellsStored};
+ghost use Rattle.bank_transactions.specs.Filling.{TellsBooks, emptied, unbooked};
+ghost use Rattle.bank_transactions.specs.Gathering.{Gathers};
+ghost use Rattle.bank_transactions.specs.believed.Stored.{HasNumbers};
 ghost use Rattle.bank_transactions.specs.believed.Stored.{HoldsAccount, HoldsFloor};
 ghost use Rattle.bank_transactions.specs.Memory.{Remembers};
 ghost use Rattle.bank_transactions.specs.Stored.{HoldsTellerRow};
 
+use crate::closed::fill_books;
 use crate::floors::{balance_and_floor, is_below, known_floor};
-use crate::known::{known_balance, known_decided, known_seal};
+use crate::known::{known_balance, known_decided};
 use crate::look_ups::known_branch;
 use crate::{Memory, kept_request, teller_balances};
 use message_records::{Account, Cents, Teller};
@@ -272,14 +275,13 @@ impl Slot for AccountSlot {
 }
 
 impl Slot for RequestSlot {
-    ghost use Rattle.posting_batch.specs.Batch.{request_filled};
-    ghost use Rattle.bank_transactions.specs.Filling.{RequestHeld, emptied_request};
+    ghost use Rattle.bank_transactions.specs.Filling.{RequestHeld, kept_filled, unkept};
 
-    ghost filled_from = { request_filled };
+    ghost filled_from = { kept_filled };
 
     ghost Knows = { λ _ _ _. ⊤ };
 
-    ghost bare = { emptied_request };
+    ghost bare = { unkept };
 
     ghost KnowsRow = { λ _ _ _ _. ⊤ };
 
@@ -361,7 +363,7 @@ fn fill_rows<S: Alter>(
 }
 
 /// Fills an overlay but for what is kept of requests: each other slot with what is in the tables under its key, how many
-/// requests are decided, and whether the books are sealed.
+/// requests are decided, and what closed books say.
 pub(crate) fn fill_known<S: Alter>(
     tx: &mut Transaction<'_, S>,
     memory: &mut Memory,
@@ -370,7 +372,8 @@ pub(crate) fn fill_known<S: Alter>(
     requires { ∥ Remembers S.Store tx.old.conn.now memory.old ∥₁ }
     ensures new_rows { (overlay.new.history ≡ overlay.old.history)
         × (overlay.new.requests ≡ overlay.old.requests)
-        × (overlay.new.references ≡ overlay.old.references) × (overlay.new.kept ≡ overlay.old.kept) }
+        × (overlay.new.references ≡ overlay.old.references)
+        × (map unbooked overlay.new.kept.items ≡ map unbooked overlay.old.kept.items) }
     ensures says { ReadsBy (IsFirstDamaged S.Store) S.Store tx.old tx.new
         (λ tables. IsUndamaged tables × HasHomes (view overlay.old))
         (λ tables. known tables (view overlay.old)) (handing (view overlay.new) result) }
@@ -378,18 +381,20 @@ pub(crate) fn fill_known<S: Alter>(
     // Whatever rows the file holds.
     ensures stored { OnOk result (HasCleanDisk (state S.Store tx.new.conn.now)
         → HasHomes (view overlay.old)
-        → OfRows (λ rows. AreKnown rows (view overlay.new)) (state S.Store tx.old.conn.now).now) }
+        → OfRows (λ rows. RowsAreKnown rows (view overlay.new)) (state S.Store tx.old.conn.now).now) }
     ensures own { OnOk result (HasCleanDisk (state S.Store tx.new.conn.now)
         → AllByRecursion HasOwnRow (view overlay.new).branches) }
+    // What closed books say is by the numbers that the rows close.
+    ensures closed { OnOk result (Gathers S.Store tx.old tx.new HasNumbers
+        (λ runs. AllByRecursion (TellsBooks runs) overlay.new.kept.items)) }
     ensures remembers { OnOk result (∥ Remembers S.Store tx.new.conn.now memory.new ∥₁) }
 {
     fill_rows(tx, memory, overlay)?;
-    overlay.sealed = known_seal(tx, memory)?;
-    Ok(())
+    fill_books(tx, memory, &mut overlay.kept)
 }
 
-/// Fills an overlay: each slot with what is in the tables under its key, how many requests are decided, and whether the
-/// books are sealed.
+/// Fills an overlay: each slot with what is in the tables under its key, how many requests are decided, and what closed
+/// books say.
 pub fn fill<S: Alter>(
     tx: &mut Transaction<'_, S>,
     memory: &mut Memory,
@@ -409,6 +414,9 @@ pub fn fill<S: Alter>(
         → OfRows (λ rows. AreHeld rows (view overlay.new)) (state S.Store tx.old.conn.now).now) }
     ensures own { OnOk result (HasCleanDisk (state S.Store tx.new.conn.now)
         → AllByRecursion HasOwnRow (view overlay.new).branches) }
+    // What closed books say is by the numbers that the rows close.
+    ensures closed { OnOk result (Gathers S.Store tx.old tx.new HasNumbers
+        (λ runs. AllByRecursion (TellsBooks runs) (view overlay.new).kept)) }
     ensures remembers { OnOk result (∥ Remembers S.Store tx.new.conn.now memory.new ∥₁) }
 {
     fill_known(tx, memory, overlay)?;

@@ -7,11 +7,11 @@ use Rattle.sqlite_rules.specs.Lists.{Has}
 use Rattle.message_records.specs.believed.Reading.{request_of}
 use Rattle.message_records.specs.believed.Records.{RequestFields}
 use Rattle.posting_rules.specs.believed.Changes.{new_account, new_teller}
-use Rattle.posting_rules.specs.believed.Closings.{seal}
 use Rattle.posting_rules.specs.believed.Commands.{Terms}
 use Rattle.posting_rules.specs.believed.Numbering.{branch_of_account, branch_of_teller, first_account, first_teller}
 use Rattle.posting_rules.specs.believed.Tables.{branch_row_of}
 use Rattle.posting_rules.specs.declared.limits.TheConstants.{TELLERS_PER_BRANCH}
+use Rattle.posting_rules.specs.declared.rows.ClosingRow.{ClosingRow}
 use Rattle.posting_rules.specs.declared.rows.HistoryRow.{HistoryRow}
 use Rattle.posting_rules.specs.declared.rows.ReferenceRow.{ReferenceRow}
 use Rattle.posting_rules.specs.declared.rows.RequestRow.{RequestRow}
@@ -119,8 +119,8 @@ AddsBranch branch terms text values =
     ⊎ (AddsRange Accounts (first_account branch) terms.accounts text values
     ⊎ AddsFloor branch terms.floor text values))
 
--- ---- the seal
+-- ---- closed numbers
 
--- its row
-abbrev pub AddsSeal : Additions
-AddsSeal text values = (text ≡ closing_insert) × (values ≡ given (closing_entry seal))
+-- the row of the numbers that are closed, or of the seal
+abbrev pub AddsClosing : ClosingRow → Additions
+AddsClosing row text values = (text ≡ closing_insert) × (values ≡ given (closing_entry row))

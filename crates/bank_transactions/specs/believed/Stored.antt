@@ -1,8 +1,7 @@
 -- What a look-up, a posting, a batch and an opening answer of whatever rows a file holds, be they a bank's or
 -- not.
-use Rattle.std.specs.Prelude.{◌≡◌, ◌≢◌, ℕ, ℤ, pos, find, length, List, [], ◌∷◌, Option, Some, None, IsSome, Result, Ok, Err, ⊤}
-use Rattle.std.specs.Prelude.{if◌then◌else◌, is_some}
-use Rattle.std.specs.List.{AllByRecursion}
+use Rattle.std.specs.Prelude.{◌≡◌, ◌≢◌, ℕ, ℤ, pos, Bool, true, false, filter, find, length, map, List, Option, Some, None, IsSome, Result, Ok, Err, ⊤}
+use Rattle.std.specs.List.{AllByRecursion, list_all, list_any}
 use Rattle.sqlite.specs.Effect.{Database}
 use Rattle.message_records.specs.believed.Reading.{request_of}
 use Rattle.message_records.specs.believed.Records.{RequestFields}
@@ -24,14 +23,16 @@ use Rattle.posting_rules.specs.declared.counter.Opening.TheVariants.{Opened}
 use Rattle.posting_rules.specs.declared.rows.RequestRow.{RequestRow}
 use Rattle.sql_meanings.specs.believed.Entries.{Entry, has_two}
 use Rattle.store_rows.specs.believed.Columns.{meta_in}
-use Rattle.store_rows.specs.believed.Readings.{read_balance, read_branch, read_floor, read_reference, read_request}
+use Rattle.store_rows.specs.believed.Readings.{read_balance, read_branch, read_closing, read_floor, read_reference}
+use Rattle.store_rows.specs.believed.Readings.{read_request}
 use Rattle.store_rows.specs.believed.Rules.{AccountFits, IsAbove, OfRows, StoredRows, TellerFits, branch_under}
 use Rattle.store_rows.specs.believed.Rules.{floor_under, row_under}
 use Rattle.store_rows.specs.believed.Stored.{FindsStored}
 use Rattle.store_rows.specs.believed.View.{Shows}
 use Rattle.posting_batch.specs.believed.Batch.{HasFreeOrdinals}
 use Rattle.bank_transactions.specs.believed.Batches.{DecidesNone}
-use Rattle.posting_rules.specs.believed.Closings.{books_of, seal}
+use Rattle.posting_rules.specs.believed.Closings.{books_of, is_closed_in, meets}
+use Rattle.sql_meanings.specs.Seeks.{is_from}
 use Rattle.posting_rules.specs.declared.rows.ClosingRow.{ClosingRow}
 
 -- the balance that the account's row has, none where it has no row; and it has one just where its branch's
@@ -85,9 +86,26 @@ abbrev pub HoldsDecided : StoredRows → ℕ → Type 0
 HoldsDecided rows decided =
     (version : ℤ) × (meta_in rows.meta ≡ Some (record { version = version; decided = pos decided }))
 
--- so far the rows say of closed books only whether these are sealed: by the row under the key 0
-abbrev pub runs_in : StoredRows → List ClosingRow
-runs_in rows = if is_some (row_under rows.closings 0) then seal ∷ [] else []
+-- a row of closed numbers can be read, and this number is among them
+abbrev pub is_read : Result ClosingRow Rule → Bool
+is_read (Ok r) = true
+is_read (Err rule) = false
+
+abbrev pub is_among : ℕ → Result ClosingRow Rule → Bool
+is_among x (Ok r) = meets x x r
+is_among x (Err rule) = false
+
+-- the rows from the key 0 of the seal on
+abbrev pub closing_rows : List Entry → List (Result ClosingRow Rule)
+closing_rows rows = map read_closing (filter (is_from (pos 0)) rows)
+
+-- each of them can be read, and these runs have the numbers that they close
+pub record HasNumbers (rows : List Entry) (runs : List ClosingRow) : Type 0 where
+  pub read : list_all is_read (closing_rows rows) ≡ true
+  pub numbers : (x : ℕ) → is_closed_in runs x ≡ list_any (is_among x) (closing_rows rows)
+
+abbrev pub HoldsNumbers : StoredRows → List ClosingRow → Type 0
+HoldsNumbers rows runs = HasNumbers rows.closings runs
 
 -- what is found for a request is what the rows of its teller, its account, the account's branch, its teller
 -- and number with the ordinal there, and the bank hold; and its account isn't below the floor there
@@ -98,7 +116,10 @@ pub record IsStoredFound (db : Database) (r : RequestFields) (found : Found) : T
   pub floor : IsStoredFloor db (branch_of_account r.account) found.floor
   pub kept : OfRows (λ rows. HoldsKept rows r.teller r.number found.kept) db
   pub decided : OfRows (λ rows. HoldsDecided rows found.decided) db
-  pub books : OfRows (λ rows. found.books ≡ books_of (runs_in rows) r.teller r.number) db
+  -- and what closed books say of its number is by the numbers that the rows close
+  pub runs : List ClosingRow
+  pub closed : OfRows (λ rows. HoldsNumbers rows runs) db
+  pub books : found.books ≡ books_of runs r.teller r.number
 
 -- the reply is that of the case which applies to what the rows hold; where the request is kept, all is as it was
 pub record RepliesToStored (old new : Database) (r : RequestFields) (reply : List ℕ) : Type 0 where
@@ -157,13 +178,13 @@ HasRead rows t (Err fault) = ⊤
 HasRead rows t (Ok r) = HasStored rows t r
 
 -- The replies are those to the records one after another, each on what the ones before it left, in tables that
--- had what the rows hold: under the keys of each request, of how many are decided, and of the seal. The ordinals that follow were
+-- had what the rows hold: under the keys of each request, of how many are decided, and of closed numbers. The ordinals that follow were
 -- free there. Where none of the records is decided there, all is as it was.
 pub record RepliesToAllStored (old new : Database) (moment : ℕ) (records replies : List (List ℕ)) : Type 0 where
   pub tables : Tables
   pub stored : OfRows (λ rows. AllByRecursion (λ bytes. HasRead rows tables (request_of bytes)) records
       × HoldsDecided rows tables.decided) old
   pub free : HasFreeOrdinals tables (length records)
-  pub sealed : OfRows (λ rows. tables.closings ≡ runs_in rows) old
+  pub closed : OfRows (λ rows. HoldsNumbers rows tables.closings) old
   pub are : replies ≡ replies_past_all tables moment records
   pub stays : DecidesNone tables moment records → new ≡ old

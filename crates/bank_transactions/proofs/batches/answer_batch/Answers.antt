@@ -10,7 +10,7 @@ use Rattle.bank_transactions.proofs.{LookUps.acts_stray, LookUps.does_look, Look
 use Rattle.bank_transactions.proofs.JudgedSlots.{answered_idle, answered_not, answered_written, counts_none}
 use Rattle.bank_transactions.proofs.JudgedSlots.{fills, judging_all}
 use Rattle.bank_transactions.proofs.batches.answer_batch.Goals.{then-judged-before+in_ok-write, else-judged-before}
-use Rattle.bank_transactions.proofs.Exits.{clean_at, handed_on}
+use Rattle.bank_transactions.proofs.{Exits.clean_at, Exits.handed_on, ToldBooks.closes}
 use Rattle.bank_transactions.proofs.batches.answer_batch.Goals as goal
 
 pub fill-requires : goal.fill-requires
@@ -41,7 +41,8 @@ returns-in_err-write g c =
           c.args.moment (view c.judge-judged.result.overlay) c.judge-judged.result.replies.items made refl
           j.judged j.rising j.idle in
           answered_not so (does_look (fills (length records) (view c.fill.new.overlay) (view c.args.batch.overlay)
-          (reads_ok fill.says) fill.same (λ clean. fill.stored clean (homes_made c.args.batch records made)))) (does_adds (λ clean.
+          (reads_ok fill.says) fill.same (λ clean. fill.stored clean (homes_made c.args.batch records made))
+          (closes g.S.Store c.args.tx.now c.fill.new.tx (view c.fill.new.overlay).kept fill.closed))) (does_adds (λ clean.
           let before = clean_at failed.says.survives clean in
           adds_records c.args.batch records (view c.fill.new.overlay) (view c.judge-judged.result.overlay) _ made
           fill.same
@@ -68,7 +69,7 @@ returns-clause-wrote g c clean live records made =
     let stays = (fill.says.says.leaves before).0 in
     let held = fill.stored before (homes_made c.args.batch records made) in
     rw c.into_replies.ensures (answers_all _ _ c.args.batch _ records c.args.moment o c.judge-judged.result.replies.items
-    made refl fill.same (fill.own before) held j.judged
+    made refl fill.same (fill.own before) held (closes g.S.Store c.args.tx.now c.fill.new.tx (view c.fill.new.overlay).kept fill.closed before) j.judged
     (λ none. elim c.if-judged-before.branch [
       | then-judged-before+in_ok-write w ↦ absurd (w.if-judged-before.true none)
       | else-judged-before w ↦ rw w.tx-is stays.now
@@ -89,7 +90,7 @@ returns-clause-says g c records made =
     j.judged j.rising j.idle in
     let fill = c.in_ok-fill.ensures in
     let reads = fills (length records) (view c.fill.new.overlay) (view c.args.batch.overlay) (reads_ok fill.says) fill.same (λ clean.
-    fill.stored clean (homes_made c.args.batch records made)) in
+    fill.stored clean (homes_made c.args.batch records made)) (closes g.S.Store c.args.tx.now c.fill.new.tx (view c.fill.new.overlay).kept fill.closed) in
     rw c.into_replies.ensures (elim c.if-judged-before.branch [
       | then-judged-before+in_ok-write w ↦
           rw w.tx-is (answered_written so (does_look reads) (does_adds (λ clean.
@@ -111,7 +112,7 @@ returns-clause-idle g c clean records made t shows so none =
     c.args.moment (view c.judge-judged.result.overlay) c.judge-judged.result.replies.items made refl
     j.judged j.rising j.idle in
     let reads = fills (length records) (view c.fill.new.overlay) (view c.args.batch.overlay) (reads_ok fill.says) fill.same (λ clean.
-    fill.stored clean (homes_made c.args.batch records made)) in
+    fill.stored clean (homes_made c.args.batch records made)) (closes g.S.Store c.args.tx.now c.fill.new.tx (view c.fill.new.overlay).kept fill.closed) in
     let first = does_look {Adds = λ text values. ⊥} reads in
     elim c.if-judged-before.branch [
       | then-judged-before+in_ok-write w ↦
@@ -137,7 +138,9 @@ returns-clause-stored g c clean records made =
     ] in
     rw c.into_replies.ensures (in_turn _ _ c.args.batch _ records c.args.moment
     (view c.judge-judged.result.overlay) c.judge-judged.result.replies.items made refl fill.same
-    (fill.own before) (fill.stored before (homes_made c.args.batch records made)) c.judge-judged.ensures.judged
+    (fill.own before) (fill.stored before (homes_made c.args.batch records made))
+    (closes g.S.Store c.args.tx.now c.fill.new.tx (view c.fill.new.overlay).kept fill.closed before)
+    c.judge-judged.ensures.judged
     (λ none. elim c.if-judged-before.branch [
       | then-judged-before+in_ok-write w ↦ absurd (w.if-judged-before.true none)
       | else-judged-before w ↦ rw w.tx-is ((fill.says.says.leaves before).0.now)

@@ -1,9 +1,8 @@
 -- A batch that is answered as if none of its requests were kept.
 use Rattle.std.proofs.Common.{◌∙◌, ap, length, sym, refl, rules, inr}
 use Rattle.sqlite.specs.Held.{state}
-use Rattle.smallvec.specs.SmallVec.{SmallVec}
 use Rattle.posting_rules.specs.believed.Tables.{Tables}
-use Rattle.posting_batch.specs.{Overlay.Overlay, View.view, declared.slots.RequestSlot.RequestSlot}
+use Rattle.posting_batch.specs.{Overlay.Overlay, View.view}
 use Rattle.bank_transactions.proofs.{Added.adds_records, JudgedSlots.judging_all, ShownSlots.shown_filled}
 use Rattle.bank_transactions.proofs.{Chained.does_adds, HeldBatch.homes_made}
 use Rattle.bank_transactions.proofs.{Remembered.followed_next, Remembered.keeps_followed}
@@ -13,7 +12,7 @@ use Rattle.bank_transactions.proofs.{HeldBatch.answers_all, LookUps.acts_stray, 
 use Rattle.bank_transactions.proofs.{NewBatch.answered_new, NewBatch.decided_all, NewBatch.is_again, NewBatch.refused_new}
 use Rattle.bank_transactions.proofs.{NewBatch.blind, NewBatch.quiet, NewBatch.unanswered_new, Together.all_written}
 use Rattle.bank_transactions.proofs.Together.{requests_first}
-use Rattle.bank_transactions.proofs.Exits.{clean_at, handed_on}
+use Rattle.bank_transactions.proofs.{Exits.clean_at, Exits.handed_on, ToldBooks.closes}
 use Rattle.bank_transactions.proofs.first_try.answer_unkept.Goals as goal
 
 pub fill_known-requires : goal.fill_known-requires
@@ -77,7 +76,7 @@ returns-in-Err-2 g c =
           refused_new c.in-Err.fault (search rules) (does_look (reads_ok fk.says)) (does_adds (λ clean.
           let first = clean_at puts.says.survives clean in
           adds_records c.args.batch records (view c.fill_known.new.overlay) (view c.judge-judged.result.overlay) _ made
-          fk.same (λ rows has. (fk.stored first (homes_made c.args.batch records made) rows has).slots.decided)
+          fk.same (λ rows has. (fk.stored first (homes_made c.args.batch records made) rows has).decided)
           c.judge-judged.ensures.next c.judge-judged.ensures.again.keys) puts);
       count = tt;
       busy = tt;
@@ -109,15 +108,16 @@ returns-in_err-write_after-in-Ok g c =
           shows
           room fk.same
           (all_held c.args.batch p' o c.deref.result.now records made (reads_ok fk.says)
-          (ap (λ (v : SmallVec RequestSlot). v.items) fk.new_rows.3) j.again.keys j.again.own
+          fk.new_rows.3 j.again.keys j.again.own
           (decided_all _ _ _ _ c.all_decided.ensures c.if-not-all_decided.false).1 c.deref.ensures c.in-Ok.ensures.puts
           c.in-Ok.ensures.unknown before live
-          (fk.stored first (homes_made c.args.batch records made))))
+          (fk.stored first (homes_made c.args.batch records made)))
+          (closes g.S.Store c.args.tx.now c.fill_known.new.tx p'.kept fk.closed first))
           (does_adds (λ clean.
           let before = clean_at end.says.survives clean in
           let first = clean_at c.in-Ok.ensures.puts.says.survives before in
           adds_records c.args.batch records p' o _ made fk.same
-          (λ rows has. (fk.stored first (homes_made c.args.batch records made) rows has).slots.decided) j.next j.again.keys)
+          (λ rows has. (fk.stored first (homes_made c.args.batch records made) rows has).decided) j.next j.again.keys)
           (all_written o (requests_first o c.deref.ensures c.in-Ok.ensures.puts) end));
       count = tt;
       busy = tt;
@@ -145,15 +145,16 @@ returns-in_ok-write_after-in-Ok-clause-says g c records made =
     shown_filled (state g.S.Store c.args.tx.now.conn.now).now t (length records) p' (view c.args.batch.overlay) shows
     room fk.same
     (all_held c.args.batch p' o c.deref.result.now records made (reads_ok fk.says)
-    (ap (λ (v : SmallVec RequestSlot). v.items) fk.new_rows.3) j.again.keys j.again.own
+    fk.new_rows.3 j.again.keys j.again.own
     (decided_all _ _ _ _ c.all_decided.ensures c.if-not-all_decided.false).1 c.deref.ensures c.in-Ok.ensures.puts
     c.in-Ok.ensures.unknown before live
-    (fk.stored first (homes_made c.args.batch records made))))
+    (fk.stored first (homes_made c.args.batch records made)))
+    (closes g.S.Store c.args.tx.now c.fill_known.new.tx p'.kept fk.closed first))
     (does_adds (λ clean.
     let before = clean_at end.says.survives clean in
     let first = clean_at c.in-Ok.ensures.puts.says.survives before in
     adds_records c.args.batch records p' o _ made fk.same
-    (λ rows has. (fk.stored first (homes_made c.args.batch records made) rows has).slots.decided) j.next j.again.keys)
+    (λ rows has. (fk.stored first (homes_made c.args.batch records made) rows has).decided) j.next j.again.keys)
     (all_written o (requests_first o c.deref.ensures c.in-Ok.ensures.puts) end)))
 
 pub returns-in_ok-write_after-in-Ok-clause-busy : goal.returns-in_ok-write_after-in-Ok-clause-busy
@@ -169,10 +170,11 @@ returns-in_ok-write_after-in-Ok-clause-busy g c clean live records made t shows 
     let e = shown_filled (state g.S.Store c.args.tx.now.conn.now).now t (length records) p' (view c.args.batch.overlay)
     shows it fk.same
     (all_held c.args.batch p' o c.deref.result.now records made (reads_ok fk.says)
-    (ap (λ (v : SmallVec RequestSlot). v.items) fk.new_rows.3) j.again.keys j.again.own
+    fk.new_rows.3 j.again.keys j.again.own
     (decided_all _ _ _ _ c.all_decided.ensures c.if-not-all_decided.false).1 c.deref.ensures c.in-Ok.ensures.puts
     c.in-Ok.ensures.unknown before live
-    (fk.stored first (homes_made c.args.batch records made))) in
+    (fk.stored first (homes_made c.args.batch records made)))
+    (closes g.S.Store c.args.tx.now c.fill_known.new.tx p'.kept fk.closed first) in
     absurd ((decided_all _ _ _ _ c.all_decided.ensures c.if-not-all_decided.false).0 (ap (λ (u : Tables). u.decided)
     (so.tables t it e) ∙ none
     ∙ sym (ap (λ (q : Overlay). q.decided) e)))
@@ -187,7 +189,7 @@ returns-in_ok-write_after-in-Ok-clause-stored g c clean live records made =
     let first = clean_at c.in-Ok.ensures.puts.says.survives before in
     let all = decided_all _ _ _ _ c.all_decided.ensures c.if-not-all_decided.false in
     let held = all_held c.args.batch p' o c.deref.result.now records made (reads_ok fk.says)
-    (ap (λ (v : SmallVec RequestSlot). v.items) fk.new_rows.3) j.again.keys j.again.own
+    fk.new_rows.3 j.again.keys j.again.own
     all.1 c.deref.ensures c.in-Ok.ensures.puts c.in-Ok.ensures.unknown before live
     (fk.stored first (homes_made c.args.batch records made)) in
     let stays = (fk.says.says.leaves first).0 in
@@ -197,10 +199,10 @@ returns-in_ok-write_after-in-Ok-clause-stored g c clean live records made =
     let ran = all_ran o (requests_ran o c.deref.ensures (record { does = puts.puts; ran = puts.ran }))
     (record { does = end.does; ran = end.ran }) in
     rw c.into_replies.ensures (answers_all _ _ c.args.batch _ records c.args.moment o c.judge-judged.result.replies.items
-    made refl fk.same (fk.own first) held j.judged
+    made refl fk.same (fk.own first) held (closes g.S.Store c.args.tx.now c.fill_known.new.tx p'.kept fk.closed first) j.judged
     (λ same. absurd (all.0 same)) j.rising
     (inr (ran_since stays.now (adds_records c.args.batch records p' o _ made fk.same
-    (λ rows has. (fk.stored first (homes_made c.args.batch records made) rows has).slots.decided) j.next j.again.keys)
+    (λ rows has. (fk.stored first (homes_made c.args.batch records made) rows has).decided) j.next j.again.keys)
     (ran.ran clean on))))
 
 pub returns-in_ok-write_after-in-Ok-clause-quiet : goal.returns-in_ok-write_after-in-Ok-clause-quiet

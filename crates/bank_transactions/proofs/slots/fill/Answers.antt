@@ -3,11 +3,11 @@ use Rattle.std.proofs.Common.{List, map, sym, ap, subst, ◌∙◌}
 use Rattle.std.specs.List.{AllByRecursion}
 use Rattle.std.proofs.lemmas.Result.{on_ok_weaker}
 use Rattle.sqlite.specs.Effect.{Database}
-use Rattle.smallvec.specs.SmallVec.{SmallVec, with_items}
+use Rattle.smallvec.specs.SmallVec.{with_items}
 use Rattle.posting_batch.specs.{declared.slots.RequestSlot.RequestSlot, View.view}
 use Rattle.store_rows.specs.believed.Rules.{HoldsBank}
-use Rattle.bank_transactions.specs.Filling.{RequestHeld, emptied_request}
-use Rattle.bank_transactions.proofs.HeldSlots.{put_back}
+use Rattle.bank_transactions.specs.Filling.{RequestHeld, unkept}
+use Rattle.bank_transactions.proofs.{HeldSlots.put_back, ToldBooks.emptied_unkept, ToldBooks.gathers_then}
 use Rattle.bank_transactions.proofs.LookUps.{reads_ok, reads_so, reads_wider}
 use Rattle.bank_transactions.proofs.FilledBatch.{emptied_kept, handed_last, kept_after, nothing_asked, with_kept}
 use Rattle.bank_transactions.proofs.Exits.{clean_at, handed_on}
@@ -23,6 +23,7 @@ returns-in_err-fill_known g c =
       same = tt;
       stored = tt;
       own = tt;
+      closed = tt;
       remembers = tt;
     })
 
@@ -34,12 +35,11 @@ pub returns-clause-says : goal.returns-clause-says
 returns-clause-says g c =
     let p = view c.fill_known.new.overlay in
     let kv = c.fill_known.new.overlay.kept in
-    let kept = ap (λ (v : SmallVec RequestSlot). v.items) c.in_ok-fill_known.ensures.new_rows.3 in
     let held = ap (λ (slots : List RequestSlot). with_kept slots p)
     (put_back kv _ c.fill_all.new.slots c.deref_mut.ensures.value c.fill_all.auto.slots) in
     let known = reads_ok c.in_ok-fill_known.ensures.says in
     reads_wider (handed_last c.fill_all.result known c.fill_all.ensures.says (λ last.
-    reads_so (kept_after known (c.deref_mut.ensures.value ∙ kept) last)
+    reads_so (kept_after known c.deref_mut.ensures.value last)
     (λ t so. (so, λ e. held ∙ e))))
 
 -- ---- of whatever rows a file holds
@@ -49,9 +49,20 @@ returns-clause-same g c =
     let p = view c.fill_known.new.overlay in
     let kv = c.fill_known.new.overlay.kept in
     on_ok_weaker c.fill_all.result (λ same. emptied_kept p (with_items kv c.fill_all.new.slots).items
-    (ap (map emptied_request) (put_back kv _ c.fill_all.new.slots c.deref_mut.ensures.value c.fill_all.auto.slots)
-    ∙ same ∙ ap (map emptied_request) c.deref_mut.ensures.value)
+    (emptied_unkept (with_items kv c.fill_all.new.slots).items p.kept
+    (ap (map unkept) (put_back kv _ c.fill_all.new.slots c.deref_mut.ensures.value c.fill_all.auto.slots)
+    ∙ same ∙ ap (map unkept) c.deref_mut.ensures.value))
     ∙ c.in_ok-fill_known.ensures.same) c.fill_all.ensures.same
+
+pub returns-clause-closed : goal.returns-clause-closed
+returns-clause-closed g c =
+    let kv = c.fill_known.new.overlay.kept in
+    on_ok_weaker c.fill_all.result (λ same.
+    gathers_then g.S.Store c.args.tx.now c.fill_known.new.tx kv.items c.in_ok-fill_known.ensures.closed c.fill_all.new.tx
+    (with_items kv c.fill_all.new.slots).items
+    (ap (map unkept) (put_back kv _ c.fill_all.new.slots c.deref_mut.ensures.value c.fill_all.auto.slots)
+    ∙ same ∙ ap (map unkept) c.deref_mut.ensures.value) (clean_at c.fill_all.ensures.says.says.survives))
+    c.fill_all.ensures.same
 
 pub returns-clause-stored : goal.returns-clause-stored
 returns-clause-stored g c = on_ok_weaker c.fill_all.result (λ stored clean homes rows has.
@@ -61,15 +72,14 @@ returns-clause-stored g c = on_ok_weaker c.fill_all.result (λ stored clean home
     let first = one.stored before homes rows has in
     let has1 = subst (λ (db : Database). HoldsBank db rows) (sym (one.says.says.leaves before).0.now) has in
     record {
-      branches = first.slots.branches;
-      floors = first.slots.floors;
-      tellers = first.slots.tellers;
-      accounts = first.slots.accounts;
+      branches = first.branches;
+      floors = first.floors;
+      tellers = first.tellers;
+      accounts = first.accounts;
       kept = subst (λ (slots : List RequestSlot). AllByRecursion (RequestHeld rows) slots)
           (sym (put_back kv _ c.fill_all.new.slots c.deref_mut.ensures.value c.fill_all.auto.slots))
           (stored clean rows has1 (nothing_asked _));
-      decided = first.slots.decided;
-      runs = first.runs;
+      decided = first.decided;
     }) c.fill_all.ensures.stored
 
 pub returns-clause-own : goal.returns-clause-own
