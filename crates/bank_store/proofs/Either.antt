@@ -6,13 +6,13 @@ use Rattle.sqlite_trees.specs.declared.store.Store.{Ghosts}
 use Rattle.sqlite.proofs.StateLemmas.{survives_then}
 use Rattle.posting_rules.specs.{believed.Changes.opened_where, believed.Changes.tables_with_branch, declared.fault.Fault.Fault}
 use Rattle.posting_rules.specs.declared.fault.Fault.TheVariants.{Memory, Down}
-use Rattle.posting_rules.specs.declared.rows.BranchRow.{BranchRow}
+use Rattle.posting_rules.specs.declared.rows.{BranchRow.BranchRow, ClosingRow.ClosingRow}
 use Rattle.posting_rules.specs.believed.{Changes.tables_opened, Commands.Terms}
 use Rattle.posting_rules.specs.believed.Tables.{Tables, branch_key, row_at}
 use Rattle.store_rows.specs.{believed.Failures.Additions, declared.fault.TableFault.TableFault}
 use Rattle.bank_transactions.specs.{believed.Causes.Damage, Doing.MayLeaveAfter, Doing.TransactsBy}
 use Rattle.bank_store.specs.{believed.NoneOrAll.LeavesEither, declared.bank.Bank.Bank}
-use Rattle.bank_store.specs.believed.NoneOrAll.{RefusesOpening, RefusesRecords, RefusesSeal}
+use Rattle.bank_store.specs.believed.NoneOrAll.{RefusesOpening, RefusesRecords, RefusesClosing}
 use Rattle.bank_store.specs.believed.Seen.{bank_seen, connection_of}
 
 -- nothing was tried
@@ -69,5 +69,5 @@ module _ {S : Type 0} (g : Ghosts S) (bank : Bank S g) where
       → RefusesOpening g b terms bank bank fault
   untried_opening b terms fault is = rw is (record { damage = tt; left = λ t shows so. either_same g bank t _ })
 
-  pub untried_seal : (fault : Fault) → fault ≡ Down → RefusesSeal g bank bank fault
-  untried_seal fault is = rw is (record { damage = tt; left = λ t shows so. either_same g bank t _ })
+  pub untried_closing : (row : ClosingRow) (fault : Fault) → fault ≡ Down → RefusesClosing g row bank bank fault
+  untried_closing row fault is = rw is (record { damage = tt; left = λ t shows so. either_same g bank t _ })

@@ -1,5 +1,6 @@
 -- What the proofs of the calls share.
 pub mod AsFound
+pub mod ApartRows
 pub mod Broke
 pub mod Either
 pub mod ByTables

@@ -66,7 +66,7 @@ module _ (from : ℕ) (earlier : IsEarlier from) (old mid new : State) (made : L
         let holds = held old.now (tables_of from) (contents_of from t) was.shows.each 0 meta
         (meta_entry (pos from) t.decided ∷ []) (meta_there from) refl in
         let place = made.places meta refl holds.defined in (
-          record { sound = done.0.sound; each = done.0.each; early = λ low. absurd (omega (arith, low)); alone = done.0.alone },
+          record { sound = done.0.sound; each = done.0.each; early = λ low. absurd (omega (arith, low)) },
           λ u stands apart.
               let then = done.2 u (made.keeps.stands u stands) (λ same. apart (same ∙ place)) in
               (then.0, then.1 ∙ made.keeps.rows u stands.listed),

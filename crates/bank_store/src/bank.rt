@@ -19,16 +19,17 @@ ghost use Rattle.posting_rules.specs.believed.Tables.{Tables};
 use crate::laws::{floor_law, range_law};
 use arrayvec::ArrayVec;
 use bank_transactions::{
-    Memory, note_settled, open_branch, post_all, post_looked_up, read_balance, read_next_branch,
-    seal,
+    Memory, close_numbers, note_settled, open_branch, post_all, post_looked_up, read_balance,
+    read_next_branch,
 };
 use message_records::{
-    Account, Branch, Cents, Moment, REPLY_BYTES, REQUEST_BYTES, decode_request, encode_reply,
+    Account, Branch, Cents, Moment, Number, REPLY_BYTES, REQUEST_BYTES, Teller, decode_request,
+    encode_reply,
 };
 use posting_batch::{Batch, Replies};
 use posting_rules::{
-    BranchLine, Closing, Counter, Fault, LAST_BRANCH, MAX_ACCOUNTS, Opening, RECORDS_PER_BATCH,
-    malformed_reply,
+    BranchLine, Closing, ClosingRow, Counter, Fault, LAST_BRANCH, MAX_ACCOUNTS, Opening,
+    RECORDS_PER_BATCH, malformed_reply,
 };
 use sqlite::{Alter, Connection, Error};
 use std::alloc::Global;
@@ -171,12 +172,14 @@ impl<S: Alter> Bank<S> {
     ghost use Rattle.walked_rows.specs.Rising.{RisesFrom};
     ghost use Rattle.walked_rows.specs.Rows.{items_after, items_from};
     ghost use Rattle.bank_store.specs.believed.BankSparing.{SparesOtherTables};
-    ghost use Rattle.posting_rules.specs.believed.Closings.{sealed};
+    ghost use Rattle.posting_rules.specs.Closings.{closing_after};
+    ghost use Rattle.posting_rules.specs.believed.Closings.{run_of, seal, sealed};
+    ghost use Rattle.posting_rules.specs.believed.Commands.{number_key};
+    ghost use Rattle.posting_rules.specs.believed.Damage.{IsSoundClosing};
     ghost use Rattle.posting_rules.specs.declared.closed_numbers.Closing.TheVariants.{Already, Closed};
-    ghost use Rattle.bank_transactions.specs.believed.Answered.{KeepsSeal, SealsAll};
     ghost use Rattle.bank_store.specs.believed.Down.{AnswersBy, IsBankCall};
-    ghost use Rattle.bank_store.specs.believed.NoneOrAll.{OnAnyRows, RefusesSeal};
-    ghost use Rattle.bank_store.specs.believed.Seen.{connection_of, database_of};
+    ghost use Rattle.bank_store.specs.believed.NoneOrAll.{ClosesOnAnyRows, RefusesClosing};
+    ghost use Rattle.bank_store.specs.believed.Seen.{connection_of};
     ghost use Rattle.bank_store.specs.Seen.{alloc_of};
     ghost use Rattle.bank_store.specs.Walks.{IsStill, IsUntouchedIfOpen};
 
@@ -194,6 +197,32 @@ impl<S: Alter> Bank<S> {
         ensures { HasFileTables S.Store (connection_of self.now) }
     {}
 
+    /// Closes the numbers of a teller from the first to the last: closed books decided them, so that a request under one of
+    /// them is refused from now on, unless it is kept here. It closes them all or none. See [`Bank`] for what holds after
+    /// each fault.
+    pub fn close_numbers(
+        &mut self,
+        teller: Teller,
+        first: Number,
+        last: Number,
+    ) -> Result<Closing, Fault>
+        requires { first ≤ last }
+        ensures answer { AnswersBy S.Store self.old self.new result
+            (λ log closing. closing ≡ closing_after log (number_key teller first) (number_key teller last)) }
+        ensures call { IsBankCall S.Store self.old self.new
+            (Close (number_key teller first) (number_key teller last) ∷ []) result }
+        ensures frugal { result ≢ Err fault.Memory }
+        // Whatever rows the file holds: the row is written where none of its numbers is closed, and nothing else; a crash
+        // leaves it or nothing.
+        ensures stored { ClosesOnAnyRows S.Store self.old self.new
+            (run_of (number_key teller first) (number_key teller last)) result }
+        ensures own { IfErr result (RefusesClosing S.Store (run_of (number_key teller first) (number_key teller last))
+            self.old self.new) }
+        ensures spares { SparesOtherTables S.Store self.old self.new }
+    {
+        self.close_run(&ClosingRow::of_numbers(teller, first, last))
+    }
+
     /// Seals the books: from now on they decide nothing more, and what they keep gets its first reply. It answers `Closed`,
     /// or `Already` where they were sealed. See [`Bank`] for what holds after each fault.
     pub fn seal(&mut self) -> Result<Closing, Fault>
@@ -203,17 +232,30 @@ impl<S: Alter> Bank<S> {
         ensures frugal { result ≢ Err fault.Memory }
         // Whatever rows the file holds: the row of the seal is written where there is none, and nothing else; a crash
         // leaves it or nothing.
-        ensures stored { OnAnyRows S.Store self.old self.new (SealsAll (database_of S.Store self.old)
-            (database_of S.Store self.new)) (KeepsSeal (database_of S.Store self.old)) result }
-        ensures own { IfErr result (RefusesSeal S.Store self.old self.new) }
+        ensures stored { ClosesOnAnyRows S.Store self.old self.new seal result }
+        ensures own { IfErr result (RefusesClosing S.Store seal self.old self.new) }
+        ensures spares { SparesOtherTables S.Store self.old self.new }
+    {
+        self.close_run(&ClosingRow::seal())
+    }
+
+    /// Closes the numbers of a run, as [`Bank::close_numbers`] does, or seals the books.
+    pub fn close_run(&mut self, row: &ClosingRow) -> Result<Closing, Fault>
+        requires { IsSoundClosing row.now }
+        ensures answer { AnswersBy S.Store self.old self.new result
+            (λ log closing. closing ≡ closing_after log row.now.first row.now.last) }
+        ensures call { IsBankCall S.Store self.old self.new (Close row.now.first row.now.last ∷ []) result }
+        ensures frugal { result ≢ Err fault.Memory }
+        ensures stored { ClosesOnAnyRows S.Store self.old self.new row.now result }
+        ensures own { IfErr result (RefusesClosing S.Store row.now self.old self.new) }
         ensures spares { SparesOtherTables S.Store self.old self.new }
     {
         if self.is_down() {
             return Err(Fault::Down);
         }
-        // A posting that was answered may have noted that there is no seal.
+        // A posting that was answered may have noted that a number is free, or that there is no seal.
         self.memory.forget();
-        match seal(&mut self.conn) {
+        match close_numbers(&mut self.conn, row) {
             Ok(closing) => Ok(closing),
             Err(fault) => Err(self.go_down(fault)),
         }

@@ -7,11 +7,11 @@ use Rattle.posting_rules.specs.believed.AnyTables.{AnswersByTables, IsReadyToOpe
 use Rattle.posting_rules.specs.believed.Changes.{replies_past_all, tables_closed, tables_opened, tables_past_all}
 use Rattle.posting_rules.specs.believed.Commands.{Command, Terms}
 use Rattle.posting_rules.specs.believed.Counter.{Seen, LeavesOnly, StandsAt}
-use Rattle.posting_rules.specs.believed.Damage.{IsUndamaged}
 use Rattle.posting_rules.specs.believed.Runs.{followed_by}
 use Rattle.posting_rules.specs.believed.Tables.{Tables, AreTablesOf}
-use Rattle.posting_rules.specs.declared.fault.Fault.{Fault}
-use Rattle.bank_transactions.specs.believed.Additions.{AddsSeal}
+use Rattle.posting_rules.specs.declared.{closed_numbers.Closing.Closing, fault.Fault.Fault, rows.ClosingRow.ClosingRow}
+use Rattle.bank_transactions.specs.believed.{Additions.AddsClosing, Closed.AreClosed}
+use Rattle.bank_transactions.specs.believed.Answered.{ClosesAll, KeepsClosing}
 use Rattle.bank_transactions.specs.believed.Batches.{DecidesNone, HasRoomFor}
 use Rattle.sqlite_trees.specs.declared.store.Store.{Ghosts}
 use Rattle.bank_store.specs.believed.Down.{BreaksOpening, BreaksRule, OfDamage, WasBrokenOrMet}
@@ -52,10 +52,16 @@ pub record RefusesOpening {S : Type 0} (g : Ghosts S) (branch : ℕ) (terms : Te
   pub left : (t : Tables) → (bank_seen g old).tables t → IsReadyToOpen branch terms t
       → LeavesEither g old new t (tables_opened t branch terms)
 
--- so of a seal, on undamaged tables
-pub record RefusesSeal {S : Type 0} (g : Ghosts S) (old new : Bank S g) (fault : Fault) : Type 0 where
-  pub damage : OfDamage fault (WasBrokenOrMet g AddsSeal old new)
-  pub left : (t : Tables) → (bank_seen g old).tables t → IsUndamaged t → LeavesEither g old new t (tables_closed t 0 0)
+-- Whatever rows the file holds: the answer to a closing, the row that is put in, and what a crash may leave.
+abbrev pub ClosesOnAnyRows : {S : Type 0} (g : Ghosts S) → Bank S g → Bank S g → ClosingRow → Result Closing Fault → Type 0
+ClosesOnAnyRows g old new row result = OnAnyRows g old new (ClosesAll (database_of g old) (database_of g new) row)
+    (KeepsClosing (database_of g old) row) result
+
+-- so of a closing, on tables whose closed rows share no number
+pub record RefusesClosing {S : Type 0} (g : Ghosts S) (row : ClosingRow) (old new : Bank S g) (fault : Fault) : Type 0 where
+  pub damage : OfDamage fault (WasBrokenOrMet g (AddsClosing row) old new)
+  pub left : (t : Tables) → (bank_seen g old).tables t → AreClosed t.closings
+      → LeavesEither g old new t (tables_closed t row.first row.last)
 
 -- on these tables, of a log or not, an answered call left what the records leave of them, and everything that a crash
 -- may leave has that alone; the replies are those to the records
