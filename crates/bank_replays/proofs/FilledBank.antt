@@ -12,7 +12,6 @@ use Rattle.posting_rules.specs.declared.rows.ClosingRow.{ClosingRow}
 use Rattle.posting_rules.proofs.SoundEntries.{open_within}
 use Rattle.sql_meanings.specs.believed.Entries.{Entry, Rise}
 use Rattle.store_rows.specs.believed.View.{Shows, closing_entry}
-use Rattle.walked_rows.proofs.Shown.{has_closings}
 use Rattle.walked_rows.specs.{KeptRows.HasKept, KeptRows.KeptItem, KeptRows.kept_all, KeptRows.kept_item, Stored.branch_entry, StoredBeside.floor_entry}
 use Rattle.walked_rows.specs.declared.{branches.StoredBranch.StoredBranch, floors.StoredFloor.StoredFloor}
 use Rattle.walked_rows.specs.declared.kept.KeptRequest.{KeptRequest}
@@ -23,11 +22,12 @@ use Rattle.bank_replays.specs.Leading.{Leads}
 use Rattle.bank_replays.specs.Refilling.{FollowsRows, Holds, IsNeverInDoubt, IsPlan, IsUnplanned, OpensRest, Plans}
 use Rattle.bank_replays.specs.Refilling.{IsYet, planned_at, terms_of, with_accounts, with_floor}
 use Rattle.bank_replays.specs.Replayed.{IsFilledOf, IsReplayOf, plan_in, planned_in}
-use Rattle.bank_replays.specs.Sealing.{sealed_by}
+use Rattle.bank_replays.specs.Closed.{closed_by}
 use Rattle.bank_replays.specs.declared.refill.{Planned.Planned, Refill.Refill}
 use Rattle.bank_replays.proofs.Filled.{has_log}
 use Rattle.bank_replays.proofs.{FollowedRows.kept_rows, Openable.opens_or_not, PlanRows.plan_is, PlanRows.yet_all}
-use Rattle.bank_replays.proofs.Sealing.{seal_closes, seal_decides, seal_opens}
+use Rattle.bank_replays.proofs.Closed.{all_closes, closed_decides, closed_opens}
+use Rattle.bank_store.proofs.ApartRows.{closed_of_log}
 use Rattle.bank_replays.proofs.TakenRows.{leads_follows}
 
 -- what can be opened is all that is planned
@@ -99,13 +99,13 @@ replay_same db t log commands in_file shows now it =
     let follows = leads_follows plan (decided log) _ it.is.posted
     (record { first = log; decides = refl; within = λ b terms is. same b ∙ is })
     (kept_rows db t log in_file shows commands) it.is.leads in
-    let sealed = λ (runs : List ClosingRow). sealed_by (map closing_entry runs) it.filled in
-    let ends : now ≡ sealed t.closings = it.seals in
+    let done = λ (runs : List ClosingRow). closed_by (map closing_entry runs) it.filled in
+    let ends : now ≡ done t.closings = it.closes in
     let none : closings it.filled ≡ [] = it.is.closes ∙ follows.current in
     record {
-      requests = sym (ap (map timed) (ap (λ (l : List Command). decided l) ends ∙ seal_decides (map closing_entry t.closings) it.filled ∙ it.is.decides) ∙ follows.requests);
-      branches = λ b. sym (ap (λ (l : List Command). opened l b) ends ∙ seal_opens (map closing_entry t.closings) it.filled b ∙ it.is.opens b ∙ same b);
+      requests = sym (ap (map timed) (ap (λ (l : List Command). decided l) ends ∙ closed_decides (map closing_entry t.closings) it.filled ∙ it.is.decides) ∙ follows.requests);
+      branches = λ b. sym (ap (λ (l : List Command). opened l b) ends ∙ closed_opens (map closing_entry t.closings) it.filled b ∙ it.is.opens b ∙ same b);
       closed = λ x. sym (shows.rows.closings x)
-          ∙ ap (λ l. row_at closing_key l x) (sym (ap (λ (l : List Command). closings l) ends
-          ∙ seal_closes t.closings in_file.alone (has_closings db t in_file).holds.rows.rise it.filled none));
+          ∙ sym (all_closes t.closings (closed_of_log t log commands shows) it.filled none x)
+          ∙ ap (λ (l : List Command). row_at closing_key (closings l) x) (sym ends);
     }

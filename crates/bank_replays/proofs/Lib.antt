@@ -15,7 +15,7 @@ pub mod Whys
 pub mod SameNumbers
 pub mod Chained
 pub mod Wrote
-pub mod Sealing
+pub mod Closed
 pub mod SoundLogs
 pub mod Digested
 pub mod InMemory

@@ -2,7 +2,7 @@
 use Rattle.std.proofs.Common.{List, arith, subst}
 use Rattle.sqlite.specs.{Effect.Database, State.State}
 use Rattle.posting_rules.specs.{believed.Commands.Command, believed.Counter.ShowsLog, believed.Tables.Tables}
-use Rattle.store_rows.specs.believed.View.{HasSealAlone, Shows}
+use Rattle.store_rows.specs.believed.View.{Shows}
 use Rattle.walked_rows.proofs.Shown.{has_accounts, has_branches, has_floors, has_history, has_meta, has_references}
 use Rattle.walked_rows.proofs.Shown.{has_closings, has_requests, has_tellers}
 use Rattle.bank_store.specs.believed.Seen.{seen_in}
@@ -23,11 +23,10 @@ due_tables db t shows = record {
 }
 
 -- a file that has their rows shows them
-shows_due : (db : Database) (t : Tables) → HasSealAlone t.closings → HasTables db (rows_due t) → Shows db t
-shows_due db t alone has = record {
+shows_due : (db : Database) (t : Tables) → HasTables db (rows_due t) → Shows db t
+shows_due db t has = record {
   sound = has.metas.sound;
   early = λ low. absurd (omega (arith, low));
-  alone = alone;
   each = (
     has.metas.holds,
     (
@@ -50,7 +49,7 @@ shows_due db t alone has = record {
 pub same_tables : (db other : Database) (t : Tables) (f : FileTables) → HasTables db f → Shows other t
     → SameTables db other → Shows db t
 same_tables db other t f has shows same =
-    shows_due db t shows.alone (subst (HasTables db) (same f (rows_due t) has (due_tables other t shows)) has)
+    shows_due db t (subst (HasTables db) (same f (rows_due t) has (due_tables other t shows)) has)
 
 -- and so the log that they are of
 pub same_log : (s other : State) (D E : Type 0) (f : FileTables) → HasTables s.now f

@@ -21,5 +21,5 @@ pub mod Refusing
 pub mod Holding
 pub mod Prefixes
 pub mod Leading
-pub mod Sealing
+pub mod Closed
 pub mod Replayed

@@ -15,7 +15,7 @@ use Rattle.bank_store.specs.declared.bank.Bank.{Bank}
 use Rattle.bank_replays.specs.FileTables.{FileTables, HasTables}
 use Rattle.bank_replays.specs.Leading.{Leads}
 use Rattle.bank_replays.specs.Refilling.{terms_of}
-use Rattle.bank_replays.specs.Sealing.{sealed_by}
+use Rattle.bank_replays.specs.Closed.{closed_by}
 use Rattle.bank_replays.specs.declared.refill.Planned.{Planned}
 
 abbrev pub accounts_in : Option Entry → ℕ
@@ -42,11 +42,11 @@ pub record IsFilledOf (f : FileTables) (log : List Command) : Type 0 where
   pub closes : closings log ≡ closings posted
   pub opens : (b : ℕ) → opened log b ≡ plan_in f b
 
--- and it is sealed in the end, where the file has a row of the seal
+-- and in the end it has closed what the file's rows close
 pub record IsReplayOf (f : FileTables) (log : List Command) : Type 0 where
   pub filled : List Command
   pub is : IsFilledOf f filled
-  pub seals : log ≡ sealed_by f.closings filled
+  pub closes : log ≡ closed_by f.closings filled
 
 -- whatever rows the file has, the second bank shows their log
 abbrev pub ShowsFilled : {S T : Type 0} (g : Ghosts S) (h : Ghosts T) → Bank S g → Bank T h → Type 0

@@ -34,6 +34,7 @@
 
 mod chain;
 mod closing_digests;
+mod closings;
 mod compared;
 mod comparing;
 mod difference;
@@ -48,7 +49,6 @@ mod plan_digests;
 mod ram;
 mod refill;
 mod replays;
-mod seals;
 mod shown;
 mod visitors;
 mod watch;

@@ -15,6 +15,7 @@ ghost use Rattle.bank_replays.specs.Replayed.{ShowsFilled, ShowsReplay};
 ghost use Rattle.bank_replays.specs.Replays.{AreDigestsIn, IsOfNoLog, OnAgrees, OnDiffers, Replays};
 
 use crate::closing_digests::digest_closings;
+use crate::closings::close_as;
 use crate::comparing::compare_all;
 use crate::difference::{Agreed, Replay};
 use crate::digests::digest_all;
@@ -22,7 +23,6 @@ use crate::fault::{ReplayFault, bank_fault};
 use crate::plan_digests::digest_plan;
 use crate::ram::Ram;
 use crate::refill::{Filling, Refill};
-use crate::seals::seal_as;
 use crate::visitors::visit_all;
 use crate::watch::Watch;
 use bank_store::{Bank, Refused, create};
@@ -48,7 +48,7 @@ fn fill<S: Alter, T: Alter + Drop, W: Watch + Drop>(
     refill.finish()
 }
 
-// The second bank, once it is filled, and sealed where the first is.
+// The second bank, once it is filled, and has closed what the first has.
 fn refilled<S: Alter, T: Alter + Drop, W: Watch + Drop>(
     bank: &mut Bank<S>,
     due: Bank<T>,
@@ -63,7 +63,7 @@ fn refilled<S: Alter, T: Alter + Drop, W: Watch + Drop>(
     let filled = fill(bank, &mut refill);
     let due = refill.into_bank();
     match filled {
-        Ok(()) => seal_as(bank, due),
+        Ok(()) => close_as(bank, due),
         Err(fault) => Err(bank_fault(fault)),
     }
 }

@@ -4,7 +4,7 @@ use Rattle.std.proofs.Common.{append_assoc}
 use Rattle.sha2.specs.Hashers.{Holds256}
 use Rattle.walked_rows.specs.StoredBeside.{closing_entry}
 use Rattle.bank_replays.specs.ClosingDigests.{closing_line, closing_lines}
-use Rattle.bank_replays.proofs.Sealing.{closing_more}
+use Rattle.bank_replays.proofs.Closed.{closing_more}
 use Rattle.bank_replays.proofs.closing_digests.ClosingLinesVisitorStoredClosingSha256.visit.Goals as goal
 
 pub returns-clause-visited : goal.returns-clause-visited
