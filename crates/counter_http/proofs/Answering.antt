@@ -89,15 +89,14 @@ unfinished_nothing false = record {
 }
 
 -- and the connection goes on
-pub answered_on : {i : ℕ} {k l : Known} {c c' c'' : Seen} {steps : List Step} {has_more shown : Bool}
+pub answered_on : {i : ℕ} {k l : Known} {steps : List Step} {has_more shown : Bool}
     {buf pending : List ℕ} (figures : Option Figures) (moment : ℕ) (m : Message) (rest text : List ℕ)
-    → IsMessage m → closes m.head ≡ false → buf ≡ message_text m ++ rest → (c''.honest → c'.honest)
-    → (more : Bool) → (more ≡ false → rest ≡ [])
-    → IsGoing i k l c c' steps has_more shown buf pending
-    → IsGoing i k l c c'' (steps ++ step_told figures i moment m text ∷ []) more shown rest (pending ++ text)
-answered_on {i} {k} {l} {c} {c'} {c''} {steps} {shown = shown} {buf = buf}
+    → IsMessage m → closes m.head ≡ false → buf ≡ message_text m ++ rest → (more : Bool) → (more ≡ false → rest ≡ [])
+    → IsGoing i k l steps has_more shown buf pending
+    → IsGoing i k l (steps ++ step_told figures i moment m text ∷ []) more shown rest (pending ++ text)
+answered_on {i} {k} {l} {steps} {shown = shown} {buf = buf}
     {pending = pending} figures moment m rest text whole
-    stays front honest more none g =
+    stays front more none g =
     let t : Turn = record { message = m; moment = moment } in
     let own = own_more figures i steps moment m text in
     record {
@@ -112,7 +111,7 @@ answered_on {i} {k} {l} {c} {c'} {c''} {steps} {shown = shown} {buf = buf}
           ∙ ap joined (answers_more figures i steps moment m text);
       more = g.more;
       through = λ e. g.through (none_left pending text e);
-      prompt = reads_further (step_told figures i moment m text ∷ []) honest
+      prompt = reads_further (step_told figures i moment m text ∷ [])
           (input_more (of_client i steps) t buf rest front ∙ ap (λ (ts : List Turn). texts_of ts ++ rest) own)
           g.prompt;
     }
@@ -137,14 +136,12 @@ walked_closed ts t rest stays whole closed =
     }
 
 -- and the connection ends
-pub answered_last : {i : ℕ} {k l : Known} {c c' c'' : Seen} {steps : List Step} {has_more shown : Bool}
+pub answered_last : {i : ℕ} {k l : Known} {steps : List Step} {has_more shown : Bool}
     {buf pending : List ℕ} (figures : Option Figures) (moment : ℕ) (m : Message) (rest text : List ℕ)
-    → IsMessage m → closes m.head ≡ true → buf ≡ message_text m ++ rest → (c''.honest → c'.honest)
-    → IsGoing i k l c c' steps has_more shown buf pending
-    → IsParted i k l c c'' (steps ++ step_told figures i moment m text ∷ []) (pending ++ text) parting.Served
-answered_last {i} {k} {l} {c} {c'} {c''} {steps} {buf = buf}
-    {pending = pending} figures moment m rest text whole last front
-    honest g =
+    → IsMessage m → closes m.head ≡ true → buf ≡ message_text m ++ rest → IsGoing i k l steps has_more shown buf pending
+    → IsParted i k l (steps ++ step_told figures i moment m text ∷ []) (pending ++ text) parting.Served
+answered_last {i} {k} {l} {steps} {buf = buf}
+    {pending = pending} figures moment m rest text whole last front g =
     let t : Turn = record { message = m; moment = moment } in
     let own = own_more figures i steps moment m text in
     let none = append-nil (of_client i (steps ++ step_told figures i moment m text ∷ [])) in
@@ -163,7 +160,7 @@ answered_last {i} {k} {l} {c} {c'} {c''} {steps} {buf = buf}
       more = g.more;
       left = tt;
       ends = λ e. g.through (none_left pending text e);
-      prompt = reads_further (step_told figures i moment m text ∷ []) honest
+      prompt = reads_further (step_told figures i moment m text ∷ [])
           (input_more (of_client i steps) t buf rest front
           ∙ ap (λ (ts : List Turn). texts_of ts ++ rest) (own ∙ sym none)) g.prompt;
     }
@@ -171,14 +168,12 @@ answered_last {i} {k} {l} {c} {c'} {c''} {steps} {buf = buf}
 -- ---- it is refused
 
 -- by the bank
-pub answered_unavailable : {i : ℕ} {k l : Known} {c c' c'' : Seen} {steps : List Step} {has_more shown : Bool}
+pub answered_unavailable : {i : ℕ} {k l : Known} {steps : List Step} {has_more shown : Bool}
     {buf pending : List ℕ} (fault : Fault) (moment : ℕ) (m : Message) (rest : List ℕ)
-    → IsMessage m → buf ≡ message_text m ++ rest → (c''.honest → c'.honest)
-    → IsGoing i k l c c' steps has_more shown buf pending
-    → IsRefused i k l c c'' steps (pending ++ unavailable (asked_by m)) (record { message = m; moment = moment })
+    → IsMessage m → buf ≡ message_text m ++ rest → IsGoing i k l steps has_more shown buf pending
+    → IsRefused i k l steps (pending ++ unavailable (asked_by m)) (record { message = m; moment = moment })
     (parting.Bank fault)
-answered_unavailable {i} {k} {l} {c} {c'} {c''} {steps} {buf = buf} {pending = pending} fault moment m rest whole front
-    honest g =
+answered_unavailable {i} {k} {l} {steps} {buf = buf} {pending = pending} fault moment m rest whole front g =
     let t : Turn = record { message = m; moment = moment } in
     let same = append-nil steps in
     let broken_off : IsBrokenOff (of_client i steps) (t ∷ []) (unavailable (asked_by m) ∷ []) =
@@ -197,19 +192,19 @@ answered_unavailable {i} {k} {l} {c} {c'} {c''} {steps} {buf = buf} {pending = p
         left = tt;
         ends = λ e. g.through (none_left pending (unavailable (asked_by m)) e);
         prompt = subst (λ (ss : List Step). AnswersBeforeItsReads i k.reads l.reads k.beside l.beside k.writer
-            k.writes c c'' ss (texts_of (of_client i steps ++ t ∷ []) ++ rest)) same
-            (reads_further [] honest (input_more (of_client i steps) t buf rest front) g.prompt);
+            k.writes ss (texts_of (of_client i steps ++ t ∷ []) ++ rest)) same
+            (reads_further [] (input_more (of_client i steps) t buf rest front) g.prompt);
       };
       lost = refl;
       broken_off = broken_off;
     }
 
 -- as no message
-pub answered_refusal : {i : ℕ} {k l : Known} {c c' : Seen} {steps : List Step} {has_more shown : Bool}
-    {buf pending : List ℕ} (shows : Bool) (g : IsGoing i k l c c' steps has_more shown buf pending)
+pub answered_refusal : {i : ℕ} {k l : Known} {steps : List Step} {has_more shown : Bool}
+    {buf pending : List ℕ} (shows : Bool) (g : IsGoing i k l steps has_more shown buf pending)
     → IsWalked (HasEnded l.reader k.reads l.reads) (of_client i steps) [] buf (refusal shows ∷ [])
-    → IsParted i k l c c' steps (pending ++ refusal shows) parting.Served
-answered_refusal {i} {k} {l} {c} {c'} {steps} {buf = buf} {pending = pending} shows g walked =
+    → IsParted i k l steps (pending ++ refusal shows) parting.Served
+answered_refusal {i} {k} {l} {steps} {buf = buf} {pending = pending} shows g walked =
     let none = ap (λ (ts : List Turn). texts_of ts ++ buf) (sym (append-nil (of_client i steps))) in
     record {
       lost = [];
@@ -223,19 +218,19 @@ answered_refusal {i} {k} {l} {c} {c'} {steps} {buf = buf} {pending = pending} sh
       more = g.more;
       left = tt;
       ends = λ e. g.through (none_left pending (refusal shows) e);
-      prompt = subst (λ (x : List ℕ). AnswersBeforeItsReads i k.reads l.reads k.beside l.beside k.writer k.writes c c'
+      prompt = subst (λ (x : List ℕ). AnswersBeforeItsReads i k.reads l.reads k.beside l.beside k.writer k.writes
           steps x) none g.prompt;
     }
 
 -- ---- something is read
 
-pub read_going : {i : ℕ} {k l : Known} {c c' : Seen} {steps : List Step} {shown : Bool} {rest : List ℕ}
+pub read_going : {i : ℕ} {k l : Known} {steps : List Step} {shown : Bool} {rest : List ℕ}
     (all : List ℕ) (answer : Result ℕ Error) (r'' : Option (List ℕ)) (q'' : Option (List ReadCall))
-    (b'' : Option (List Beside)) → IsGoing i k l c c' steps false shown rest []
+    (b'' : Option (List Beside)) → IsGoing i k l steps false shown rest []
     → HasRead l.reader r'' answer rest all → GrowsBy l.reads q'' (read_call answer ∷ [])
     → GrowsBy l.beside b'' (record { contents = l.writer; calls = l.writes } ∷ [])
-    → IsGoing i k (record l { reader = r''; reads = q''; beside = b'' }) c c' steps true shown all []
-read_going {i} {k} {l} {c} {c'} {steps} {rest = rest} all answer r'' q'' b'' g read tells beside =
+    → IsGoing i k (record l { reader = r''; reads = q''; beside = b'' }) steps true shown all []
+read_going {i} {k} {l} {steps} {rest = rest} all answer r'' q'' b'' g read tells beside =
     let before = texts_of (of_client i steps) in
     let same = append_assoc before rest read.bytes ∙ ap (λ (x : List ℕ). before ++ x) (sym read.all_is) in
     record {
@@ -248,7 +243,7 @@ read_going {i} {k} {l} {c} {c'} {steps} {rest = rest} all answer r'' q'' b'' g r
       answers = g.answers;
       more = g.more;
       through = g.through;
-      prompt = subst (λ (x : List ℕ). AnswersBeforeItsReads i k.reads q'' k.beside b'' k.writer k.writes c c' steps x)
+      prompt = subst (λ (x : List ℕ). AnswersBeforeItsReads i k.reads q'' k.beside b'' k.writer k.writes steps x)
           same (one_read_more (before ++ rest) read.bytes (read_call answer) _ g.prompt (record {
             before = steps;
             after = [];
@@ -262,10 +257,10 @@ read_going {i} {k} {l} {c} {c'} {steps} {rest = rest} all answer r'' q'' b'' g r
     }
 
 -- it has more, or waits for more
-pub waits_so : {i : ℕ} {k l : Known} {c c' : Seen} {steps : List Step} {has_more has_more' shown shown' : Bool}
+pub waits_so : {i : ℕ} {k l : Known} {steps : List Step} {has_more has_more' shown shown' : Bool}
     {rest rest' pending : List ℕ} → rest ≡ rest' → (has_more' ≡ false → IsUnfinished rest' shown')
-    → IsGoing i k l c c' steps has_more shown rest pending → IsGoing i k l c c' steps has_more' shown' rest' pending
-waits_so {i} {k} {l} {c} {c'} {steps} {has_more' = has_more'} {shown' = shown'} {rest} {rest'} {pending} same waits g =
+    → IsGoing i k l steps has_more shown rest pending → IsGoing i k l steps has_more' shown' rest' pending
+waits_so {i} {k} {l} {steps} {has_more' = has_more'} {shown' = shown'} {rest} {rest'} {pending} same waits g =
     let input = ap (λ (x : List ℕ). texts_of (of_client i steps) ++ x) same in
     record {
       read = subst (λ (x : List ℕ). Consumes k.reader l.reader x) input g.read;
@@ -276,16 +271,16 @@ waits_so {i} {k} {l} {c} {c'} {steps} {has_more' = has_more'} {shown' = shown'} 
       answers = g.answers;
       more = g.more;
       through = g.through;
-      prompt = subst (λ (x : List ℕ). AnswersBeforeItsReads i k.reads l.reads k.beside l.beside k.writer k.writes c c'
+      prompt = subst (λ (x : List ℕ). AnswersBeforeItsReads i k.reads l.reads k.beside l.beside k.writer k.writes
           steps x) input g.prompt;
     }
 
 -- with nothing to say
-parted_silent : {i : ℕ} {k l : Known} {c c' : Seen} {steps : List Step} {has_more shown : Bool} {rest : List ℕ}
-    → (g : IsGoing i k l c c' steps has_more shown rest [])
+parted_silent : {i : ℕ} {k l : Known} {steps : List Step} {has_more shown : Bool} {rest : List ℕ}
+    → (g : IsGoing i k l steps has_more shown rest [])
     → IsWalked (HasEnded l.reader k.reads l.reads) (of_client i steps) [] rest []
-    → IsParted i k l c c' steps [] parting.Served
-parted_silent {i} {k} {l} {c} {c'} {steps} {rest = rest} g walked =
+    → IsParted i k l steps [] parting.Served
+parted_silent {i} {k} {l} {steps} {rest = rest} g walked =
     let none = ap (λ (ts : List Turn). texts_of ts ++ rest) (sym (append-nil (of_client i steps))) in
     record {
       lost = [];
@@ -299,13 +294,13 @@ parted_silent {i} {k} {l} {c} {c'} {steps} {rest = rest} g walked =
       more = g.more;
       left = tt;
       ends = λ e. g.through refl;
-      prompt = subst (λ (x : List ℕ). AnswersBeforeItsReads i k.reads l.reads k.beside l.beside k.writer k.writes c c'
+      prompt = subst (λ (x : List ℕ). AnswersBeforeItsReads i k.reads l.reads k.beside l.beside k.writer k.writes
           steps x) none g.prompt;
     }
 
-pub parted_finished : {i : ℕ} {k l : Known} {c c' : Seen} {steps : List Step} {has_more shown : Bool} {rest : List ℕ}
-    → IsGoing i k l c c' steps has_more shown rest [] → HasEnded l.reader k.reads l.reads → rest ≡ []
-    → IsParted i k l c c' steps [] parting.Served
+pub parted_finished : {i : ℕ} {k l : Known} {steps : List Step} {has_more shown : Bool} {rest : List ℕ}
+    → IsGoing i k l steps has_more shown rest [] → HasEnded l.reader k.reads l.reads → rest ≡ []
+    → IsParted i k l steps [] parting.Served
 parted_finished {i} {steps = steps} {rest = rest} g ended none = parted_silent g (record {
   ending = Finished;
   walks = walks_end (of_client i steps) rest Finished g.stays none;
@@ -314,10 +309,10 @@ parted_finished {i} {steps = steps} {rest = rest} g ended none = parted_silent g
   none_refused = refl;
 })
 
-pub parted_unread : {i : ℕ} {k l : Known} {c c' : Seen} {steps : List Step} {has_more shown : Bool} {rest : List ℕ}
-    → IsGoing i k l c c' steps has_more shown rest [] → BeginsWithNoMessage rest
-    → EndsWith IsReadFailure k.reads l.reads → IsParted i k l c c' steps [] parting.Read
-parted_unread {i} {k} {l} {c} {c'} {steps} {rest = rest} g none failed =
+pub parted_unread : {i : ℕ} {k l : Known} {steps : List Step} {has_more shown : Bool} {rest : List ℕ}
+    → IsGoing i k l steps has_more shown rest [] → BeginsWithNoMessage rest
+    → EndsWith IsReadFailure k.reads l.reads → IsParted i k l steps [] parting.Read
+parted_unread {i} {k} {l} {steps} {rest = rest} g none failed =
     let input = ap (λ (ts : List Turn). texts_of ts ++ rest) (sym (append-nil (of_client i steps))) in
     record {
       lost = [];
@@ -331,6 +326,6 @@ parted_unread {i} {k} {l} {c} {c'} {steps} {rest = rest} g none failed =
       more = g.more;
       left = refl;
       ends = λ e. (failed, g.through refl);
-      prompt = subst (λ (x : List ℕ). AnswersBeforeItsReads i k.reads l.reads k.beside l.beside k.writer k.writes c c'
+      prompt = subst (λ (x : List ℕ). AnswersBeforeItsReads i k.reads l.reads k.beside l.beside k.writer k.writes
           steps x) input g.prompt;
     }

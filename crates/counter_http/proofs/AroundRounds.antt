@@ -39,13 +39,13 @@ use Rattle.counter_http.proofs.Rounding.{Begun, Rounding, here_long}
 -- ---- what is done before a round, and after it
 
 -- nobody came or left
-pub waited_still : {R W : Type 0} {known : R × W → Known} {g t t' : Option (List (ClientsCall (R × W)))} {c c' : Seen}
+pub waited_still : {R W : Type 0} {known : R × W → Known} {g t t' : Option (List (ClientsCall (R × W)))}
     {calls : List (ClientsCall (R × W))} {steps : List Step} {fault : Option Fault} {refused : List Step} {came : ℕ}
     {here : List (Client R W)} → GrowsBy t t' []
-    → IsCrowd ⊥ [] known g calls c c' steps fault refused (record { calls = t; came = came; here = here })
-    → IsCrowd ⊥ [] known g calls c c' steps fault refused (record { calls = t'; came = came; here = here })
-waited_still {R} {W} {known} {g} {t} {t'} {c} {c'} {calls} {steps} {fault} {refused} {came} {here} waited crowd =
-    subst (λ (x : List (ClientsCall (R × W))). IsCrowd ⊥ [] known g x c c' steps fault refused
+    → IsCrowd ⊥ [] known g calls steps fault refused (record { calls = t; came = came; here = here })
+    → IsCrowd ⊥ [] known g calls steps fault refused (record { calls = t'; came = came; here = here })
+waited_still {R} {W} {known} {g} {t} {t'} {calls} {steps} {fault} {refused} {came} {here} waited crowd =
+    subst (λ (x : List (ClientsCall (R × W))). IsCrowd ⊥ [] known g x steps fault refused
     (record { calls = t'; came = came; here = here })) (append-nil calls) (crowd_stays _ crowd (record {
       calls = [];
       made = waited;
@@ -62,17 +62,17 @@ numbers_waited [] = refl
 numbers_waited (x ∷ xs) = ap (λ (ns : List ℕ). x.number ∷ ns) (numbers_waited xs)
 
 -- where each client that is here stands, as it is waited for
-all_stand : {R W : Type 0} (known : R × W → Known) (c c' : Seen) (steps : List Step) (calls : List (ClientsCall (R × W)))
-    (here : List (Client R W)) → AllByRecursion (IsHere known c c' steps None [] calls) here
-    → AllByRecursion (StoodSo known c c' steps calls) (ends_here here)
-all_stand known c c' steps calls [] all = tt
-all_stand known c c' steps calls (x ∷ xs) all = (
+all_stand : {R W : Type 0} (known : R × W → Known) (steps : List Step) (calls : List (ClientsCall (R × W)))
+    (here : List (Client R W)) → AllByRecursion (IsHere known steps None [] calls) here
+    → AllByRecursion (StoodSo known steps calls) (ends_here here)
+all_stand known steps calls [] all = tt
+all_stand known steps calls (x ∷ xs) all = (
   record {
     given = all.0.given;
     came = all.0.came;
     served = closed_early parting.Stopped tt (left_as x.parting all.0.stands.is);
   },
-  all_stand known c c' steps calls xs all.1,
+  all_stand known steps calls xs all.1,
 )
 
 -- those who were here were waited for and gone on with, some were given up, and others were taken in
@@ -105,7 +105,7 @@ before_round {R = R} {W} {seen} {reason} {known} {g} {t} {t'} {u} {t''} {old = o
     let told : List (ClientsCall (R × W)) = waited_told ends given in
     let before = given_up_told given ++ (lost ++ got) in
     let calls = ((s.calls ++ told) ++ lost) ++ got in
-    let crowd : IsCrowd ⊥ [] known g calls (seen old) (seen now) (steps_of s.rounds) None []
+    let crowd : IsCrowd ⊥ [] known g calls (steps_of s.rounds) None []
     (record { calls = t''; came = came'; here = here'' }) =
     crowd_moved (λ stop. stop) taken.moved (crowd_on (crowd_moved (λ stop. stop) (leave came)
     (crowd_goes here here' all (crowd_waits ends given grown s.crowd)))) in
@@ -113,14 +113,14 @@ before_round {R = R} {W} {seen} {reason} {known} {g} {t} {t'} {u} {t''} {old = o
     let are : calls ≡ calls_of s.laps ++ (Waited ends ∷ before) =
     append_assoc (s.calls ++ told) lost got ∙ append_assoc s.calls told (lost ++ got)
     ∙ ap (λ (x : List (ClientsCall (R × W))). x ++ (told ++ (lost ++ got))) were in
-    let Stands : Client R W → Type 0 = IsHere known (seen old) (seen now) (steps_of s.rounds) None [] (calls_of s.laps) in
+    let Stands : Client R W → Type 0 = IsHere known (steps_of s.rounds) None [] (calls_of s.laps) in
     let stand : AllByRecursion Stands here =
-    subst (λ (x : List (ClientsCall (R × W))). AllByRecursion (IsHere known (seen old) (seen now) (steps_of s.rounds) None [] x) here)
+    subst (λ (x : List (ClientsCall (R × W))). AllByRecursion (IsHere known (steps_of s.rounds) None [] x) here)
     were s.crowd.are_here in
-    let Had : Client R W → Type 0 = HadMuch known (seen old) (seen now) (steps_of s.rounds) (calls_of s.laps) ends in
+    let Had : Client R W → Type 0 = HadMuch known (steps_of s.rounds) (calls_of s.laps) ends in
     let Was : Client R W → Type 0 = λ x. Stands x × Contains ends (ends_in x) in
     let new_one : (number : ℕ) (e : R × W) (client : Client R W) → IsNew number e.0 e.1 client → Had client =
-    much_new known (seen old) (seen now) (steps_of s.rounds) (calls_of s.laps) ends in
+    much_new known (steps_of s.rounds) (calls_of s.laps) ends in
     let there : (call : ClientsCall (R × W)) → Contains got call → Contains before call =
     λ call is. Contains-append_right (given_up_told given) (lost ++ got) call (Contains-append_right lost got call is) in
     record {
@@ -152,8 +152,8 @@ before_round {R = R} {W} {seen} {reason} {known} {g} {t} {t'} {u} {t''} {old = o
         all = numbers_waited here ∙ s.crowd.now ∙ ap (here_after []) were;
         once = all_more IsNoWait (given_up_told given) (lost ++ got) (given_no_wait (R × W) given)
             (all_more IsNoWait lost got (none_waited (leave came)) (none_waited taken.moved));
-        stood = subst (λ (x : List (ClientsCall (R × W))). AllByRecursion (StoodSo known (seen old) (seen now)
-            (steps_of s.rounds) x) ends) were (all_stand known (seen old) (seen now) (steps_of s.rounds) s.calls here s.crowd.are_here);
+        stood = subst (λ (x : List (ClientsCall (R × W))). AllByRecursion (StoodSo known
+            (steps_of s.rounds) x) ends) were (all_stand known (steps_of s.rounds) s.calls here s.crowd.are_here);
         taken_in = elim taken.all [
           | inl none_left ↦ inl (ap (λ (x : List (ClientsCall (R × W))). length (openings x)) (sym are) ∙ sym crowd.all
               ∙ crowd.many ∙ none_left)
@@ -163,13 +163,13 @@ before_round {R = R} {W} {seen} {reason} {known} {g} {t} {t'} {u} {t''} {old = o
           ])
         ];
       };
-      moved = last_then (all_settled (fills (HasSpared reason)) known (seen old) (seen now) here)
-          (all_on (fills (HasSpared reason)) known (seen old) (seen now) ends) (calls_of s.laps) (steps_of s.rounds)
-          (λ cs ss l r called answered settled. all_waited None [] (fills (HasSpared reason)) known (seen old) (seen now) cs ss l r
-          (calls_of s.laps) (steps_of s.rounds) here called answered stand settled) known (seen old) (seen now) n [] [] s.laps
+      moved = last_then (all_settled (fills (HasSpared reason)) known here)
+          (all_on (fills (HasSpared reason)) known ends) (calls_of s.laps) (steps_of s.rounds)
+          (λ cs ss l r called answered settled. all_waited None [] (fills (HasSpared reason)) known cs ss l r
+          (calls_of s.laps) (steps_of s.rounds) here called answered stand settled) known n [] [] s.laps
           s.rounds s.are_laps refl refl (s.settled refl);
       much = moved_all Had new_one _ _ taken.moved (moved_all Had new_one _ _ (leave came)
-          (all_by (GoesOn known) Was Had (much_goes known (seen old) (seen now) (steps_of s.rounds) (calls_of s.laps) ends) here here'
+          (all_by (GoesOn known) Was Had (much_goes known (steps_of s.rounds) (calls_of s.laps) ends) here here'
           all (all_both Stands (λ (x : Client R W). Contains ends (ends_in x)) here stand
           (each_ends (λ (w : ℕ × (R × W)). Contains ends w) here (each_contained ends)))));
       refused = refused_there result taken.refused;
@@ -194,7 +194,7 @@ pub after_round : {C R W X : Type 0} (seen : C → Seen) {reason : Fault → C �
     (r : AnswersRound seen reason known k' k'' now new here here' u u' seconds result) → AllZip (Writes known) viewed gone
     → (moved : (came : ℕ) → HaveMoved ⊥ [] (record { calls = t; came = came; here = here'' })
     (record { calls = t'; came = came; here = left }))
-    → IsCrowd ⊥ [] known g (s.calls ++ (moved came).calls) (seen old) (seen new) (steps_of s.rounds ++ steps_in r.round)
+    → IsCrowd ⊥ [] known g (s.calls ++ (moved came).calls) (steps_of s.rounds ++ steps_in r.round)
     (fault_in result) r.refused (record { calls = t'; came = came; here = left })
 after_round seen {known = known} old now new {came = came} here here' viewed gone here'' left result same is s r writes
     moved =
@@ -202,4 +202,4 @@ after_round seen {known = known} old now new {came = came} here here' viewed gon
     subst (λ (xs : List (Client _ _)). AllZip (Writes known) xs here'') same
     (subst (λ (ys : List (Client _ _)). AllZip (Writes known) viewed ys) (sym is) writes) in
     crowd_moved (λ stop. stop) (moved came) (crowd_writes here' here'' all
-    (crowd_round seen old now new (steps_of s.rounds) here here' result s.crowd s.takes r))
+    (crowd_round seen now new (steps_of s.rounds) here here' result s.crowd r))

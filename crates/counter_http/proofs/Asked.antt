@@ -187,16 +187,6 @@ reads_due figures c c' ss reads due h stays = record {
       };
 }
 
-pub takes_reads : (figures : Figures) (c c' c'' : Seen) (steps more : List Step)
-    → AllByRecursion (is_read_under figures) more
-    → (c''.honest → c'.honest) → Takes c c' (submitted_by steps) → Takes c' c'' []
-    → Takes c c'' (submitted_by (steps ++ more))
-takes_reads figures c c' c'' steps more reads honest a b =
-    subst (λ (x : List Command). Takes c c'' x)
-    (ap (λ (x : List Command). submitted_by steps ++ x) (sym (reads_submit_none figures more reads))
-    ∙ sym (submitted-append steps more))
-    (Takes-append c c' c'' (submitted_by steps) [] a b honest)
-
 owned_by : (m n : ℕ) (ss : List Step) → n ≡ m → AllByRecursion (λ (s : Step). s.client ≡ n) ss
     → AllByRecursion (λ (s : Step). s.client ≡ m) ss
 owned_by m n [] e all = tt
@@ -205,11 +195,10 @@ owned_by m n (s ∷ ss) e all = (all.0 ∙ e, owned_by m n ss e all.1)
 -- nothing was answered
 pub answered_nothing : {C R W X : Type 0} (seen : C → Seen) {reason : Fault → C → C → Type 0} {known : R × W → Known} {figures : Figures}
     (bank new : C) (old after : Client R W) (result : Result X Fault) → IsAsked seen reason bank new result
-    → IfErr result (TellsRefusal seen known bank new old after [])
+    → IfErr result (TellsRefusal known old after [])
     → ((fault : Option Fault) (refused : List Step)
     → IfErr result (λ why. (fault ≡ Some why) × Contains (clients_of refused) old.number) → Fares fault refused [] old after)
-    → after.number ≡ old.number → ((k : Known) (c : Seen) (steps : List Step) → StandsHere known k c (seen bank) steps old
-    → StandsHere known k c (seen new) steps after)
+    → after.number ≡ old.number → ((k : Known) (steps : List Step) → StandsHere known k steps old → StandsHere known k steps after)
     → IsAnswered seen reason known figures bank new old after result
 answered_nothing seen {known = known} bank new old after result asked told fares number stands = record {
   more = [];
@@ -220,26 +209,24 @@ answered_nothing seen {known = known} bank new old after result asked told fares
   told = told;
   fares = fares;
   number = number;
-  stands = λ k first steps takes is. subst (λ (ss : List Step). StandsHere known k (seen first) (seen new) ss after)
-      (sym (append-nil steps)) (stands k (seen first) steps is);
+  stands = λ k steps is. subst (λ (ss : List Step). StandsHere known k ss after)
+      (sym (append-nil steps)) (stands k steps is);
 }
 
 refused_then : {C R W X Y : Type 0} (seen : C → Seen) {reason : Fault → C → C → Type 0} {known : R × W → Known} {figures : Figures}
     (bank mid new : C) (one two three : Client R W) {x : X} (result : Result Y Fault)
     (a : IsAnswered seen reason known figures bank mid one two (Ok x)) (more : List Step)
-    → IfErr result (TellsRefusal seen known mid new two three more)
-    → IfErr result (TellsRefusal seen known bank new one three (a.more ++ more))
+    → IfErr result (TellsRefusal known two three more)
+    → IfErr result (TellsRefusal known one three (a.more ++ more))
 refused_then seen bank mid new one two three (Ok y) a more told = tt
 refused_then seen {known = known} {figures} bank mid new one two three (Err f) a more told = record {
   step = told.step;
   own = told.own ∙ a.number;
   reads = told.reads;
-  told = λ k first steps takes is.
-      subst (λ (ss : List Step). StandsRefused known k (seen first) (seen new) ss f told.step.turn three)
+  told = λ k steps is.
+      subst (λ (ss : List Step). StandsRefused known k ss f told.step.turn three)
       (append_assoc steps a.more more)
-      (told.told k first (steps ++ a.more)
-      (takes_reads figures (seen first) (seen bank) (seen mid) steps a.more a.reads a.asked.honest takes a.asked.done)
-      (a.stands k first steps takes is));
+      (told.told k (steps ++ a.more) (a.stands k steps is));
 }
 
 pub answered_then : {C R W X Y : Type 0} (seen : C → Seen) {reason : Fault → C → C → Type 0} {known : R × W → Known} {figures : Figures}
@@ -259,11 +246,9 @@ answered_then seen {reason} {known} {figures} bank mid new one two three result 
   fares = λ fault refused among. fares_then one two three a.more b.more a.number (a.fares None [] tt)
       (b.fares fault refused (among_then fault refused result one.number two.number (sym a.number) among));
   number = b.number ∙ a.number;
-  stands = λ k first steps takes is.
-      subst (λ (ss : List Step). StandsHere known k (seen first) (seen new) ss three) (append_assoc steps a.more b.more)
-      (b.stands k first (steps ++ a.more)
-      (takes_reads figures (seen first) (seen bank) (seen mid) steps a.more a.reads a.asked.honest takes a.asked.done)
-      (a.stands k first steps takes is));
+  stands = λ k steps is.
+      subst (λ (ss : List Step). StandsHere known k ss three) (append_assoc steps a.more b.more)
+      (b.stands k (steps ++ a.more) (a.stands k steps is));
 }
 
 -- the result stands for another

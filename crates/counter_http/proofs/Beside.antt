@@ -23,12 +23,12 @@ use Rattle.counter_http.proofs.Steps.{OfOther, answers_of-append, no_answers, no
 
 -- ---- reads
 
-holds_further : {i : ℕ} {w : Option (List ℕ)} {t : Option (List WriteCall)} {c c' c'' : Seen} {steps : List Step}
-    {input input' : List ℕ} {sink sink' : Beside} (more : List Step) → (c''.honest → c'.honest) → input ≡ input'
-    → sink ≡ sink' → HoldsOwnAnswers i w t c c' steps input sink
-    → HoldsOwnAnswers i w t c c'' (steps ++ more) input' sink'
-holds_further {i} {w} {t} {c} {c'} {c''} {steps} {input} {input'} {sink} {sink'} more honest same is h =
-    subst (λ (s : Beside). HoldsOwnAnswers i w t c c'' (steps ++ more) input' s) is (record {
+holds_further : {i : ℕ} {w : Option (List ℕ)} {t : Option (List WriteCall)} {steps : List Step}
+    {input input' : List ℕ} {sink sink' : Beside} (more : List Step) → input ≡ input'
+    → sink ≡ sink' → HoldsOwnAnswers i w t steps input sink
+    → HoldsOwnAnswers i w t (steps ++ more) input' sink'
+holds_further {i} {w} {t} {steps} {input} {input'} {sink} {sink'} more same is h =
+    subst (λ (s : Beside). HoldsOwnAnswers i w t (steps ++ more) input' s) is (record {
       before = h.before;
       after = h.after ++ more;
       order = ap (λ (x : List Step). x ++ more) h.order ∙ append_assoc h.before h.after more;
@@ -41,23 +41,23 @@ holds_further {i} {w} {t} {c} {c'} {c''} {steps} {input} {input'} {sink} {sink'}
 
 -- other messages are answered, and the bank goes on
 pub reads_further : {i : ℕ} {q q' : Option (List ReadCall)} {b b' : Option (List Beside)} {w : Option (List ℕ)}
-    {t : Option (List WriteCall)} {c c' c'' : Seen} {steps : List Step} {input input' : List ℕ} (more : List Step)
-    → (c''.honest → c'.honest) → input ≡ input' → AnswersBeforeItsReads i q q' b b' w t c c' steps input
-    → AnswersBeforeItsReads i q q' b b' w t c c'' (steps ++ more) input'
-reads_further {input = input} more honest same p = record {
+    {t : Option (List WriteCall)} {steps : List Step} {input input' : List ℕ} (more : List Step)
+    → input ≡ input' → AnswersBeforeItsReads i q q' b b' w t steps input
+    → AnswersBeforeItsReads i q q' b b' w t (steps ++ more) input'
+reads_further {input = input} more same p = record {
   reads = p.reads;
   made = p.made;
   long = p.long ∙ ap length same;
   sinks = p.sinks;
   beside = p.beside;
   each = p.each;
-  answered = λ n below. holds_further more honest
+  answered = λ n below. holds_further more
       (ap (λ (x : List ℕ). take (given (take n p.reads)) x) same) refl (p.answered n below);
 }
 
 pub none_read_yet : (i : ℕ) (q : Option (List ReadCall)) (b : Option (List Beside)) {w : Option (List ℕ)}
-    {t : Option (List WriteCall)} {c c' : Seen} (steps : List Step)
-    → AnswersBeforeItsReads i q q b b w t c c' steps []
+    {t : Option (List WriteCall)} (steps : List Step)
+    → AnswersBeforeItsReads i q q b b w t steps []
 none_read_yet i q b steps = record {
   reads = [];
   made = adds-none q;
@@ -68,46 +68,46 @@ none_read_yet i q b steps = record {
   answered = λ n below. absurd (omega (arith, below));
 }
 
-as_before : {i : ℕ} {w : Option (List ℕ)} {t : Option (List WriteCall)} {c c' : Seen} {steps : List Step}
+as_before : {i : ℕ} {w : Option (List ℕ)} {t : Option (List WriteCall)} {steps : List Step}
     (reads : List ReadCall)
     (sinks : List Beside) (input bytes : List ℕ) (x : ReadCall) (sink : Beside) (n : ℕ)
     → given reads ≡ length input → length sinks ≡ length reads → n < length reads
-    → HoldsOwnAnswers i w t c c' steps (take (given (take n reads)) input) (get_or sinks n unknown)
-    → HoldsOwnAnswers i w t c c' steps (take (given (take n (reads ++ x ∷ []))) (input ++ bytes))
+    → HoldsOwnAnswers i w t steps (take (given (take n reads)) input) (get_or sinks n unknown)
+    → HoldsOwnAnswers i w t steps (take (given (take n (reads ++ x ∷ []))) (input ++ bytes))
     (get_or (sinks ++ sink ∷ []) n unknown)
-as_before {i} {w} {t} {c} {c'} {steps} reads sinks input bytes x sink n long each below h =
+as_before {i} {w} {t} {steps} reads sinks input bytes x sink n long each below h =
     let few : given (take n reads) ≤ length input = omega (arith, given_front n reads, long) in
     let inside : n < length sinks = omega (arith, each, below) in
     let upto : n ≤ length reads = omega (arith, below) in
-    subst (λ (ss : List Step). HoldsOwnAnswers i w t c c' ss (take (given (take n (reads ++ x ∷ []))) (input ++ bytes))
+    subst (λ (ss : List Step). HoldsOwnAnswers i w t ss (take (given (take n (reads ++ x ∷ []))) (input ++ bytes))
     (get_or (sinks ++ sink ∷ []) n unknown)) (append-nil steps)
-    (holds_further [] (λ up. up) (sym (ap (λ (ts : List ReadCall). take (given ts) (input ++ bytes))
+    (holds_further [] (sym (ap (λ (ts : List ReadCall). take (given ts) (input ++ bytes))
     (take-append-le n reads (x ∷ []) upto)
     ∙ take-append-le (given (take n reads)) input bytes few))
     (sym (get_or_append_left sinks (sink ∷ []) unknown n inside)) h)
 
-as_last : {i : ℕ} {w : Option (List ℕ)} {t : Option (List WriteCall)} {c c' : Seen} {steps : List Step}
+as_last : {i : ℕ} {w : Option (List ℕ)} {t : Option (List WriteCall)} {steps : List Step}
     (reads : List ReadCall)
     (sinks : List Beside) (input bytes : List ℕ) (x : ReadCall) (sink : Beside) (n : ℕ)
     → given reads ≡ length input → length sinks ≡ length reads → n ≡ length reads
-    → HoldsOwnAnswers i w t c c' steps input sink
-    → HoldsOwnAnswers i w t c c' steps (take (given (take n (reads ++ x ∷ []))) (input ++ bytes))
+    → HoldsOwnAnswers i w t steps input sink
+    → HoldsOwnAnswers i w t steps (take (given (take n (reads ++ x ∷ []))) (input ++ bytes))
     (get_or (sinks ++ sink ∷ []) n unknown)
-as_last {i} {w} {t} {c} {c'} {steps} reads sinks input bytes x sink n long each is h =
-    subst (λ (ss : List Step). HoldsOwnAnswers i w t c c' ss (take (given (take n (reads ++ x ∷ []))) (input ++ bytes))
+as_last {i} {w} {t} {steps} reads sinks input bytes x sink n long each is h =
+    subst (λ (ss : List Step). HoldsOwnAnswers i w t ss (take (given (take n (reads ++ x ∷ []))) (input ++ bytes))
     (get_or (sinks ++ sink ∷ []) n unknown)) (append-nil steps)
-    (holds_further [] (λ up. up) (sym (ap (λ (m : ℕ). take (given (take m (reads ++ x ∷ []))) (input ++ bytes)) is
+    (holds_further [] (sym (ap (λ (m : ℕ). take (given (take m (reads ++ x ∷ []))) (input ++ bytes)) is
     ∙ ap (λ (ts : List ReadCall). take (given ts) (input ++ bytes)) (take-append_seam reads (x ∷ []))
     ∙ ap (λ (m : ℕ). take m (input ++ bytes)) long ∙ take-append_seam input bytes))
     (sym (ap (λ (m : ℕ). get_or (sinks ++ sink ∷ []) m unknown) (is ∙ sym each)
     ∙ get_or-append_seam sinks sink [] unknown)) h)
 
 pub one_read_more : {i : ℕ} {q q' q'' : Option (List ReadCall)} {b b' b'' : Option (List Beside)}
-    {w : Option (List ℕ)} {t : Option (List WriteCall)} {c c' : Seen} {steps : List Step} (input bytes : List ℕ)
+    {w : Option (List ℕ)} {t : Option (List WriteCall)} {steps : List Step} (input bytes : List ℕ)
     (x : ReadCall) (sink : Beside)
-    → AnswersBeforeItsReads i q q' b b' w t c c' steps input → HoldsOwnAnswers i w t c c' steps input sink
+    → AnswersBeforeItsReads i q q' b b' w t steps input → HoldsOwnAnswers i w t steps input sink
     → GrowsBy q' q'' (x ∷ []) → GrowsBy b' b'' (sink ∷ []) → given (x ∷ []) ≡ length bytes
-    → AnswersBeforeItsReads i q q'' b b'' w t c c' steps (input ++ bytes)
+    → AnswersBeforeItsReads i q q'' b b'' w t steps (input ++ bytes)
 one_read_more {q = q} {q' = q'} {q'' = q''} {b = b} {b' = b'} {b'' = b''} input bytes x sink p holds made beside long =
     record {
       reads = p.reads ++ x ∷ [];
@@ -137,11 +137,10 @@ answers_beside i steps more others =
     sym (answers_of-append i steps more ∙ ap (λ (x : List (List ℕ)). answers_of i steps ++ x) (no_answers i more others)
     ∙ append-nil (answers_of i steps))
 
-going_beside : {i : ℕ} {k l : Known} {c c' c'' : Seen} {steps : List Step} {has_more shown : Bool}
-    {rest pending : List ℕ} (more : List Step) → AllByRecursion (OfOther i) more → (c''.honest → c'.honest)
-    → IsGoing i k l c c' steps has_more shown rest pending
-    → IsGoing i k l c c'' (steps ++ more) has_more shown rest pending
-going_beside {i} {k} {l} {c} {c'} {c''} {steps} {has_more} {shown} {rest} {pending} more others honest g =
+going_beside : {i : ℕ} {k l : Known} {steps : List Step} {has_more shown : Bool}
+    {rest pending : List ℕ} (more : List Step) → AllByRecursion (OfOther i) more → IsGoing i k l steps has_more shown rest pending
+    → IsGoing i k l (steps ++ more) has_more shown rest pending
+going_beside {i} {k} {l} {steps} {has_more} {shown} {rest} {pending} more others g =
     let own = own_beside i steps more others in
     record {
       read = subst (λ (ts : List Turn). Consumes k.reader l.reader (texts_of ts ++ rest)) own g.read;
@@ -152,13 +151,12 @@ going_beside {i} {k} {l} {c} {c'} {c''} {steps} {has_more} {shown} {rest} {pendi
       answers = g.answers ∙ ap joined (answers_beside i steps more others);
       more = g.more;
       through = g.through;
-      prompt = reads_further more honest (ap (λ (ts : List Turn). texts_of ts ++ rest) own) g.prompt;
+      prompt = reads_further more (ap (λ (ts : List Turn). texts_of ts ++ rest) own) g.prompt;
     }
 
-parted_beside : {i : ℕ} {k l : Known} {c c' c'' : Seen} {steps : List Step} {pending : List ℕ} {p : Parting}
-    (more : List Step) → AllByRecursion (OfOther i) more → (c''.honest → c'.honest)
-    → IsParted i k l c c' steps pending p → IsParted i k l c c'' (steps ++ more) pending p
-parted_beside {i} {k} {l} {c} {c'} {c''} {steps} {pending} {p} more others honest g =
+parted_beside : {i : ℕ} {k l : Known} {steps : List Step} {pending : List ℕ} {p : Parting}
+    (more : List Step) → AllByRecursion (OfOther i) more → IsParted i k l steps pending p → IsParted i k l (steps ++ more) pending p
+parted_beside {i} {k} {l} {steps} {pending} {p} more others g =
     let own = own_beside i steps more others in
     record {
       lost = g.lost;
@@ -174,22 +172,22 @@ parted_beside {i} {k} {l} {c} {c'} {c''} {steps} {pending} {p} more others hones
       more = g.more;
       left = g.left;
       ends = g.ends;
-      prompt = reads_further more honest (ap (λ (ts : List Turn). texts_of (ts ++ g.lost) ++ g.rest) own) g.prompt;
+      prompt = reads_further more (ap (λ (ts : List Turn). texts_of (ts ++ g.lost) ++ g.rest) own) g.prompt;
     }
 
-pub stands_beside : {i : ℕ} {k l : Known} {c c' c'' : Seen} {steps : List Step} (p : Option Parting)
+pub stands_beside : {i : ℕ} {k l : Known} {steps : List Step} (p : Option Parting)
     {has_more shown : Bool} {rest pending : List ℕ} (more : List Step) → AllByRecursion (OfOther i) more
-    → (c''.honest → c'.honest) → StandsAs p i k l c c' steps has_more shown rest pending
-    → StandsAs p i k l c c'' (steps ++ more) has_more shown rest pending
-stands_beside None more others honest s = record { is = going_beside more others honest s.is }
-stands_beside (Some p) more others honest s = record { is = parted_beside more others honest s.is }
+    → StandsAs p i k l steps has_more shown rest pending
+    → StandsAs p i k l (steps ++ more) has_more shown rest pending
+stands_beside None more others s = record { is = going_beside more others s.is }
+stands_beside (Some p) more others s = record { is = parted_beside more others s.is }
 
 -- ---- one whose connection was closed
 
-pub served_beside : {i : ℕ} {k l : Known} {c c' c'' : Seen} {steps : List Step} {p : Parting} (more : List Step)
-    → AllByRecursion (OfOther i) more → (c''.honest → c'.honest) → ClientIsServed i k l c c' steps p
-    → ClientIsServed i k l c c'' (steps ++ more) p
-served_beside {i} {k} {l} {c} {c'} {c''} {steps} {p} more others honest g =
+pub served_beside : {i : ℕ} {k l : Known} {steps : List Step} {p : Parting} (more : List Step)
+    → AllByRecursion (OfOther i) more → ClientIsServed i k l steps p
+    → ClientIsServed i k l (steps ++ more) p
+served_beside {i} {k} {l} {steps} {p} more others g =
     let own = own_beside i steps more others in
     record {
       lost = g.lost;
@@ -203,5 +201,5 @@ served_beside {i} {k} {l} {c} {c'} {c''} {steps} {p} more others honest g =
       answers = subst (λ (x : List (List ℕ)). IsWrittenAs p g.written (joined (x ++ g.last)))
           (answers_beside i steps more others) g.answers;
       ends = g.ends;
-      prompt = reads_further more honest (ap (λ (ts : List Turn). texts_of (ts ++ g.lost) ++ g.rest) own) g.prompt;
+      prompt = reads_further more (ap (λ (ts : List Turn). texts_of (ts ++ g.lost) ++ g.rest) own) g.prompt;
     }

@@ -26,31 +26,31 @@ use Rattle.counter_http.proofs.Crowds.{all_without, crowd_comes, crowd_leaves, c
 -- ---- one after another
 
 crowd_by : {R W : Type 0} {stops : Type 0} {given : List ℕ} {known : R × W → Known} {g : Option (List (ClientsCall (R × W)))}
-    {made : List (ClientsCall (R × W))} {c c' : Seen} {steps : List Step} {fault : Option Fault} {refused : List Step} {s : Type 0}
+    {made : List (ClientsCall (R × W))} {steps : List Step} {fault : Option Fault} {refused : List Step} {s : Type 0}
     (far : s → stops) (ms : List (Scene R W)) (calls : List (ClientsCall (R × W))) (a b : Scene R W) → Moves s given ms calls a b
-    → IsCrowd stops given known g made c c' steps fault refused a
-    → IsCrowd stops given known g (made ++ calls) c c' steps fault refused b
-crowd_by {R} {W} {stops} {given} {known} {g} {made} {c} {c'} {steps} {fault} {refused} far [] calls a b same crowd =
-    subst (λ (x : List (ClientsCall (R × W))). IsCrowd stops given known g x c c' steps fault refused b)
+    → IsCrowd stops given known g made steps fault refused a
+    → IsCrowd stops given known g (made ++ calls) steps fault refused b
+crowd_by {R} {W} {stops} {given} {known} {g} {made} {steps} {fault} {refused} far [] calls a b same crowd =
+    subst (λ (x : List (ClientsCall (R × W))). IsCrowd stops given known g x steps fault refused b)
     (sym (ap (λ (x : List (ClientsCall (R × W))). made ++ x) same.1 ∙ append-nil made))
-    (subst (λ (x : Scene R W). IsCrowd stops given known g made c c' steps fault refused x) (sym same.0) crowd)
-crowd_by {R} {W} {stops} {given} {known} {g} {made} {c} {c'} {steps} {fault} {refused} {s} far (m ∷ ms) calls a b
+    (subst (λ (x : Scene R W). IsCrowd stops given known g made steps fault refused x) (sym same.0) crowd)
+crowd_by {R} {W} {stops} {given} {known} {g} {made} {steps} {fault} {refused} {s} far (m ∷ ms) calls a b
     (one, rest, are, moves) crowd =
-    subst (λ (x : List (ClientsCall (R × W))). IsCrowd stops given known g x c c' steps fault refused b)
+    subst (λ (x : List (ClientsCall (R × W))). IsCrowd stops given known g x steps fault refused b)
     (append_assoc made (calls_by one) rest ∙ ap (λ (x : List (ClientsCall (R × W))). made ++ x) (sym are))
     (crowd_by far ms rest m b moves (one_moved one))
   where
     one_moved : (one : Comes a m ⊎ (Leaves s given a m ⊎ Stays a m))
-        → IsCrowd stops given known g (made ++ calls_by one) c c' steps fault refused m
+        → IsCrowd stops given known g (made ++ calls_by one) steps fault refused m
     one_moved (inl came) = crowd_comes m crowd came
     one_moved (inr (inl left)) = crowd_leaves m far crowd left
     one_moved (inr (inr same)) = crowd_stays m crowd same
 
 pub crowd_moved : {R W : Type 0} {stops : Type 0} {given : List ℕ} {known : R × W → Known} {g : Option (List (ClientsCall (R × W)))}
-    {made : List (ClientsCall (R × W))} {c c' : Seen} {steps : List Step} {fault : Option Fault} {refused : List Step} {s : Type 0}
+    {made : List (ClientsCall (R × W))} {steps : List Step} {fault : Option Fault} {refused : List Step} {s : Type 0}
     {a b : Scene R W} → (s → stops) → (moved : HaveMoved s given a b)
-    → IsCrowd stops given known g made c c' steps fault refused a
-    → IsCrowd stops given known g (made ++ moved.calls) c c' steps fault refused b
+    → IsCrowd stops given known g made steps fault refused a
+    → IsCrowd stops given known g (made ++ moved.calls) steps fault refused b
 crowd_moved {a = a} {b} far moved crowd = crowd_by far moved.scenes moved.calls a b moved.moves crowd
 
 -- nobody was waited for meanwhile

@@ -34,13 +34,13 @@ use Rattle.counter_http.proofs.Written.{number_written, written_here}
 
 -- ---- each client on its own
 
-here_as : {R W : Type 0} {known : R × W → Known} {c c' c'' : Seen} {steps steps' : List Step} {fault fault' : Option Fault}
+here_as : {R W : Type 0} {known : R × W → Known} {steps steps' : List Step} {fault fault' : Option Fault}
     {refused refused' : List Step} {calls : List (ClientsCall (R × W))} (old new : Client R W) → new.number ≡ old.number
-    → ((k : Known) → StandsHere known k c c' steps old → StandsHere known k c c'' steps' new)
-    → ((k : Known) → StandsHere known k c c' steps old → AreRefused known k c c' steps fault refused old
-    → AreRefused known k c c'' steps' fault' refused' new)
+    → ((k : Known) → StandsHere known k steps old → StandsHere known k steps' new)
+    → ((k : Known) → StandsHere known k steps old → AreRefused known k steps fault refused old
+    → AreRefused known k steps' fault' refused' new)
     → (IsToldSo fault refused old.number old.parting → IsToldSo fault' refused' old.number new.parting)
-    → IsHere known c c' steps fault refused calls old → IsHere known c c'' steps' fault' refused' calls new
+    → IsHere known steps fault refused calls old → IsHere known steps' fault' refused' calls new
 here_as {fault' = fault'} {refused' = refused'} {calls = calls} old new number stands still told is = record {
   given = is.given;
   came = subst (λ (n : ℕ). Contains calls (Gave n is.given)) (sym number) is.came;
@@ -72,11 +72,11 @@ read_told old new (inr (inl some)) told = told_none new.parting None some.goes_o
 read_told old new (inr (inr (inl end))) told = ended_told old new end.says
 read_told old new (inr (inr (inr last))) told = told_none new.parting (Some parting.Read) last.parting (λ why e. cc e)
 
-goes_here : {R W : Type 0} {known : R × W → Known} {c c' : Seen} {steps : List Step} {calls : List (ClientsCall (R × W))}
-    (old new : Client R W) → GoesOn known old new → IsHere known c c' steps None [] calls old
-    → IsHere known c c' steps None [] calls new
-goes_here {known = known} {c} {c'} {steps} {calls} old new (inl same) is =
-    subst (λ (x : Client _ _). IsHere known c c' steps None [] calls x) (sym same) is
+goes_here : {R W : Type 0} {known : R × W → Known} {steps : List Step} {calls : List (ClientsCall (R × W))}
+    (old new : Client R W) → GoesOn known old new → IsHere known steps None [] calls old
+    → IsHere known steps None [] calls new
+goes_here {known = known} {steps} {calls} old new (inl same) is =
+    subst (λ (x : Client _ _). IsHere known steps None [] calls x) (sym same) is
 goes_here old new (inr served) is =
     here_as old new (number_read served.between new served.reads ∙ number_written old served.between served.writes)
     (λ k stands. read_here served.between new served.reads (written_here old served.between served.writes stands))
@@ -88,22 +88,22 @@ goes_number old new (inl same) = ap (λ (x : Client _ _). x.number) same
 goes_number old new (inr served) =
     number_read served.between new served.reads ∙ number_written old served.between served.writes
 
-told_written : {R W : Type 0} (known : R × W → Known) (k : Known) (c c' : Seen) (steps : List Step) (fault : Option Fault)
+told_written : {R W : Type 0} (known : R × W → Known) (k : Known) (steps : List Step) (fault : Option Fault)
     (refused : List Step) (old new : Client R W) → Writes known old new
-    → AreRefused known k c c' steps fault refused old → AreRefused known k c c' steps fault refused new
-told_written known k c c' steps None refused old new w all = tt
-told_written known k c c' steps (Some why) [] old new w all = tt
-told_written known k c c' steps (Some why) (s ∷ ss) old new w all = (
+    → AreRefused known k steps fault refused old → AreRefused known k steps fault refused new
+told_written known k steps None refused old new w all = tt
+told_written known k steps (Some why) [] old new w all = tt
+told_written known k steps (Some why) (s ∷ ss) old new w all = (
   (λ own. refused_written old new w (all.0 (own ∙ number_written old new w))),
-  told_written known k c c' steps (Some why) ss old new w all.1,
+  told_written known k steps (Some why) ss old new w all.1,
 )
 
-writes_here : {R W : Type 0} {known : R × W → Known} {c c' : Seen} {steps : List Step} {fault : Option Fault}
+writes_here : {R W : Type 0} {known : R × W → Known} {steps : List Step} {fault : Option Fault}
     {refused : List Step} {calls : List (ClientsCall (R × W))} (old new : Client R W) → Writes known old new
-    → IsHere known c c' steps fault refused calls old → IsHere known c c' steps fault refused calls new
-writes_here {known = known} {c} {c'} {steps} {fault} {refused} old new w is =
+    → IsHere known steps fault refused calls old → IsHere known steps fault refused calls new
+writes_here {known = known} {steps} {fault} {refused} old new w is =
     here_as old new (number_written old new w) (λ k stands. written_here old new w stands)
-    (λ k stands all. told_written known k c c' steps fault refused old new w all) (written_told old new w) is
+    (λ k stands all. told_written known k steps fault refused old new w all) (written_told old new w) is
 
 pub same_numbers : {R W : Type 0} (M : Client R W → Client R W → Type 0)
     → ((x y : Client R W) → M x y → y.number ≡ x.number) → (xs ys : List (Client R W)) → AllZip M xs ys
@@ -123,13 +123,13 @@ all_by M P Q f (x ∷ xs) [] all h = absurd all
 all_by M P Q f (x ∷ xs) (y ∷ ys) all h = (f x y all.0 h.0, all_by M P Q f xs ys all.1 h.1)
 
 -- the same clients are here, and stand there
-pub crowd_as : {R W : Type 0} {stops : Type 0} {given : List ℕ} {known : R × W → Known} {g t : Option (List (ClientsCall (R × W)))} {c c' : Seen}
+pub crowd_as : {R W : Type 0} {stops : Type 0} {given : List ℕ} {known : R × W → Known} {g t : Option (List (ClientsCall (R × W)))}
     {calls : List (ClientsCall (R × W))} {steps : List Step} {fault : Option Fault} {refused : List Step} {came : ℕ} {here : List (Client R W)}
     (here' : List (Client R W))
-    → IsCrowd stops given known g calls c c' steps fault refused (record { calls = t; came = came; here = here })
+    → IsCrowd stops given known g calls steps fault refused (record { calls = t; came = came; here = here })
     → numbers here' ≡ numbers here
-    → AllByRecursion (IsHere known c c' steps fault refused calls) here'
-    → IsCrowd stops given known g calls c c' steps fault refused (record { calls = t; came = came; here = here' })
+    → AllByRecursion (IsHere known steps fault refused calls) here'
+    → IsCrowd stops given known g calls steps fault refused (record { calls = t; came = came; here = here' })
 crowd_as {steps = steps} {fault} {refused} {came} {here} here' crowd same stand =
     let all = ap (λ (ns : List ℕ). map number_of crowd.visits ++ ns) (sym same) in
     record {
@@ -147,29 +147,29 @@ crowd_as {steps = steps} {fault} {refused} {came} {here} here' crowd same stand 
       many = subst (λ (ns : List ℕ). length ns ≡ came) all crowd.many;
     }
 
-pub crowd_goes : {R W : Type 0} {stops : Type 0} {given : List ℕ} {known : R × W → Known} {g t : Option (List (ClientsCall (R × W)))} {c c' : Seen}
+pub crowd_goes : {R W : Type 0} {stops : Type 0} {given : List ℕ} {known : R × W → Known} {g t : Option (List (ClientsCall (R × W)))}
     {calls : List (ClientsCall (R × W))} {steps : List Step} {came : ℕ} (here here' : List (Client R W)) → AllZip (GoesOn known) here here'
-    → IsCrowd stops given known g calls c c' steps None [] (record { calls = t; came = came; here = here })
-    → IsCrowd stops given known g calls c c' steps None [] (record { calls = t; came = came; here = here' })
-crowd_goes {known = known} {c = c} {c'} {calls} {steps} here here' goes crowd =
+    → IsCrowd stops given known g calls steps None [] (record { calls = t; came = came; here = here })
+    → IsCrowd stops given known g calls steps None [] (record { calls = t; came = came; here = here' })
+crowd_goes {known = known} {calls} {steps} here here' goes crowd =
     crowd_as here' crowd (same_numbers (GoesOn known) goes_number here here' goes)
-    (all_by (GoesOn known) (IsHere known c c' steps None [] calls) (IsHere known c c' steps None [] calls) goes_here here here'
+    (all_by (GoesOn known) (IsHere known steps None [] calls) (IsHere known steps None [] calls) goes_here here here'
     goes crowd.are_here)
 
-pub crowd_writes : {R W : Type 0} {stops : Type 0} {given : List ℕ} {known : R × W → Known} {g t : Option (List (ClientsCall (R × W)))} {c c' : Seen}
+pub crowd_writes : {R W : Type 0} {stops : Type 0} {given : List ℕ} {known : R × W → Known} {g t : Option (List (ClientsCall (R × W)))}
     {calls : List (ClientsCall (R × W))} {steps : List Step} {fault : Option Fault} {refused : List Step} {came : ℕ} (here here' : List (Client R W))
     → AllZip (Writes known) here here'
-    → IsCrowd stops given known g calls c c' steps fault refused (record { calls = t; came = came; here = here })
-    → IsCrowd stops given known g calls c c' steps fault refused (record { calls = t; came = came; here = here' })
-crowd_writes {known = known} {c = c} {c'} {calls} {steps} {fault} {refused} here here' writes crowd =
+    → IsCrowd stops given known g calls steps fault refused (record { calls = t; came = came; here = here })
+    → IsCrowd stops given known g calls steps fault refused (record { calls = t; came = came; here = here' })
+crowd_writes {known = known} {calls} {steps} {fault} {refused} here here' writes crowd =
     crowd_as here' crowd (same_numbers (Writes known) number_written here here' writes)
-    (all_by (Writes known) (IsHere known c c' steps fault refused calls) (IsHere known c c' steps fault refused calls) writes_here here
+    (all_by (Writes known) (IsHere known steps fault refused calls) (IsHere known steps fault refused calls) writes_here here
     here' writes crowd.are_here)
 
 -- no two have the same number
-pub crowd_differs : {R W : Type 0} {stops : Type 0} {given : List ℕ} {known : R × W → Known} {g : Option (List (ClientsCall (R × W)))} {c c' : Seen}
+pub crowd_differs : {R W : Type 0} {stops : Type 0} {given : List ℕ} {known : R × W → Known} {g : Option (List (ClientsCall (R × W)))}
     {calls : List (ClientsCall (R × W))} {steps : List Step} {fault : Option Fault} {refused : List Step} {a : Scene R W}
-    → IsCrowd stops given known g calls c c' steps fault refused a → AllPairs (λ (m n : ℕ). m ≢ n) (numbers a.here)
+    → IsCrowd stops given known g calls steps fault refused a → AllPairs (λ (m n : ℕ). m ≢ n) (numbers a.here)
 crowd_differs {a = a} crowd =
     pairs_differ (numbers a.here) (last_of (map number_of crowd.visits) (numbers a.here) crowd.differ)
   where
@@ -178,17 +178,17 @@ crowd_differs {a = a} crowd =
     last_of (x ∷ xs) ys d = last_of xs ys d.1
 
 -- where one waits for more, its whole messages are answered
-up_to_date : {R W : Type 0} {known : R × W → Known} {c c' : Seen} {steps : List Step} {fault : Option Fault}
+up_to_date : {R W : Type 0} {known : R × W → Known} {steps : List Step} {fault : Option Fault}
     {refused : List Step} {calls : List (ClientsCall (R × W))} (client : Client R W)
-    → IsHere known c c' steps fault refused calls client → IsUpToDate client
+    → IsHere known steps fault refused calls client → IsUpToDate client
 up_to_date client is going none =
     unfinished_none (unread client) ((going_of client going is.stands).waits none)
 
-pub all_up_to_date : {R W : Type 0} {stops : Type 0} {given : List ℕ} {known : R × W → Known} {g : Option (List (ClientsCall (R × W)))} {c c' : Seen}
+pub all_up_to_date : {R W : Type 0} {stops : Type 0} {given : List ℕ} {known : R × W → Known} {g : Option (List (ClientsCall (R × W)))}
     {calls : List (ClientsCall (R × W))} {steps : List Step} {fault : Option Fault} {refused : List Step} {a : Scene R W}
-    → IsCrowd stops given known g calls c c' steps fault refused a → AllByRecursion IsUpToDate a.here
-all_up_to_date {known = known} {c = c} {c'} {calls} {steps} {fault} {refused} {a} crowd =
-    each_weaker (IsHere known c c' steps fault refused calls) IsUpToDate up_to_date a.here crowd.are_here
+    → IsCrowd stops given known g calls steps fault refused a → AllByRecursion IsUpToDate a.here
+all_up_to_date {known = known} {calls} {steps} {fault} {refused} {a} crowd =
+    each_weaker (IsHere known steps fault refused calls) IsUpToDate up_to_date a.here crowd.are_here
 
 -- ---- a round
 
@@ -202,12 +202,12 @@ others_of n ns (s ∷ ss) apart whose =
     (λ (e : s.client ≡ n). other (sym e), others_of n ns ss apart whose.1)
 
 -- and so those who left were served still
-none_refused : {E : Type 0} (known : E → Known) (c c' : Seen) (steps : List Step) (fault : Option Fault) (refused : List Step)
-    (v : Visit E) → AllByRecursion (OfOther v.number) refused → WereRefused known c c' steps fault refused v
-none_refused known c c' steps None refused v others = tt
-none_refused known c c' steps (Some why) [] v others = tt
-none_refused known c c' steps (Some why) (s ∷ ss) v others =
-    ((λ own. absurd (others.0 own)), none_refused known c c' steps (Some why) ss v others.1)
+none_refused : {E : Type 0} (known : E → Known) (steps : List Step) (fault : Option Fault) (refused : List Step)
+    (v : Visit E) → AllByRecursion (OfOther v.number) refused → WereRefused known steps fault refused v
+none_refused known steps None refused v others = tt
+none_refused known steps (Some why) [] v others = tt
+none_refused known steps (Some why) (s ∷ ss) v others =
+    ((λ own. absurd (others.0 own)), none_refused known steps (Some why) ss v others.1)
 
 why_further : {E : Type 0} (stops : Type 0) (calls : List (ClientsCall E)) (n : ℕ) (p : Parting) (fault : Option Fault)
     (refused : List Step) → IsWhyParted stops None [] calls n p → IsWhyParted stops fault refused calls n p
@@ -219,21 +219,21 @@ why_further stops calls n parting.Write fault refused is = tt
 why_further stops calls n parting.Memory fault refused is = tt
 why_further stops calls n (parting.Bank why) fault refused is = why_still [] is
 
-visited_further : {R W : Type 0} (stops : Type 0) (known : R × W → Known) (c c' c'' : Seen) (steps : List Step)
+visited_further : {R W : Type 0} (stops : Type 0) (known : R × W → Known) (steps : List Step)
     (calls : List (ClientsCall (R × W))) (ns : List ℕ) (more : List Step) (fault : Option Fault) (refused : List Step)
-    (visits : List (Visit (R × W))) → (c''.honest → c'.honest) → AllByRecursion (IsOfOneOf ns) more
+    (visits : List (Visit (R × W))) → AllByRecursion (IsOfOneOf ns) more
     → AllByRecursion (IsOfOneOf ns) refused → Differ (map number_of visits ++ ns)
-    → AllByRecursion (HasLeft stops known c c' steps None [] calls) visits
-    → AllByRecursion (HasLeft stops known c c'' (steps ++ more) fault refused calls) visits
-visited_further stops known c c' c'' steps calls ns more fault refused [] honest whose too differ all = tt
-visited_further stops known c c' c'' steps calls ns more fault refused (v ∷ vs) honest whose too differ all =
+    → AllByRecursion (HasLeft stops known steps None [] calls) visits
+    → AllByRecursion (HasLeft stops known (steps ++ more) fault refused calls) visits
+visited_further stops known steps calls ns more fault refused [] whose too differ all = tt
+visited_further stops known steps calls ns more fault refused (v ∷ vs) whose too differ all =
     let apart = all_last (λ (m : ℕ). v.number ≢ m) (map number_of vs) ns differ.0 in (
       (
-        (all.0.0.0, served_beside more (others_of v.number ns more apart whose) honest all.0.0.1),
-        none_refused known c c'' (steps ++ more) fault refused v (others_of v.number ns refused apart too),
+        (all.0.0.0, served_beside more (others_of v.number ns more apart whose) all.0.0.1),
+        none_refused known (steps ++ more) fault refused v (others_of v.number ns refused apart too),
         why_further stops calls v.number v.parting fault refused all.0.2,
       ),
-      visited_further stops known c c' c'' steps calls ns more fault refused vs honest whose too differ.1 all.1,
+      visited_further stops known steps calls ns more fault refused vs whose too differ.1 all.1,
     )
 
 whose_more : (ms ns : List ℕ) (ss : List Step) → AllByRecursion (IsOfOneOf ns) ss → AllByRecursion (IsOfOneOf (ms ++ ns)) ss
@@ -264,37 +264,35 @@ zip_places M (x ∷ xs) (y ∷ ys) same at = (
     rest_of (x ∷ xs) = xs
 
 pub crowd_round : {C R W : Type 0} (seen : C → Seen) {reason : Fault → C → C → Type 0} {known : R × W → Known}
-    {k k' : Option (List ℕ)} {g t : Option (List (ClientsCall (R × W)))} {X : Type 0} (first old new : C)
+    {k k' : Option (List ℕ)} {g t : Option (List (ClientsCall (R × W)))} {X : Type 0} (old new : C)
     {calls : List (ClientsCall (R × W))} (steps : List Step) {came seconds : ℕ} {u u' : Tally} (here here' : List (Client R W))
     (result : Result X Fault)
-    → IsCrowd ⊥ [] known g calls (seen first) (seen old) steps None [] (record { calls = t; came = came; here = here })
-    → Takes (seen first) (seen old) (submitted_by steps)
+    → IsCrowd ⊥ [] known g calls steps None [] (record { calls = t; came = came; here = here })
     → (r : AnswersRound seen reason known k k' old new here here' u u' seconds result)
-    → IsCrowd ⊥ [] known g calls (seen first) (seen new) (steps ++ steps_in r.round) (fault_in result) r.refused
+    → IsCrowd ⊥ [] known g calls (steps ++ steps_in r.round) (fault_in result) r.refused
     (record { calls = t; came = came; here = here' })
-crowd_round {C} {R} {W} seen {known = known} first old new {calls} steps {came = came} here here' result crowd takes r =
+crowd_round {C} {R} {W} seen {known = known} old new {calls} steps {came = came} here here' result crowd r =
     let more = steps_in r.round in
     let fault = fault_in result in
-    let honest : (seen new).honest → (seen old).honest = λ h. r.honest_first (r.honest h) in
     let all = ap (λ (ns : List ℕ). map number_of crowd.visits ++ ns) (sym r.same) in
     let vs = map number_of crowd.visits in
     let Moved : Client R W → Client R W → Type 0 =
-    λ x y. Fares fault r.refused more x y × ((l : Known) → StandsHere known l (seen first) (seen old) steps x
-    → StandsHere known l (seen first) (seen new) (steps ++ more) y
-    × AreRefused known l (seen first) (seen new) (steps ++ more) fault r.refused y) in
+    λ x y. Fares fault r.refused more x y × ((l : Known) → StandsHere known l steps x
+    → StandsHere known l (steps ++ more) y
+    × AreRefused known l (steps ++ more) fault r.refused y) in
     let zip = zip_places Moved here here' r.same (λ p x y is is'. (
       r.fare p x y is is',
-      λ l stands. (r.stand p x y is is' l first steps takes stands, r.are_told p x y is is' l first steps takes stands),
+      λ l stands. (r.stand p x y is is' l steps stands, r.are_told p x y is is' l steps stands),
     )) in
     record {
       made = crowd.made;
       visits = crowd.visits;
       closed = crowd.closed;
-      visited = visited_further ⊥ known (seen first) (seen old) (seen new) steps calls (numbers here) more fault r.refused crowd.visits honest r.whose r.whose_refused crowd.differ crowd.visited;
+      visited = visited_further ⊥ known steps calls (numbers here) more fault r.refused crowd.visits r.whose r.whose_refused crowd.differ crowd.visited;
       to_give_up = none_given fault calls;
       are_here = all_by (λ (x y : Client R W). (y.number ≡ x.number) × Moved x y)
-          (IsHere known (seen first) (seen old) steps None [] calls)
-          (IsHere known (seen first) (seen new) (steps ++ more) fault r.refused calls)
+          (IsHere known steps None [] calls)
+          (IsHere known (steps ++ more) fault r.refused calls)
           (λ x y m is. here_as x y m.0 (λ l stands. (m.1.1 l stands).0)
           (λ l stands were. (m.1.1 l stands).1) m.1.0.told is) here here' zip crowd.are_here;
       now = r.same ∙ crowd.now;

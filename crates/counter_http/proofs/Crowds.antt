@@ -150,9 +150,9 @@ one_left n (m ∷ ms) ns d =
 
 -- ---- those who are here and those who left, as more calls are made
 
-here_told : {R W : Type 0} {known : R × W → Known} {c c' : Seen} {steps : List Step} {fault : Option Fault}
+here_told : {R W : Type 0} {known : R × W → Known} {steps : List Step} {fault : Option Fault}
     {refused : List Step} (calls more : List (ClientsCall (R × W)))
-    (client : Client R W) → IsHere known c c' steps fault refused calls client → IsHere known c c' steps fault refused (calls ++ more) client
+    (client : Client R W) → IsHere known steps fault refused calls client → IsHere known steps fault refused (calls ++ more) client
 here_told calls more client is =
     record {
       given = is.given;
@@ -173,11 +173,11 @@ why_told stops fault refused calls more n parting.Write is = tt
 why_told stops fault refused calls more n parting.Memory is = tt
 why_told stops fault refused calls more n (parting.Bank why) is = is
 
-visited_told : {E : Type 0} (stops : Type 0) (known : E → Known) (c c' : Seen) (steps : List Step) (fault : Option Fault)
+visited_told : {E : Type 0} (stops : Type 0) (known : E → Known) (steps : List Step) (fault : Option Fault)
     (refused : List Step) (calls more : List (ClientsCall E))
-    (v : Visit E) → HasLeft stops known c c' steps fault refused calls v
-    → HasLeft stops known c c' steps fault refused (calls ++ more) v
-visited_told stops known c c' steps fault refused calls more v is =
+    (v : Visit E) → HasLeft stops known steps fault refused calls v
+    → HasLeft stops known steps fault refused (calls ++ more) v
+visited_told stops known steps fault refused calls more v is =
     ((Contains-append_left calls more _ is.0.0, is.0.1), is.1, why_told stops fault refused calls more v.number v.parting is.2)
 
 given_told : {E : Type 0} (calls more : List (ClientsCall E)) (fault : Option Fault) (given : List ℕ)
@@ -189,9 +189,9 @@ given_told calls more None given all =
 
 -- ---- a client that came in
 
-new_going : {i : ℕ} {k : Known} {c c' : Seen} (steps : List Step) (has_more : Bool) → AllByRecursion (OfOther i) steps
-    → IsGoing i k k c c' steps has_more true [] []
-new_going {i} {k} {c} {c'} steps has_more others =
+new_going : {i : ℕ} {k : Known} (steps : List Step) (has_more : Bool) → AllByRecursion (OfOther i) steps
+    → IsGoing i k k steps has_more true [] []
+new_going {i} {k} steps has_more others =
     let own : of_client i steps ≡ [] = none_of i steps others in
     record {
       read = rw own (Consumes-nil k.reader);
@@ -205,16 +205,16 @@ new_going {i} {k} {c} {c'} steps has_more others =
       prompt = rw own (none_read_yet i k.reads k.beside steps);
     }
 
-new_here : {R W : Type 0} {known : R × W → Known} {c c' : Seen} (steps : List Step) (number : ℕ) (given : R × W)
+new_here : {R W : Type 0} {known : R × W → Known} (steps : List Step) (number : ℕ) (given : R × W)
     (client : Client R W) → IsNew number given.0 given.1 client → AllByRecursion (OfOther number) steps
-    → StandsHere known (known given) c c' steps client
-new_here {known = known} {c} {c'} steps number given client is others =
+    → StandsHere known (known given) steps client
+new_here {known = known} steps number given client is others =
     let ends = ends_by known is.reader_is is.writer_is in
     elim is.parting [
       | inl going ↦ going_here client is.number_is going ends refl is.shows is.unread_none is.pending_none
           (new_going steps client.has_more others)
       | inr lost ↦ parted_here client parting.Memory is.number_is lost ends is.pending_none
-          (lost_as parting.Memory tt (left_as None (record { is = new_going {c = c} {c' = c'} steps true others })) tt)
+          (lost_as parting.Memory tt (left_as None (record { is = new_going steps true others })) tt)
     ]
 
 new_told : {fault : Option Fault} {refused : List Step} {n : ℕ} (p : Option Parting) → (p ≡ None) ⊎ (p ≡ Some parting.Memory)
@@ -223,13 +223,13 @@ new_told p (inl going) = told_none p None going (λ why e. cc e)
 new_told p (inr lost) = told_none p (Some parting.Memory) lost none_memory
 
 -- nothing of it was refused
-none_told : {R W : Type 0} (known : R × W → Known) (k : Known) (c c' : Seen) (steps : List Step) (fault : Option Fault)
+none_told : {R W : Type 0} (known : R × W → Known) (k : Known) (steps : List Step) (fault : Option Fault)
     (refused : List Step) (client : Client R W) → AllByRecursion (OfOther client.number) refused
-    → AreRefused known k c c' steps fault refused client
-none_told known k c c' steps None refused client others = tt
-none_told known k c c' steps (Some why) [] client others = tt
-none_told known k c c' steps (Some why) (s ∷ ss) client others =
-    ((λ own. absurd (others.0 own)), none_told known k c c' steps (Some why) ss client others.1)
+    → AreRefused known k steps fault refused client
+none_told known k steps None refused client others = tt
+none_told known k steps (Some why) [] client others = tt
+none_told known k steps (Some why) (s ∷ ss) client others =
+    ((λ own. absurd (others.0 own)), none_told known k steps (Some why) ss client others.1)
 
 not_yet : (ns : List ℕ) (steps : List Step) (came : ℕ) → AllByRecursion (λ (n : ℕ). n < came) ns
     → AllByRecursion (IsOfOneOf ns) steps → AllByRecursion (OfOther came) steps
@@ -263,21 +263,21 @@ numbers_more visits here here' client n is number =
     ∙ sym (append_assoc (map number_of visits) (numbers here) (n ∷ []))
 
 pub crowd_comes : {R W : Type 0} {stops : Type 0} {given : List ℕ} {known : R × W → Known} {g : Option (List (ClientsCall (R × W)))}
-    {made : List (ClientsCall (R × W))} {c c' : Seen} {steps : List Step} {fault : Option Fault} {refused : List Step}
-    {a : Scene R W} (b : Scene R W) → IsCrowd stops given known g made c c' steps fault refused a → (m : Comes a b)
-    → IsCrowd stops given known g (made ++ Gave a.came m.given ∷ []) c c' steps fault refused b
-crowd_comes {R} {W} {stops} {given} {known} {g} {made} {c} {c'} {steps} {fault} {refused} {a} b crowd m =
+    {made : List (ClientsCall (R × W))} {steps : List Step} {fault : Option Fault} {refused : List Step}
+    {a : Scene R W} (b : Scene R W) → IsCrowd stops given known g made steps fault refused a → (m : Comes a b)
+    → IsCrowd stops given known g (made ++ Gave a.came m.given ∷ []) steps fault refused b
+crowd_comes {R} {W} {stops} {given} {known} {g} {made} {steps} {fault} {refused} {a} b crowd m =
     let new : ClientsCall (R × W) = Gave a.came m.given in
     let calls = made ++ new ∷ [] in
     let all = numbers_more crowd.visits a.here b.here m.client a.came m.here m.is.number_is in
-    let one : IsHere known c c' steps fault refused calls m.client = record {
+    let one : IsHere known steps fault refused calls m.client = record {
       given = m.given;
       came = Contains-append_right made (new ∷ []) (Gave m.client.number m.given)
           (0, omega arith, ap (λ (n : ℕ). Gave n m.given) (sym m.is.number_is));
       stands = new_here steps a.came m.given m.client m.is
           (not_yet (all_numbers crowd.visits a.here) steps a.came crowd.below
           (all_first (IsOfOneOf (all_numbers crowd.visits a.here)) steps refused crowd.whose));
-      are_refused = none_told known (known m.given) c c' steps fault refused m.client
+      are_refused = none_told known (known m.given) steps fault refused m.client
           (subst (λ (n : ℕ). AllByRecursion (OfOther n) refused) (sym m.is.number_is)
           (not_yet (all_numbers crowd.visits a.here) refused a.came crowd.below
           (all_last (IsOfOneOf (all_numbers crowd.visits a.here)) steps refused crowd.whose)));
@@ -287,13 +287,13 @@ crowd_comes {R} {W} {stops} {given} {known} {g} {made} {c} {c'} {steps} {fault} 
       made = adds-more g a.calls b.calls made (new ∷ []) crowd.made m.made;
       visits = crowd.visits;
       closed = crowd.closed ∙ sym (closings-append made (new ∷ []) ∙ append-nil (closings made));
-      visited = each_weaker (HasLeft stops known c c' steps fault refused made)
-          (HasLeft stops known c c' steps fault refused calls)
-          (visited_told stops known c c' steps fault refused made (new ∷ [])) crowd.visits crowd.visited;
+      visited = each_weaker (HasLeft stops known steps fault refused made)
+          (HasLeft stops known steps fault refused calls)
+          (visited_told stops known steps fault refused made (new ∷ [])) crowd.visits crowd.visited;
       to_give_up = given_told made (new ∷ []) fault given crowd.to_give_up;
-      are_here = subst (λ (x : List (Client R W)). AllByRecursion (IsHere known c c' steps fault refused calls) x) (sym m.here)
-          (all_more (IsHere known c c' steps fault refused calls) a.here (m.client ∷ [])
-          (each_weaker (IsHere known c c' steps fault refused made) (IsHere known c c' steps fault refused calls)
+      are_here = subst (λ (x : List (Client R W)). AllByRecursion (IsHere known steps fault refused calls) x) (sym m.here)
+          (all_more (IsHere known steps fault refused calls) a.here (m.client ∷ [])
+          (each_weaker (IsHere known steps fault refused made) (IsHere known steps fault refused calls)
           (here_told made (new ∷ [])) a.here crowd.are_here) (one, tt));
       now = ap numbers m.here ∙ map-append number_in a.here (m.client ∷ [])
           ∙ ap (λ (n : ℕ). numbers a.here ++ n ∷ []) m.is.number_is ∙ ap (λ (ns : List ℕ). ns ++ a.came ∷ []) crowd.now
@@ -351,17 +351,17 @@ IfRefused None P = ⊤
 IfRefused (Some fault) P = P
 
 -- it was told what was refused of it
-left_told : {R W : Type 0} (known : R × W → Known) (c c' : Seen) (steps : List Step) (fault : Option Fault)
+left_told : {R W : Type 0} (known : R × W → Known) (steps : List Step) (fault : Option Fault)
     (refused : List Step) (client : Client R W) (given left : R × W) (cause p : Parting)
     → IsParting client cause (left.0, left.1, p) → IfRefused fault ((IsOver client → ⊥) → IsRefusedCause cause)
-    → AreRefused known (known given) c c' steps fault refused client
-    → WereRefused known c c' steps fault refused
+    → AreRefused known (known given) steps fault refused client
+    → WereRefused known steps fault refused
     (record { number = client.number; given = given; left = left; parting = p })
-left_told known c c' steps None refused client given left cause p is ours all = tt
-left_told known c c' steps (Some why) [] client given left cause p is ours all = tt
-left_told known c c' steps (Some why) (s ∷ ss) client given left cause p is ours all = (
+left_told known steps None refused client given left cause p is ours all = tt
+left_told known steps (Some why) [] client given left cause p is ours all = tt
+left_told known steps (Some why) (s ∷ ss) client given left cause p is ours all = (
   (λ own. refused_parted client cause (left.0, left.1, p) is ours (all.0 own)),
-  left_told known c c' steps (Some why) ss client given left cause p is ours all.1,
+  left_told known steps (Some why) ss client given left cause p is ours all.1,
 )
 
 -- for what cause it may be parted from
@@ -421,41 +421,41 @@ own_why stops fault refused calls n parting.Write left is told = tt
 own_why stops fault refused calls n parting.Memory left is told = tt
 own_why stops fault refused calls n (parting.Bank why) left is told = told.why why refl
 
-left_why : {R W : Type 0} {known : R × W → Known} {k : Known} {c c' : Seen} {steps : List Step} {s stops : Type 0}
+left_why : {R W : Type 0} {known : R × W → Known} {k : Known} {steps : List Step} {s stops : Type 0}
     (calls : List (ClientsCall (R × W))) (given : List ℕ) (fault : Option Fault) (refused : List Step) (client : Client R W)
     (cause : Parting) (parts : R × W × Parting) → IsParting client cause parts → (s → stops) → AreGivenUp fault calls given
-    → ((IsOver client → ⊥) → MayPart s given client.number cause) → StandsHere known k c c' steps client
+    → ((IsOver client → ⊥) → MayPart s given client.number cause) → StandsHere known k steps client
     → IsToldSo fault refused client.number client.parting → IsWhyParted stops fault refused calls client.number parts.2
-left_why {known = known} {k} {c} {c'} {steps} {s} {stops} calls given fault refused client cause parts is far to_give_up may
+left_why {known = known} {k} {steps} {s} {stops} calls given fault refused client cause parts is far to_give_up may
     stands told =
     elim is.why [
       | inl early ↦ subst (λ (q : Parting). IsWhyParted stops fault refused calls client.number q) (sym early.0)
           (may_why s stops calls given client.number cause fault refused far to_give_up (may early.1))
       | inr over ↦ own_why stops fault refused calls client.number parts.2 (pending client)
           (parted_left parts.2 (pending client) (subst (λ (q : Option Parting). StandsBy q client.number k
-          (known (client.reader, client.writer)) c c' steps client.has_more client.shows_body (unread client)
+          (known (client.reader, client.writer)) steps client.has_more client.shows_body (unread client)
           (pending client)) over.0 stands.is.is))
           (subst (λ (q : Option Parting). IsToldSo fault refused client.number q) over.0 told)
     ]
   where
-    parted_left : (p : Parting) (left : List ℕ) → IsParted client.number k (known (client.reader, client.writer)) c c' steps left p
+    parted_left : (p : Parting) (left : List ℕ) → IsParted client.number k (known (client.reader, client.writer)) steps left p
         → MayBeLeft p left
     parted_left p left is = is.left
 
 -- its place is known
 left_one : {R W : Type 0} {stops : Type 0} {given : List ℕ} {known : R × W → Known} {g t' : Option (List (ClientsCall (R × W)))}
-    {made : List (ClientsCall (R × W))} {c c' : Seen} {steps : List Step} {fault : Option Fault} {refused : List Step} (t : Option (List (ClientsCall (R × W)))) (came : ℕ) (before after : List (Client R W))
+    {made : List (ClientsCall (R × W))} {steps : List Step} {fault : Option Fault} {refused : List Step} (t : Option (List (ClientsCall (R × W)))) (came : ℕ) (before after : List (Client R W))
     (client : Client R W) {s : Type 0} (cause : Parting) → (s → stops)
-    → IsCrowd stops given known g made c c' steps fault refused
+    → IsCrowd stops given known g made steps fault refused
     (record { calls = t; came = came; here = before ++ client ∷ after })
     → ((IsOver client → ⊥) → MayPart s given client.number cause) → (closes : Closes t t' client cause)
-    → IsCrowd stops given known g (made ++ Closed client.number closes.left ∷ []) c c' steps fault refused
+    → IsCrowd stops given known g (made ++ Closed client.number closes.left ∷ []) steps fault refused
     (record { calls = t'; came = came; here = before ++ after })
-left_one {R} {W} {stops} {given} {known} {g} {t'} {made} {c} {c'} {steps} {fault} {refused} t came before after client {s} cause far crowd may closes =
+left_one {R} {W} {stops} {given} {known} {g} {t'} {made} {steps} {fault} {refused} t came before after client {s} cause far crowd may closes =
     let new : ClientsCall (R × W) = Closed client.number closes.left in
     let calls = made ++ new ∷ [] in
-    let parts = all_without (IsHere known c c' steps fault refused made) before after client crowd.are_here in
-    let one : IsHere known c c' steps fault refused made client = parts.0 in
+    let parts = all_without (IsHere known steps fault refused made) before after client crowd.are_here in
+    let one : IsHere known steps fault refused made client = parts.0 in
     let v : Visit (R × W) = record {
       number = client.number;
       given = one.given;
@@ -473,17 +473,17 @@ left_one {R} {W} {stops} {given} {known} {g} {t'} {made} {c} {c'} {steps} {fault
       closed = map-append closed_of crowd.visits (v ∷ [])
           ∙ ap (λ (x : List (ℕ × (R × W))). x ++ (client.number, closes.left) ∷ []) crowd.closed
           ∙ sym (closings-append made (new ∷ []));
-      visited = all_more (HasLeft stops known c c' steps fault refused calls) crowd.visits (v ∷ [])
-          (each_weaker (HasLeft stops known c c' steps fault refused made)
-          (HasLeft stops known c c' steps fault refused calls)
-          (visited_told stops known c c' steps fault refused made (new ∷ [])) crowd.visits crowd.visited) (
+      visited = all_more (HasLeft stops known steps fault refused calls) crowd.visits (v ∷ [])
+          (each_weaker (HasLeft stops known steps fault refused made)
+          (HasLeft stops known steps fault refused calls)
+          (visited_told stops known steps fault refused made (new ∷ [])) crowd.visits crowd.visited) (
             (
               (
                 Contains-append_left made (new ∷ []) _ one.came,
                 parted_with client cause (closes.left.0, closes.left.1, closes.parting) closes.is
                     (λ early. is_cause s given client.number cause (may early)) one.stands,
               ),
-              left_told known c c' steps fault refused client one.given closes.left cause closes.parting closes.is
+              left_told known steps fault refused client one.given closes.left cause closes.parting closes.is
                   (cause_where s made given client.number cause fault (IsOver client → ⊥) crowd.to_give_up may)
                   one.are_refused,
               why_told stops fault refused made (new ∷ []) client.number closes.parting
@@ -493,7 +493,7 @@ left_one {R} {W} {stops} {given} {known} {g} {t'} {made} {c} {c'} {steps} {fault
             tt,
           );
       to_give_up = given_told made (new ∷ []) fault given crowd.to_give_up;
-      are_here = each_weaker (IsHere known c c' steps fault refused made) (IsHere known c c' steps fault refused calls)
+      are_here = each_weaker (IsHere known steps fault refused made) (IsHere known steps fault refused calls)
           (here_told made (new ∷ [])) (before ++ after) parts.1;
       now = map-append number_in before after
           ∙ sym (one_left client.number (numbers before) (numbers after) (last_differ vs _ (subst Differ numbers_then crowd.differ)))
@@ -522,35 +522,35 @@ left_one {R} {W} {stops} {given} {known} {g} {t'} {made} {c} {c'} {steps} {fault
     }
 
 pub crowd_leaves : {R W : Type 0} {stops : Type 0} {given : List ℕ} {known : R × W → Known} {g : Option (List (ClientsCall (R × W)))}
-    {made : List (ClientsCall (R × W))} {c c' : Seen} {steps : List Step} {fault : Option Fault} {refused : List Step} {s : Type 0}
-    {a : Scene R W} (b : Scene R W) → (s → stops) → IsCrowd stops given known g made c c' steps fault refused a
+    {made : List (ClientsCall (R × W))} {steps : List Step} {fault : Option Fault} {refused : List Step} {s : Type 0}
+    {a : Scene R W} (b : Scene R W) → (s → stops) → IsCrowd stops given known g made steps fault refused a
     → (m : Leaves s given a b)
-    → IsCrowd stops given known g (made ++ Closed m.client.number m.closes.left ∷ []) c c' steps fault refused b
-crowd_leaves {R} {W} {stops} {given} {known} {g} {made} {c} {c'} {steps} {fault} {refused} {s} {a} b far crowd m =
+    → IsCrowd stops given known g (made ++ Closed m.client.number m.closes.left ∷ []) steps fault refused b
+crowd_leaves {R} {W} {stops} {given} {known} {g} {made} {steps} {fault} {refused} {s} {a} b far crowd m =
     let calls = made ++ Closed m.client.number m.closes.left ∷ [] in
-    subst (λ (x : List (Client R W)). IsCrowd stops given known g calls c c' steps fault refused
+    subst (λ (x : List (Client R W)). IsCrowd stops given known g calls steps fault refused
     (record { calls = b.calls; came = b.came; here = x }))
     (sym m.here)
-    (subst (λ (n : ℕ). IsCrowd stops given known g calls c c' steps fault refused
+    (subst (λ (n : ℕ). IsCrowd stops given known g calls steps fault refused
     (record { calls = b.calls; came = n; here = m.before ++ m.after }))
     (sym m.came)
     (left_one a.calls a.came m.before m.after m.client m.cause far
-    (subst (λ (x : List (Client R W)). IsCrowd stops given known g made c c' steps fault refused
+    (subst (λ (x : List (Client R W)). IsCrowd stops given known g made steps fault refused
     (record { calls = a.calls; came = a.came; here = x }))
     m.was crowd) m.why m.closes))
 
 -- ---- nobody comes or leaves
 
 pub waited : {R W : Type 0} {stops : Type 0} {given : List ℕ} {known : R × W → Known} {g t' : Option (List (ClientsCall (R × W)))}
-    {made : List (ClientsCall (R × W))} {c c' : Seen} {steps : List Step} {fault : Option Fault} {refused : List Step}
+    {made : List (ClientsCall (R × W))} {steps : List Step} {fault : Option Fault} {refused : List Step}
     (t : Option (List (ClientsCall (R × W)))) (came : ℕ) (here : List (Client R W)) (more : List (ClientsCall (R × W)))
     (given' : List ℕ)
-    → IsCrowd stops given known g made c c' steps fault refused (record { calls = t; came = came; here = here })
+    → IsCrowd stops given known g made steps fault refused (record { calls = t; came = came; here = here })
     → AreGivenUp fault (made ++ more) given' → GrowsBy t t' more → openings more ≡ [] → closings more ≡ []
     → ((ns : List ℕ) → here_after ns more ≡ ns)
-    → IsCrowd stops given' known g (made ++ more) c c' steps fault refused
+    → IsCrowd stops given' known g (made ++ more) steps fault refused
     (record { calls = t'; came = came; here = here })
-waited {R} {W} {stops} {given} {known} {g} {t'} {made} {c} {c'} {steps} {fault}
+waited {R} {W} {stops} {given} {known} {g} {t'} {made} {steps} {fault}
     {refused} t came here more given' crowd to_give_up grown none_came none_left same =
     let calls = made ++ more in
     record {
@@ -558,11 +558,11 @@ waited {R} {W} {stops} {given} {known} {g} {t'} {made} {c} {c'} {steps} {fault}
       visits = crowd.visits;
       closed = crowd.closed ∙ sym (closings-append made more
           ∙ ap (λ (x : List (ℕ × (R × W))). closings made ++ x) none_left ∙ append-nil (closings made));
-      visited = each_weaker (HasLeft stops known c c' steps fault refused made)
-          (HasLeft stops known c c' steps fault refused calls)
-          (visited_told stops known c c' steps fault refused made more) crowd.visits crowd.visited;
+      visited = each_weaker (HasLeft stops known steps fault refused made)
+          (HasLeft stops known steps fault refused calls)
+          (visited_told stops known steps fault refused made more) crowd.visits crowd.visited;
       to_give_up = to_give_up;
-      are_here = each_weaker (IsHere known c c' steps fault refused made) (IsHere known c c' steps fault refused calls)
+      are_here = each_weaker (IsHere known steps fault refused made) (IsHere known steps fault refused calls)
           (here_told made more) here crowd.are_here;
       now = crowd.now ∙ sym (here-append [] made more ∙ same (here_after [] made));
       differ = crowd.differ;
@@ -574,14 +574,14 @@ waited {R} {W} {stops} {given} {known} {g} {t'} {made} {c} {c'} {steps} {fault}
     }
 
 pub crowd_stays : {R W : Type 0} {stops : Type 0} {given : List ℕ} {known : R × W → Known} {g : Option (List (ClientsCall (R × W)))}
-    {made : List (ClientsCall (R × W))} {c c' : Seen} {steps : List Step} {fault : Option Fault} {refused : List Step}
-    {a : Scene R W} (b : Scene R W) → IsCrowd stops given known g made c c' steps fault refused a → (m : Stays a b)
-    → IsCrowd stops given known g (made ++ m.calls) c c' steps fault refused b
-crowd_stays {R} {W} {stops} {given} {known} {g} {made} {c} {c'} {steps} {fault} {refused} {a} b crowd m =
-    subst (λ (x : List (Client R W)). IsCrowd stops given known g (made ++ m.calls) c c' steps fault refused
+    {made : List (ClientsCall (R × W))} {steps : List Step} {fault : Option Fault} {refused : List Step}
+    {a : Scene R W} (b : Scene R W) → IsCrowd stops given known g made steps fault refused a → (m : Stays a b)
+    → IsCrowd stops given known g (made ++ m.calls) steps fault refused b
+crowd_stays {R} {W} {stops} {given} {known} {g} {made} {steps} {fault} {refused} {a} b crowd m =
+    subst (λ (x : List (Client R W)). IsCrowd stops given known g (made ++ m.calls) steps fault refused
     (record { calls = b.calls; came = b.came; here = x }))
     (sym m.here)
-    (subst (λ (n : ℕ). IsCrowd stops given known g (made ++ m.calls) c c' steps fault refused
+    (subst (λ (n : ℕ). IsCrowd stops given known g (made ++ m.calls) steps fault refused
     (record { calls = b.calls; came = n; here = a.here })) (sym m.came)
     (waited a.calls a.came a.here m.calls given crowd
     (given_told made m.calls fault given crowd.to_give_up) m.made
@@ -614,10 +614,10 @@ all_said {E} calls (n ∷ ns) = (
 
 -- a wait says whom to give up
 pub crowd_waits : {R W : Type 0} {stops : Type 0} {known : R × W → Known} {g t t' : Option (List (ClientsCall (R × W)))}
-    {calls : List (ClientsCall (R × W))} {c c' : Seen} {steps : List Step} {came : ℕ} {here : List (Client R W)}
+    {calls : List (ClientsCall (R × W))} {steps : List Step} {came : ℕ} {here : List (Client R W)}
     (ends : List (ℕ × (R × W))) (ns : List ℕ) → GrowsBy t t' (waited_told ends ns)
-    → IsCrowd stops [] known g calls c c' steps None [] (record { calls = t; came = came; here = here })
-    → IsCrowd stops ns known g (calls ++ waited_told ends ns) c c' steps None []
+    → IsCrowd stops [] known g calls steps None [] (record { calls = t; came = came; here = here })
+    → IsCrowd stops ns known g (calls ++ waited_told ends ns) steps None []
     (record { calls = t'; came = came; here = here })
 crowd_waits {R} {W} {t = t} {calls = calls} {came = came} {here = here} ends ns made crowd =
     waited t came here (waited_told ends ns) ns crowd
@@ -631,9 +631,9 @@ none_given (Some why) calls = refl
 
 -- nobody is to be given up any more
 pub crowd_on : {R W : Type 0} {stops : Type 0} {given : List ℕ} {known : R × W → Known}
-    {g : Option (List (ClientsCall (R × W)))} {calls : List (ClientsCall (R × W))} {c c' : Seen} {steps : List Step}
-    {fault : Option Fault} {refused : List Step} {a : Scene R W} → IsCrowd stops given known g calls c c' steps fault refused a
-    → IsCrowd stops [] known g calls c c' steps fault refused a
+    {g : Option (List (ClientsCall (R × W)))} {calls : List (ClientsCall (R × W))} {steps : List Step}
+    {fault : Option Fault} {refused : List Step} {a : Scene R W} → IsCrowd stops given known g calls steps fault refused a
+    → IsCrowd stops [] known g calls steps fault refused a
 crowd_on {calls = calls} {fault = fault} crowd = record {
   made = crowd.made;
   visits = crowd.visits;
@@ -661,15 +661,15 @@ why_stopped fault refused calls n parting.Memory far is = tt
 why_stopped fault refused calls n (parting.Bank why) far is = is
 
 pub crowd_stops : {R W : Type 0} {s stops : Type 0} {given : List ℕ} {known : R × W → Known}
-    {g : Option (List (ClientsCall (R × W)))} {calls : List (ClientsCall (R × W))} {c c' : Seen} {steps : List Step}
+    {g : Option (List (ClientsCall (R × W)))} {calls : List (ClientsCall (R × W))} {steps : List Step}
     {fault : Option Fault} {refused : List Step} {a : Scene R W} → (s → stops)
-    → IsCrowd s given known g calls c c' steps fault refused a → IsCrowd stops given known g calls c c' steps fault refused a
-crowd_stops {s = s} {stops} {known = known} {calls = calls} {c = c} {c'} {steps} {fault} {refused} far crowd = record {
+    → IsCrowd s given known g calls steps fault refused a → IsCrowd stops given known g calls steps fault refused a
+crowd_stops {s = s} {stops} {known = known} {calls = calls} {steps} {fault} {refused} far crowd = record {
   made = crowd.made;
   visits = crowd.visits;
   closed = crowd.closed;
-  visited = each_weaker (HasLeft s known c c' steps fault refused calls)
-      (HasLeft stops known c c' steps fault refused calls)
+  visited = each_weaker (HasLeft s known steps fault refused calls)
+      (HasLeft stops known steps fault refused calls)
       (λ v is. (is.0, is.1, why_stopped fault refused calls v.number v.parting far is.2)) crowd.visits crowd.visited;
   to_give_up = crowd.to_give_up;
   are_here = crowd.are_here;

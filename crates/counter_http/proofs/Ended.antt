@@ -114,7 +114,7 @@ rounds_end seen {reason} {known} {g} {t} old new {came = came} {here = here} res
   came = came;
   few = s.few;
   done = done;
-  crowd = subst (λ (f : Option Fault). IsCrowd ⊥ [] known g s.calls (seen old) (seen new) (steps_of s.rounds) f []
+  crowd = subst (λ (f : Option Fault). IsCrowd ⊥ [] known g s.calls (steps_of s.rounds) f []
       (record { calls = t; came = came; here = here })) (sym none) s.crowd;
 }
 
@@ -132,9 +132,9 @@ pub rounds_broken : {C R W X : Type 0} (seen : C → Seen) {reason : Fault → C
     (fault : Fault) (b : Begun seen reason known g t k k' old now n came here u turns done)
     (r : AnswersRound {X = X} seen reason known k' k'' now new here here' u u' seconds (Err fault))
     (after : List (ClientsCall (R × W))) → AllByRecursion IsNoWait after
-    → all_settled (λ x. BreaksOff (HasSpared reason) r.refused) known (seen old) (seen new) here'' (calls_of b.s.laps)
+    → all_settled (λ x. BreaksOff (HasSpared reason) r.refused) known here'' (calls_of b.s.laps)
     (steps_of b.s.rounds) (lap_of b after) r.round
-    → IsCrowd ⊥ [] known g (b.s.calls ++ after) (seen old) (seen new) (steps_of b.s.rounds ++ steps_in r.round) (Some fault)
+    → IsCrowd ⊥ [] known g (b.s.calls ++ after) (steps_of b.s.rounds ++ steps_in r.round) (Some fault)
     r.refused (record { calls = t'; came = came; here = here'' })
     → ServesRounds seen reason known g t' k k'' old new n here'' (Err (Bank fault))
 rounds_broken seen {reason} {known} {g = g} {t' = t'} {k} {k'} {k''} old now new {n} {came = came} {here'' = here''} fault b
@@ -179,13 +179,12 @@ rounds_broken seen {reason} {known} {g = g} {t' = t'} {k} {k'} {k''} old now new
       calls_are = calls_more s.calls s.laps (lap_of b after) s.calls_are;
       are_laps = laps_then seen now new b r after waits;
       moves = moves_then seen now new b r after;
-      left = last_one (all_settled (λ x. BreaksOff (HasSpared reason) r.refused) known (seen old) (seen new) here'') known (seen old)
-          (seen now) n [] [] s.laps s.rounds (lap_of b after) r.round s.are_laps settled;
+      left = last_one (all_settled (λ x. BreaksOff (HasSpared reason) r.refused) known here'') known n [] [] s.laps s.rounds (lap_of b after) r.round s.are_laps settled;
       network = λ same. absurd (cc same);
       came = came;
       few = s.few;
       done = tt;
-      crowd = subst (λ (x : List Step). IsCrowd ⊥ [] known g calls (seen old) (seen new) x (Some fault) r.refused
+      crowd = subst (λ (x : List Step). IsCrowd ⊥ [] known g calls x (Some fault) r.refused
           (record { calls = t'; came = came; here = here'' })) order crowd;
     }
 
@@ -209,9 +208,9 @@ pub rounds_cut : {C R W X : Type 0} (seen : C → Seen) {reason : Fault → C �
     {done : Result (Unit {0}) ListenFault} (b : Begun seen reason known g t k k' old now n came here u turns done)
     (r : AnswersRound seen reason known k' k'' now new here here' u u' seconds (Ok x)) (after : List (ClientsCall (R × W)))
     → AllByRecursion IsNoWait after
-    → all_settled (fills (HasSpared reason)) known (seen old) (seen new) here'' (calls_of b.s.laps) (steps_of b.s.rounds)
+    → all_settled (fills (HasSpared reason)) known here'' (calls_of b.s.laps) (steps_of b.s.rounds)
     (lap_of b after) r.round
-    → IsCrowd ⊥ [] known g (b.s.calls ++ after) (seen old) (seen new) (steps_of b.s.rounds ++ steps_in r.round) None r.refused
+    → IsCrowd ⊥ [] known g (b.s.calls ++ after) (steps_of b.s.rounds ++ steps_in r.round) None r.refused
     (record { calls = t'; came = came; here = here'' }) → {fault : ListenFault} → done ≡ Err fault
     → ServesRounds seen reason known g t' k k'' old new n here'' (Err Network)
 unfolding rounding_next
@@ -243,47 +242,47 @@ told_why seen reason old new (Err Network) why = tt
 told_why seen reason old new (Err (Bank fault)) why = inl why
 
 -- each message that was refused is of one of those who left
-numbers_told : {E : Type 0} (known : E → Known) (c c' : Seen) (steps : List Step) (fault : Fault)
+numbers_told : {E : Type 0} (known : E → Known) (steps : List Step) (fault : Fault)
     (visits vs : List (Visit E)) (s : Step) → AllByRecursion (λ (v : Visit E). Contains visits v) vs
     → AllByRecursion (λ (v : Visit E). s.client ≡ v.number
-    → ClientIsRefused v.number (known v.given) (known v.left) c c' steps fault s.turn v.parting) vs
-    → AllByRecursion (λ (n : ℕ). n ≡ s.client → IsToldTo known c c' steps visits fault s) (map number_of vs)
-numbers_told known c c' steps fault visits [] s these were = tt
-numbers_told known c c' steps fault visits (v ∷ vs) s these were = (
+    → ClientIsRefused v.number (known v.given) (known v.left) steps fault s.turn v.parting) vs
+    → AllByRecursion (λ (n : ℕ). n ≡ s.client → IsToldTo known steps visits fault s) (map number_of vs)
+numbers_told known steps fault visits [] s these were = tt
+numbers_told known steps fault visits (v ∷ vs) s these were = (
   (λ own. record { visit = v; one = these.0; whose = own; refused = were.0 (sym own) }),
-  numbers_told known c c' steps fault visits vs s these.1 were.1,
+  numbers_told known steps fault visits vs s these.1 were.1,
 )
 
-all_told : {E : Type 0} (known : E → Known) (c c' : Seen) (steps : List Step) (fault : Fault) (visits : List (Visit E))
-    (refused : List Step) → AllByRecursion (WereRefused known c c' steps (Some fault) refused) visits
-    → AllByRecursion (IsOfVisit visits) refused → AllByRecursion (IsToldTo known c c' steps visits fault) refused
-all_told known c c' steps fault visits [] were whose = tt
-all_told {E} known c c' steps fault visits (s ∷ ss) were whose =
-    let Told : ℕ → Type 0 = λ n. n ≡ s.client → IsToldTo known c c' steps visits fault s in
+all_told : {E : Type 0} (known : E → Known) (steps : List Step) (fault : Fault) (visits : List (Visit E))
+    (refused : List Step) → AllByRecursion (WereRefused known steps (Some fault) refused) visits
+    → AllByRecursion (IsOfVisit visits) refused → AllByRecursion (IsToldTo known steps visits fault) refused
+all_told known steps fault visits [] were whose = tt
+all_told {E} known steps fault visits (s ∷ ss) were whose =
+    let Told : ℕ → Type 0 = λ n. n ≡ s.client → IsToldTo known steps visits fault s in
     let Refused : Visit E → Type 0 =
-    λ v. s.client ≡ v.number → ClientIsRefused v.number (known v.given) (known v.left) c c' steps fault s.turn v.parting in
+    λ v. s.client ≡ v.number → ClientIsRefused v.number (known v.given) (known v.left) steps fault s.turn v.parting in
     let these = recursion_from_All (λ (v : Visit E). Contains visits v) visits (All-contains_itself visits) in (
       All-contains Told (map number_of visits) s.client
           (All-from_recursion Told (map number_of visits)
-          (numbers_told known c c' steps fault visits visits s these
-          (each_weaker (WereRefused known c c' steps (Some fault) (s ∷ ss)) Refused (λ v all. all.0) visits were)))
+          (numbers_told known steps fault visits visits s these
+          (each_weaker (WereRefused known steps (Some fault) (s ∷ ss)) Refused (λ v all. all.0) visits were)))
           whose.0 refl,
-      all_told known c c' steps fault visits ss
-          (each_weaker (WereRefused known c c' steps (Some fault) (s ∷ ss)) (WereRefused known c c' steps (Some fault) ss)
+      all_told known steps fault visits ss
+          (each_weaker (WereRefused known steps (Some fault) (s ∷ ss)) (WereRefused known steps (Some fault) ss)
           (λ v all. all.1) visits were) whose.1,
     )
 
-told_of : {E : Type 0} (stops : Type 0) (known : E → Known) (c c' : Seen) (steps : List Step) (calls : List (ClientsCall E))
+told_of : {E : Type 0} (stops : Type 0) (known : E → Known) (steps : List Step) (calls : List (ClientsCall E))
     (visits : List (Visit E)) (refused : List Step) (result : Result (Unit {0}) ListenFault)
-    → AllByRecursion (HasLeft stops known c c' steps (fault_of_bank result) refused calls) visits
+    → AllByRecursion (HasLeft stops known steps (fault_of_bank result) refused calls) visits
     → AllByRecursion (IsOfVisit visits) refused
-    → IfErr result (λ fault. IfBank fault (λ f. AllByRecursion (IsToldTo known c c' steps visits f) refused))
-told_of stops known c c' steps calls visits refused (Ok done) left whose = tt
-told_of stops known c c' steps calls visits refused (Err Network) left whose = tt
-told_of stops known c c' steps calls visits refused (Err (Bank fault)) left whose =
-    all_told known c c' steps fault visits refused
-    (each_weaker (HasLeft stops known c c' steps (Some fault) refused calls)
-    (WereRefused known c c' steps (Some fault) refused) (λ v left. left.1) visits left) whose
+    → IfErr result (λ fault. IfBank fault (λ f. AllByRecursion (IsToldTo known steps visits f) refused))
+told_of stops known steps calls visits refused (Ok done) left whose = tt
+told_of stops known steps calls visits refused (Err Network) left whose = tt
+told_of stops known steps calls visits refused (Err (Bank fault)) left whose =
+    all_told known steps fault visits refused
+    (each_weaker (HasLeft stops known steps (Some fault) refused calls)
+    (WereRefused known steps (Some fault) refused) (λ v left. left.1) visits left) whose
 
 -- clients are stopped where some are here, and so not where the serving ends well
 stopped_by : {R W : Type 0} (came n : ℕ) (here : List (Client R W)) (result : Result (Unit {0}) ListenFault)
@@ -332,16 +331,16 @@ pub serves_together : {C R W : Type 0} (seen : C → Seen) {reason : Fault → C
 serves_together {C} {R} {W} seen {reason} {known} {g} {t} {t'} old new {n} here here' result s moved none t'' ended =
     let gone = (moved s.came).calls in
     let calls = s.calls ++ gone in
-    let after : IsCrowd (IsErr result) [] known g calls (seen old) (seen new) (steps_of s.rounds)
+    let after : IsCrowd (IsErr result) [] known g calls (steps_of s.rounds)
     (fault_of_bank result) s.refused (record { calls = t'; came = s.came; here = here' }) =
     crowd_moved (stopped_by s.came n here result s.done) (moved s.came) (crowd_stops (λ no. absurd no) s.crowd) in
-    let crowd : IsCrowd (IsErr result) [] known g calls (seen old) (seen new) (steps_of s.rounds)
+    let crowd : IsCrowd (IsErr result) [] known g calls (steps_of s.rounds)
     (fault_of_bank result) s.refused (record { calls = t'; came = s.came; here = [] }) =
-    subst (λ (x : List (Client R W)). IsCrowd (IsErr result) [] known g calls (seen old) (seen new) (steps_of s.rounds) (fault_of_bank result) s.refused
+    subst (λ (x : List (Client R W)). IsCrowd (IsErr result) [] known g calls (steps_of s.rounds) (fault_of_bank result) s.refused
     (record { calls = t'; came = s.came; here = x })) none after in
     let long : length (all_numbers crowd.visits []) ≡ length crowd.visits =
     ap length (append-nil (map number_of crowd.visits)) ∙ length-map crowd.visits number_of in
-    let Visited : Visit (R × W) → Type 0 = IsVisited known (seen old) (seen new) (steps_of s.rounds) calls in
+    let Visited : Visit (R × W) → Type 0 = IsVisited known (steps_of s.rounds) calls in
     let whose : AllByRecursion (IsOfVisit crowd.visits) (steps_of s.rounds ++ s.refused) =
     subst (λ (ns : List ℕ). AllByRecursion (IsOfOneOf ns) (steps_of s.rounds ++ s.refused))
     (append-nil (map number_of crowd.visits)) crowd.whose in
@@ -374,27 +373,27 @@ serves_together {C} {R} {W} seen {reason} {known} {g} {t} {t'} old new {n} here 
       };
       moves = s.moves;
       broken = broken_then _ _ (λ left. last_then
-          (all_settled (λ r. BreaksOff (HasSpared reason) s.refused) known (seen old) (seen new) here)
-          (all_on (λ r. BreaksOff (HasSpared reason) s.refused) known (seen old) (seen new) (closings gone)) s.calls
+          (all_settled (λ r. BreaksOff (HasSpared reason) s.refused) known here)
+          (all_on (λ r. BreaksOff (HasSpared reason) s.refused) known (closings gone)) s.calls
           (steps_of s.rounds)
           (λ cs ss l r called answered settled. closed_all (here ≢ []) [] _ (moved s.came).scenes gone _ _ (moved s.came).moves refl
-          (each_ends _ here (all_waited (fault_of_bank result) s.refused (λ x. BreaksOff (HasSpared reason) s.refused) known (seen old) (seen new) cs ss l r s.calls
+          (each_ends _ here (all_waited (fault_of_bank result) s.refused (λ x. BreaksOff (HasSpared reason) s.refused) known cs ss l r s.calls
           (steps_of s.rounds) here called answered s.crowd.are_here settled)))
-          known (seen old) (seen new) n [] [] s.laps s.rounds s.are_laps (sym s.calls_are) refl left) result s.left;
+          known n [] [] s.laps s.rounds s.are_laps (sym s.calls_are) refl left) result s.left;
       network = cut_off_then gone s.laps result s.network;
       visits = crowd.visits;
       closed = crowd.closed;
       once = visits_differ crowd.visits [] crowd.differ;
       each = All-from_recursion Visited crowd.visits
-          (each_weaker (HasLeft (IsErr result) known (seen old) (seen new) (steps_of s.rounds) (fault_of_bank result)
+          (each_weaker (HasLeft (IsErr result) known (steps_of s.rounds) (fault_of_bank result)
           s.refused calls) Visited (λ v left. left.0) crowd.visits crowd.visited);
       parted = All-from_recursion (IsVisitWhy (IsErr result) (fault_of_bank result) s.refused calls) crowd.visits
-          (each_weaker (HasLeft (IsErr result) known (seen old) (seen new) (steps_of s.rounds) (fault_of_bank result)
+          (each_weaker (HasLeft (IsErr result) known (steps_of s.rounds) (fault_of_bank result)
           s.refused calls) (IsVisitWhy (IsErr result) (fault_of_bank result) s.refused calls) (λ v left. left.2) crowd.visits
           crowd.visited);
       all = sym long ∙ crowd.all;
       some = some_then (λ f. (f ≡ Memory) × (new ≡ old)) s.refused result s.some;
-      refusals = told_of (IsErr result) known (seen old) (seen new) (steps_of s.rounds) calls crowd.visits s.refused result
+      refusals = told_of (IsErr result) known (steps_of s.rounds) calls crowd.visits s.refused result
           crowd.visited (all_last (IsOfVisit crowd.visits) (steps_of s.rounds) s.refused whose);
       whose = whose;
       many = omega (arith, long, crowd.many, s.few);

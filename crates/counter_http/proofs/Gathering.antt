@@ -23,7 +23,7 @@ use Rattle.counter_http.proofs.Asked.{asked_as, asked_err, asked_none, asked_the
 use Rattle.counter_http.specs.believed.Answers.{asked_by}
 use Rattle.counter_http.proofs.Fared.{all_at, all_same, all_then}
 use Rattle.counter_http.proofs.Placed.{at_other, at_same, beside_none, beside_one, beside_then, found_too, numbers_apart}
-use Rattle.counter_http.proofs.Placed.{one_of_these, same_or_not, some_is, takes_then}
+use Rattle.counter_http.proofs.Placed.{one_of_these, same_or_not, some_is}
 
 -- ---- records that are given
 
@@ -192,9 +192,9 @@ gathers_nothing seen bank here batch gives = record {
   some = tt;
   whose_refused = tt;
   none_posted = refl;
-  are_told = λ p y y' at at' k first before takes is. tt;
+  are_told = λ p y y' at at' k before is. tt;
   fare = all_same here;
-  beside = beside_none seen bank bank here (λ h. h);
+  beside = beside_none here;
   gives = gives;
 }
 
@@ -215,17 +215,13 @@ gathers_then seen {known = known} {figures} old mid new here one two b b' result
   some = q.some;
   whose_refused = subst (λ (ns : List ℕ). AllByRecursion (IsOfOneOf ns) q.refused) p.beside.same q.whose_refused;
   none_posted = q.none_posted;
-  are_told = λ place y y' at at' k first before takes is.
+  are_told = λ place y y' at at' k before is.
       let mids = found_too here one place y p.beside.same at in
-      subst (λ (l : List Step). AreRefused known k (seen first) (seen new) l (fault_in result) q.refused y')
+      subst (λ (l : List Step). AreRefused known k l (fault_in result) q.refused y')
       (append_assoc before p.reads q.reads)
-      (q.are_told place mids.0 y' mids.1 at' k first (before ++ p.reads)
-      (takes_then seen first old mid before p.reads p.asked.honest takes
-      (takes_reads seen figures old mid p.reads p.are_reads p.asked.done))
-      (p.beside.stand place y mids.0 at mids.1 k first before takes is));
+      (q.are_told place mids.0 y' mids.1 at' k (before ++ p.reads) (p.beside.stand place y mids.0 at mids.1 k before is));
   fare = all_then here one two p.reads q.reads p.beside.same p.fare q.fare;
-  beside = beside_then seen old mid new here one two p.reads q.reads
-      (takes_reads seen figures old mid p.reads p.are_reads p.asked.done) p.asked.honest p.beside q.beside;
+  beside = beside_then here one two p.reads q.reads p.beside q.beside;
   gives = q.gives;
 }
 
@@ -234,7 +230,7 @@ refused_at : {C R W X : Type 0} (seen : C → Seen) {reason : Fault → C → C 
     (old new : C) (here : List (Client R W)) (p : ℕ) (client client' : Client R W) (batch : Batch) (result : Result X Fault)
     → AllDiffer (numbers here) → slice_get here p ≡ Some client
     → (a : IsAnswered seen reason known figures old new client client' result)
-    → AreBeside seen known old new here (slice_set here p client') a.more → IsBatchOf (slice_set here p client') batch
+    → AreBeside known here (slice_set here p client') a.more → IsBatchOf (slice_set here p client') batch
     → Gathers seen reason known figures old new here (slice_set here p client') batch result
 refused_at seen old new here p client client' batch (Ok x) all at a beside gives = record {
   reads = a.more;
@@ -245,7 +241,7 @@ refused_at seen old new here p client client' batch (Ok x) all at a beside gives
   some = tt;
   whose_refused = tt;
   none_posted = refl;
-  are_told = λ q y y' at_q at_q' k first before takes is. tt;
+  are_told = λ q y y' at_q at_q' k before is. tt;
   fare = all_at here p client client' at (a.fares None [] tt);
   beside = beside;
   gives = gives;
@@ -261,16 +257,16 @@ refused_at {R = R} {W} seen {known = known} old new here p client client' batch 
       some = λ none. cc none;
       whose_refused = (subst (λ (n : ℕ). Contains (numbers here) n) (sym a.told.own) (one_of_these here p client at), tt);
       none_posted = ap (λ (cs : List Command). cs ++ []) (idle_commands (asked_by s.turn.message) s.turn.moment a.told.reads);
-      are_told = λ q y y' at_q at_q' k first before takes is. (
+      are_told = λ q y y' at_q at_q' k before is. (
         (λ own. elim (same_or_not q p) [
           | inl e ↦
               let y_is : y ≡ client = some_is y client (sym at_q ∙ ap (λ (n : ℕ). slice_get here n) e ∙ at) in
               let y'_is : client' ≡ y' =
               some_is client' y' (sym (at_same here p client client' at)
               ∙ ap (λ (n : ℕ). slice_get (slice_set here p client') n) (sym e) ∙ at_q') in
-              subst (λ (z : Client R W). StandsRefused known k (seen first) (seen new) (before ++ a.more) f s.turn z) y'_is
-              (a.told.told k first before takes
-              (subst (λ (z : Client R W). StandsHere known k (seen first) (seen old) before z) y_is is))
+              subst (λ (z : Client R W). StandsRefused known k (before ++ a.more) f s.turn z) y'_is
+              (a.told.told k before
+              (subst (λ (z : Client R W). StandsHere known k before z) y_is is))
           | inr ne ↦
               let y_is : y ≡ y' = some_is y y' (sym at_q ∙ sym (at_other here p q client' ne) ∙ at_q') in
               absurd (numbers_apart here p q client y all at at_q ne
@@ -291,7 +287,7 @@ pub gathers_at : {C R W X : Type 0} (seen : C → Seen) {reason : Fault → C �
     → Gathers seen reason known figures old new here (slice_set here p client') batch result
 gathers_at seen old new here p client client' batch result all at a gives =
     refused_at seen old new here p client client' batch result all at a
-    (beside_one seen old new here p client client' a.more all at a.number a.own a.asked.honest a.stands) gives
+    (beside_one here p client client' a.more all at a.number a.own a.stands) gives
 
 -- the result stands for another
 pub gathers_as : {C R W X Y : Type 0} {seen : C → Seen} {reason : Fault → C → C → Type 0} {known : R × W → Known} {figures : Figures}
@@ -307,7 +303,7 @@ gathers_as y g = record {
   some = tt;
   whose_refused = g.whose_refused;
   none_posted = g.none_posted;
-  are_told = λ p y y' at at' k first before takes is. tt;
+  are_told = λ p y y' at at' k before is. tt;
   fare = g.fare;
   beside = g.beside;
   gives = g.gives;

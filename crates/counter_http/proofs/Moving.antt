@@ -41,33 +41,33 @@ pub last_then : {E : Type 0} (P Q : List (ClientsCall E) → List Step → Lap E
     (all : List (ClientsCall E)) (steps : List Step)
     → ((calls : List (ClientsCall E)) (before : List Step) (l : Lap E) (r : Round) → calls ++ calls_in l ≡ all
     → before ++ steps_in r ≡ steps → P calls before l r → Q calls before l r)
-    → (known : E → Known) (c c' : Seen) (n : ℕ) (calls : List (ClientsCall E)) (before : List Round) (ls : List (Lap E))
-    (rs : List Round) → AreLaps known c c' n calls before ls rs → calls ++ calls_of ls ≡ all
+    → (known : E → Known) (n : ℕ) (calls : List (ClientsCall E)) (before : List Round) (ls : List (Lap E))
+    (rs : List Round) → AreLaps known n calls before ls rs → calls ++ calls_of ls ≡ all
     → steps_of (before ++ rs) ≡ steps → OnLast P calls before ls rs → OnLast Q calls before ls rs
-last_then P Q all steps f known c c' n calls before [] rs laps called answered is = tt
-last_then P Q all steps f known c c' n calls before (l ∷ ls) [] laps called answered is = tt
-last_then P Q all steps f known c c' n calls before (l ∷ []) (r ∷ []) laps called answered is =
+last_then P Q all steps f known n calls before [] rs laps called answered is = tt
+last_then P Q all steps f known n calls before (l ∷ ls) [] laps called answered is = tt
+last_then P Q all steps f known n calls before (l ∷ []) (r ∷ []) laps called answered is =
     f calls (steps_of before) l r
     (ap (λ (x : List (ClientsCall _)). calls ++ x) (sym (append-nil (calls_in l))) ∙ called)
     (steps_more before r ∙ answered) is
-last_then P Q all steps f known c c' n calls before (l ∷ []) (r ∷ s ∷ rs) laps called answered is = absurd laps.1
-last_then P Q all steps f known c c' n calls before (l ∷ m ∷ ls) (r ∷ rs) laps called answered is =
-    last_then P Q all steps f known c c' n (calls ++ calls_in l) (before ++ r ∷ []) (m ∷ ls) rs laps.1
+last_then P Q all steps f known n calls before (l ∷ []) (r ∷ s ∷ rs) laps called answered is = absurd laps.1
+last_then P Q all steps f known n calls before (l ∷ m ∷ ls) (r ∷ rs) laps called answered is =
+    last_then P Q all steps f known n (calls ++ calls_in l) (before ++ r ∷ []) (m ∷ ls) rs laps.1
     (append_assoc calls (calls_in l) (calls_of (m ∷ ls)) ∙ called)
     (ap steps_of (append_assoc before (r ∷ []) rs) ∙ answered) is
 
 -- it holds of one more
-pub last_one : {E : Type 0} (P : List (ClientsCall E) → List Step → Lap E → Round → Type 0) (known : E → Known) (c c' : Seen)
+pub last_one : {E : Type 0} (P : List (ClientsCall E) → List Step → Lap E → Round → Type 0) (known : E → Known)
     (n : ℕ) (calls : List (ClientsCall E)) (before : List Round) (ls : List (Lap E)) (rs : List Round) (l : Lap E) (r : Round)
-    → AreLaps known c c' n calls before ls rs → P (calls ++ calls_of ls) (steps_of (before ++ rs)) l r
+    → AreLaps known n calls before ls rs → P (calls ++ calls_of ls) (steps_of (before ++ rs)) l r
     → OnLast P calls before (ls ++ l ∷ []) (rs ++ r ∷ [])
-last_one P known c c' n calls before [] [] l r laps is =
+last_one P known n calls before [] [] l r laps is =
     subst (λ (x : List (ClientsCall _)). P x (steps_of before) l r) (append-nil calls)
     (subst (λ (x : List Round). P (calls ++ []) (steps_of x) l r) (append-nil before) is)
-last_one P known c c' n calls before [] (s ∷ rs) l r laps is = absurd laps
-last_one P known c c' n calls before (k ∷ ls) [] l r laps is = absurd laps
-last_one {E} P known c c' n calls before (k ∷ ls) (s ∷ rs) l r laps is =
-    behind ls (last_one P known c c' n (calls ++ calls_in k) (before ++ s ∷ []) ls rs l r laps.1
+last_one P known n calls before [] (s ∷ rs) l r laps is = absurd laps
+last_one P known n calls before (k ∷ ls) [] l r laps is = absurd laps
+last_one {E} P known n calls before (k ∷ ls) (s ∷ rs) l r laps is =
+    behind ls (last_one P known n (calls ++ calls_in k) (before ++ s ∷ []) ls rs l r laps.1
     (subst (λ (x : List (ClientsCall E)). P x (steps_of ((before ++ s ∷ []) ++ rs)) l r)
     (sym (append_assoc calls (calls_in k) (calls_of ls)))
     (subst (λ (x : List Round). P (calls ++ calls_of (k ∷ ls)) (steps_of x) l r)
@@ -80,81 +80,23 @@ last_one {E} P known c c' n calls before (k ∷ ls) (s ∷ rs) l r laps is =
 
 -- ---- all rounds
 
-pub moved_more : {E : Type 0} (spared : Type 0) (known : E → Known) (c c' d : Seen) (n : ℕ) (calls : List (ClientsCall E))
-    (before : List Round) (ls : List (Lap E)) (rs : List Round) (m : Lap E) (r : Round) → AreLaps known c d n calls before ls rs
-    → AllMoved spared known c c' calls before ls rs → OnLast (all_on (fills spared) known c c' m.waited) calls before ls rs
-    → AllMoved spared known c c' calls before (ls ++ m ∷ []) (rs ++ r ∷ [])
-moved_more spared known c c' d n calls before [] rs m r laps moved last = tt
-moved_more spared known c c' d n calls before (l ∷ ls) [] m r laps moved last = absurd laps
-moved_more spared known c c' d n calls before (l ∷ []) (s ∷ []) m r laps moved last = (last, tt)
-moved_more spared known c c' d n calls before (l ∷ []) (s ∷ t ∷ rs) m r laps moved last = absurd laps.1
-moved_more spared known c c' d n calls before (l ∷ k ∷ ls) (s ∷ rs) m r laps moved last = (
+pub moved_more : {E : Type 0} (spared : Type 0) (known : E → Known) (n : ℕ) (calls : List (ClientsCall E))
+    (before : List Round) (ls : List (Lap E)) (rs : List Round) (m : Lap E) (r : Round) → AreLaps known n calls before ls rs
+    → AllMoved spared known calls before ls rs → OnLast (all_on (fills spared) known m.waited) calls before ls rs
+    → AllMoved spared known calls before (ls ++ m ∷ []) (rs ++ r ∷ [])
+moved_more spared known n calls before [] rs m r laps moved last = tt
+moved_more spared known n calls before (l ∷ ls) [] m r laps moved last = absurd laps
+moved_more spared known n calls before (l ∷ []) (s ∷ []) m r laps moved last = (last, tt)
+moved_more spared known n calls before (l ∷ []) (s ∷ t ∷ rs) m r laps moved last = absurd laps.1
+moved_more spared known n calls before (l ∷ k ∷ ls) (s ∷ rs) m r laps moved last = (
   moved.0,
-  moved_more spared known c c' d n (calls ++ calls_in l) (before ++ s ∷ []) (k ∷ ls) rs m r laps.1 moved.1 last,
-)
-
--- the bank went on
-pub much_on : {E : Type 0} {known : E → Known} {c c' c'' : Seen} {steps : List Step} {calls : List (ClientsCall E)}
-    {waited : List (ℕ × E)} {n : ℕ} → (c''.honest → c'.honest) → LeftMuch known c c' steps calls waited n
-    → LeftMuch known c c'' steps calls waited n
-much_on honest much = record {
-  ends = much.ends;
-  one = much.one;
-  given = much.given;
-  came = much.came;
-  written = much.written;
-  wrote = much.wrote;
-  many = much.many;
-}
-
-may_on : {E : Type 0} (late : Type 0) (known : E → Known) (c c' c'' : Seen) (calls : List (ClientsCall E)) (steps : List Step)
-    (l : Lap E) (r : Round) (n : ℕ) → (c''.honest → c'.honest) → MayHaveMore late known c c' calls steps l r n
-    → MayHaveMore late known c c'' calls steps l r n
-may_on late known c c' c'' calls steps l r n honest (inl own) = inl own
-may_on late known c c' c'' calls steps l r n honest (inr (inl much)) = inr (inl (much_on honest much))
-may_on late known c c' c'' calls steps l r n honest (inr (inr behind)) = inr (inr behind)
-
-one_on : {E : Type 0} (late : Type 0) (known : E → Known) (c c' c'' : Seen) (calls : List (ClientsCall E)) (steps : List Step)
-    (l : Lap E) (r : Round) (w : ℕ × E) → (c''.honest → c'.honest) → HasMovedOn late known c c' calls steps l r w
-    → HasMovedOn late known c c'' calls steps l r w
-one_on late known c c' c'' calls steps l r w honest is = record {
-  given = is.given;
-  came = is.came;
-  lost = is.lost;
-  rest = is.rest;
-  last = is.last;
-  read = is.read;
-  stands = is.stands;
-  none = further is.none;
-}
-  where
-    further : HasNoneLeft is.stands ⊎ MayHaveMore late known c c' calls steps l r w.0
-        → HasNoneLeft is.stands ⊎ MayHaveMore late known c c'' calls steps l r w.0
-    further (inl none) = inl none
-    further (inr may) = inr (may_on late known c c' c'' calls steps l r w.0 honest may)
-
-pub all_further : {E : Type 0} (late : Round → Type 0) (known : E → Known) (c c' c'' : Seen) (waited : List (ℕ × E))
-    (calls : List (ClientsCall E)) (steps : List Step) (l : Lap E) (r : Round) → (c''.honest → c'.honest)
-    → all_on late known c c' waited calls steps l r → all_on late known c c'' waited calls steps l r
-all_further late known c c' c'' waited calls steps l r honest all =
-    each_weaker (HasMovedOn (late r) known c c' calls steps l r) (HasMovedOn (late r) known c c'' calls steps l r)
-    (λ w is. one_on (late r) known c c' c'' calls steps l r w honest is) waited all
-
-pub moved_on : {E : Type 0} (spared : Type 0) (known : E → Known) (c c' c'' : Seen) (calls : List (ClientsCall E))
-    (before : List Round) (ls : List (Lap E)) (rs : List Round) → (c''.honest → c'.honest)
-    → AllMoved spared known c c' calls before ls rs → AllMoved spared known c c'' calls before ls rs
-moved_on spared known c c' c'' calls before [] rs honest all = tt
-moved_on spared known c c' c'' calls before (l ∷ []) rs honest all = tt
-moved_on spared known c c' c'' calls before (l ∷ m ∷ ls) [] honest all = tt
-moved_on spared known c c' c'' calls before (l ∷ m ∷ ls) (r ∷ rs) honest all = (
-  all_further (fills spared) known c c' c'' m.waited calls (steps_of before) l r honest all.0,
-  moved_on spared known c c' c'' (calls ++ calls_in l) (before ++ r ∷ []) (m ∷ ls) rs honest all.1,
+  moved_more spared known n (calls ++ calls_in l) (before ++ s ∷ []) (k ∷ ls) rs m r laps.1 moved.1 last,
 )
 
 -- ---- one that is here after a round
 
-none_left : {i : ℕ} {k l : Known} {c c' : Seen} {steps : List Step} {has_more shown : Bool} {rest pending : List ℕ}
-    (p : Option Parting) (so : StandsAs p i k l c c' steps has_more shown rest pending)
+none_left : {i : ℕ} {k l : Known} {steps : List Step} {has_more shown : Bool} {rest pending : List ℕ}
+    (p : Option Parting) (so : StandsAs p i k l steps has_more shown rest pending)
     → ((q : Parting) → p ≡ Some q → pending ≢ []) → (has_more ≡ false) ⊎ ((q : Parting) × (p ≡ Some q))
     → HasNoneLeft (left_as p so).stands
 unfolding left_as stands_of
@@ -169,12 +111,12 @@ none_left (Some parting.GivenUp) so left more = absurd so.is.left
 none_left (Some parting.Stopped) so left more = absurd so.is.left
 
 -- as it is waited for
-waited_so : {R W : Type 0} {fault : Option Fault} {refused : List Step} (late : Type 0) (known : R × W → Known) (c c' : Seen) (calls : List (ClientsCall (R × W)))
+waited_so : {R W : Type 0} {fault : Option Fault} {refused : List Step} (late : Type 0) (known : R × W → Known) (calls : List (ClientsCall (R × W)))
     (steps : List Step) (l : Lap (R × W)) (r : Round) (client : Client R W)
-    → IsHere known c c' (steps ++ steps_in r) fault refused (calls ++ calls_in l) client
-    → IsSettled late known c c' calls steps l r client
-    → HasMovedOn late known c c' calls steps l r (ends_in client)
-waited_so late known c c' calls steps l r client is settled =
+    → IsHere known (steps ++ steps_in r) fault refused (calls ++ calls_in l) client
+    → IsSettled late known calls steps l r client
+    → HasMovedOn late known calls steps l r (ends_in client)
+waited_so late known calls steps l r client is settled =
     let left = left_as client.parting is.stands.is in
     record {
       given = is.given;
@@ -187,38 +129,38 @@ waited_so late known c c' calls steps l r client is settled =
       none = none settled.1;
     }
   where
-    none : HasNoMore client ⊎ MayHaveMore late known c c' calls steps l r client.number
-        → HasNoneLeft (left_as client.parting is.stands.is).stands ⊎ MayHaveMore late known c c' calls steps l r client.number
+    none : HasNoMore client ⊎ MayHaveMore late known calls steps l r client.number
+        → HasNoneLeft (left_as client.parting is.stands.is).stands ⊎ MayHaveMore late known calls steps l r client.number
     none (inl no_more) =
         inl (none_left client.parting is.stands.is (λ q why empty. settled.0 (record { parting = q; is = why; none = empty }))
         no_more)
     none (inr may) = inr may
 
-pub all_waited : {R W : Type 0} (fault : Option Fault) (refused : List Step) (late : Round → Type 0) (known : R × W → Known) (c c' : Seen) (calls : List (ClientsCall (R × W)))
+pub all_waited : {R W : Type 0} (fault : Option Fault) (refused : List Step) (late : Round → Type 0) (known : R × W → Known) (calls : List (ClientsCall (R × W)))
     (steps : List Step) (l : Lap (R × W)) (r : Round) (all : List (ClientsCall (R × W))) (sofar : List Step)
     (here : List (Client R W)) → calls ++ calls_in l ≡ all → steps ++ steps_in r ≡ sofar
-    → AllByRecursion (IsHere known c c' sofar fault refused all) here → all_settled late known c c' here calls steps l r
-    → all_on late known c c' (ends_here here) calls steps l r
-all_waited fault refused late known c c' calls steps l r all sofar [] called answered are settled = tt
-all_waited {R} {W} fault refused late known c c' calls steps l r all sofar (x ∷ xs) called answered are settled = (
-  waited_so (late r) known c c' calls steps l r x
-      (subst (λ (cs : List (ClientsCall (R × W))). IsHere known c c' (steps ++ steps_in r) fault refused cs x) (sym called)
-      (subst (λ (ss : List Step). IsHere known c c' ss fault refused all x) (sym answered) are.0)) settled.0,
-  all_waited fault refused late known c c' calls steps l r all sofar xs called answered are.1 settled.1,
+    → AllByRecursion (IsHere known sofar fault refused all) here → all_settled late known here calls steps l r
+    → all_on late known (ends_here here) calls steps l r
+all_waited fault refused late known calls steps l r all sofar [] called answered are settled = tt
+all_waited {R} {W} fault refused late known calls steps l r all sofar (x ∷ xs) called answered are settled = (
+  waited_so (late r) known calls steps l r x
+      (subst (λ (cs : List (ClientsCall (R × W))). IsHere known (steps ++ steps_in r) fault refused cs x) (sym called)
+      (subst (λ (ss : List Step). IsHere known ss fault refused all x) (sym answered) are.0)) settled.0,
+  all_waited fault refused late known calls steps l r all sofar xs called answered are.1 settled.1,
 )
 
 -- ---- one that has much to take
 
 -- if it has much to take as messages are answered, it had as it was waited for
-abbrev pub HadMuch : {R W : Type 0} → (R × W → Known) → (c c' : Seen) → List Step → List (ClientsCall (R × W))
+abbrev pub HadMuch : {R W : Type 0} → (R × W → Known) → List Step → List (ClientsCall (R × W))
     → List (ℕ × (R × W)) → Client R W → Type 0
-HadMuch known c c' steps calls waited client =
-    HasMuch client → client.parting ≡ None → LeftMuch known c c' steps calls waited client.number
+HadMuch known steps calls waited client =
+    HasMuch client → client.parting ≡ None → LeftMuch known steps calls waited client.number
 
-much_here : {R W : Type 0} (known : R × W → Known) (c c' : Seen) (steps : List Step) (calls : List (ClientsCall (R × W)))
-    (waited : List (ℕ × (R × W))) (client : Client R W) → IsHere known c c' steps None [] calls client
-    → Contains waited (ends_in client) → HadMuch known c c' steps calls waited client
-much_here known c c' steps calls waited client is one much going =
+much_here : {R W : Type 0} (known : R × W → Known) (steps : List Step) (calls : List (ClientsCall (R × W)))
+    (waited : List (ℕ × (R × W))) (client : Client R W) → IsHere known steps None [] calls client
+    → Contains waited (ends_in client) → HadMuch known steps calls waited client
+much_here known steps calls waited client is one much going =
     let g = going_of client going is.stands in
     record {
       ends = (client.reader, client.writer);
@@ -255,64 +197,64 @@ much_read old new (inr (inl some)) much going = absurd (omega (arith, much, ap l
 much_read old new (inr (inr (inl end))) much going = absurd (says_parted old new end.says going)
 much_read old new (inr (inr (inr last))) much going = absurd (cc (last.parting, going))
 
-pub much_goes : {R W : Type 0} (known : R × W → Known) (c c' : Seen) (steps : List Step) (calls : List (ClientsCall (R × W)))
+pub much_goes : {R W : Type 0} (known : R × W → Known) (steps : List Step) (calls : List (ClientsCall (R × W)))
     (waited : List (ℕ × (R × W))) (old new : Client R W) → GoesOn known old new
-    → IsHere known c c' steps None [] calls old × Contains waited (ends_in old)
-    → HadMuch known c c' steps calls waited new
-much_goes known c c' steps calls waited old new (inl same) is much going =
-    subst (λ (n : ℕ). LeftMuch known c c' steps calls waited n) (ap (λ (x : Client _ _). x.number) (sym same))
-    (much_here known c c' steps calls waited old is.0 is.1 (subst (λ (x : Client _ _). HasMuch x) same much)
+    → IsHere known steps None [] calls old × Contains waited (ends_in old)
+    → HadMuch known steps calls waited new
+much_goes known steps calls waited old new (inl same) is much going =
+    subst (λ (n : ℕ). LeftMuch known steps calls waited n) (ap (λ (x : Client _ _). x.number) (sym same))
+    (much_here known steps calls waited old is.0 is.1 (subst (λ (x : Client _ _). HasMuch x) same much)
     (ap (λ (x : Client _ _). x.parting) (sym same) ∙ going))
-much_goes known c c' steps calls waited old new (inr served) is much going =
+much_goes known steps calls waited old new (inr served) is much going =
     let between = much_read served.between new served.reads much going in
     let before = much_written old served.between served.writes between.0 between.1 in
-    subst (λ (n : ℕ). LeftMuch known c c' steps calls waited n)
+    subst (λ (n : ℕ). LeftMuch known steps calls waited n)
     (sym (number_read served.between new served.reads ∙ number_written old served.between served.writes))
-    (much_here known c c' steps calls waited old is.0 is.1 before.0 before.1)
+    (much_here known steps calls waited old is.0 is.1 before.0 before.1)
 
 pub each_ends : {R W : Type 0} (P : ℕ × (R × W) → Type 0) (here : List (Client R W)) → AllByRecursion P (ends_here here)
     → AllByRecursion (λ (x : Client R W). P (ends_in x)) here
 each_ends P [] all = tt
 each_ends P (x ∷ xs) all = (all.0, each_ends P xs all.1)
 
-pub much_new : {R W : Type 0} (known : R × W → Known) (c c' : Seen) (steps : List Step) (calls : List (ClientsCall (R × W)))
+pub much_new : {R W : Type 0} (known : R × W → Known) (steps : List Step) (calls : List (ClientsCall (R × W)))
     (waited : List (ℕ × (R × W))) (number : ℕ) (ends : R × W) (client : Client R W) → IsNew number ends.0 ends.1 client
-    → HadMuch known c c' steps calls waited client
-much_new known c c' steps calls waited number ends client is much going =
+    → HadMuch known steps calls waited client
+much_new known steps calls waited number ends client is much going =
     absurd (omega (arith, much, ap length is.pending_none))
 
 -- ---- after a round
 
 -- no more can be done for it, or there is a cause
-abbrev pub IsDone : {R W : Type 0} → (late : Type 0) → (R × W → Known) → (c c' : Seen) → List (ClientsCall (R × W))
+abbrev pub IsDone : {R W : Type 0} → (late : Type 0) → (R × W → Known) → List (ClientsCall (R × W))
     → List Step → Lap (R × W) → Round → Client R W → Type 0
-IsDone late known c c' calls steps l r client =
-    HasNoMore client ⊎ MayHaveMore late known c c' calls steps l r client.number
+IsDone late known calls steps l r client =
+    HasNoMore client ⊎ MayHaveMore late known calls steps l r client.number
 
 -- no write changes that
-pub done_written : {R W : Type 0} {known : R × W → Known} (late : Type 0) (c c' : Seen) (calls : List (ClientsCall (R × W)))
+pub done_written : {R W : Type 0} {known : R × W → Known} (late : Type 0) (calls : List (ClientsCall (R × W)))
     (steps : List Step) (l : Lap (R × W)) (r : Round) (old new : Client R W) → Writes known old new
-    → IsDone late known c c' calls steps l r old → IsDone late known c c' calls steps l r new
-done_written {known = known} late c c' calls steps l r old new (inl same) is =
-    subst (λ (x : Client _ _). IsDone late known c c' calls steps l r x) (sym same) is
-done_written {known = known} late c c' calls steps l r old new (inr (inr w)) is = inl (inr (parting.Write, w.parting))
-done_written {known = known} late c c' calls steps l r old new (inr (inl w)) (inl (inl none)) =
+    → IsDone late known calls steps l r old → IsDone late known calls steps l r new
+done_written {known = known} late calls steps l r old new (inl same) is =
+    subst (λ (x : Client _ _). IsDone late known calls steps l r x) (sym same) is
+done_written {known = known} late calls steps l r old new (inr (inr w)) is = inl (inr (parting.Write, w.parting))
+done_written {known = known} late calls steps l r old new (inr (inl w)) (inl (inl none)) =
     inl (inl (w.has_more ∙ none))
-done_written {known = known} late c c' calls steps l r old new (inr (inl w)) (inl (inr (p, is))) =
+done_written {known = known} late calls steps l r old new (inr (inl w)) (inl (inr (p, is))) =
     inl (inr (p, w.parting ∙ is))
-done_written {known = known} late c c' calls steps l r old new (inr (inl w)) (inr may) =
-    inr (subst (λ (n : ℕ). MayHaveMore late known c c' calls steps l r n) (sym w.number) may)
+done_written {known = known} late calls steps l r old new (inr (inl w)) (inr may) =
+    inr (subst (λ (n : ℕ). MayHaveMore late known calls steps l r n) (sym w.number) may)
 
 -- those who are left are settled
-pub left_settled : {R W : Type 0} (late : Round → Type 0) (known : R × W → Known) (c c' : Seen) (calls : List (ClientsCall (R × W)))
+pub left_settled : {R W : Type 0} (late : Round → Type 0) (known : R × W → Known) (calls : List (ClientsCall (R × W)))
     (steps : List Step) (l : Lap (R × W)) (r : Round) (here left : List (Client R W)) → AllByRecursion (IsLeftOf here) left
-    → AllByRecursion (IsDone (late r) known c c' calls steps l r) here → all_settled late known c c' left calls steps l r
-left_settled late known c c' calls steps l r here left rest done =
-    each_weaker (IsLeftOf here) (IsSettled (late r) known c c' calls steps l r)
+    → AllByRecursion (IsDone (late r) known calls steps l r) here → all_settled late known left calls steps l r
+left_settled late known calls steps l r here left rest done =
+    each_weaker (IsLeftOf here) (IsSettled (late r) known calls steps l r)
     (λ x is. (
       is.1,
-      All-contains (IsDone (late r) known c c' calls steps l r) here x
-          (All-from_recursion (IsDone (late r) known c c' calls steps l r) here done) is.0,
+      All-contains (IsDone (late r) known calls steps l r) here x
+          (All-from_recursion (IsDone (late r) known calls steps l r) here done) is.0,
     )) left rest
 
 -- ---- those whose connections are closed at last

@@ -26,7 +26,7 @@ use Rattle.counter_http.proofs.Counted.{counts_none}
 use Rattle.counter_http.proofs.Dues.{answers_then}
 use Rattle.counter_http.proofs.Fared.{all_then}
 use Rattle.counter_http.proofs.Gathering.{takes_reads}
-use Rattle.counter_http.proofs.Placed.{beside_then, found_too, takes_then}
+use Rattle.counter_http.proofs.Placed.{beside_then, found_too}
 use Rattle.counter_http.proofs.Steps.{submitted-append}
 use Rattle.counter_http.proofs.Submitted.{why_then}
 
@@ -78,7 +78,7 @@ pub round_submitted : {C R W X Y : Type 0} (seen : C → Seen) {reason : Fault �
 round_submitted seen {reason} {known} old mid new here one two {t} {t'} seconds batch result g s moves =
     let d = s.did in
     let took = takes_reads seen (figures_at here t seconds) old mid g.reads g.are_reads g.asked.done in
-    let both = beside_then seen old mid new here one two g.reads d.posts took g.asked.honest g.beside d.beside in
+    let both = beside_then here one two g.reads d.posts g.beside d.beside in
     let takes : Takes (seen old) (seen d.stood) (submitted_by (g.reads ++ d.posts)) =
     subst (λ (cs : List Command). Takes (seen old) (seen d.stood) cs) (sym (submitted-append g.reads d.posts))
     (Takes-append (seen old) (seen mid) (seen d.stood) (submitted_by g.reads) (submitted_by d.posts) took d.takes
@@ -108,13 +108,11 @@ round_submitted seen {reason} {known} old mid new here one two {t} {t'} seconds 
       dated = λ read. d.dated (s.some read);
       whose = both.whose;
       whose_refused = subst (λ (ns : List ℕ). AllByRecursion (IsOfOneOf ns) d.refused) g.beside.same d.whose_refused;
-      are_told = λ p y y' at at' k first before takes is.
+      are_told = λ p y y' at at' k before is.
           let mids = found_too here one p y g.beside.same at in
-          subst (λ (l : List Step). AreRefused known k (seen first) (seen new) l (fault_in result) d.refused y')
+          subst (λ (l : List Step). AreRefused known k l (fault_in result) d.refused y')
           (append_assoc before g.reads d.posts)
-          (d.are_told p mids.0 y' mids.1 at' k first (before ++ g.reads)
-          (takes_then seen first old mid before g.reads g.asked.honest takes took)
-          (g.beside.stand p y mids.0 at mids.1 k first before takes is));
+          (d.are_told p mids.0 y' mids.1 at' k (before ++ g.reads) (g.beside.stand p y mids.0 at mids.1 k before is));
       fare = all_then here one two g.reads d.posts g.beside.same g.fare d.fare;
       clock = s.clock;
       stood = d.stood;
@@ -165,9 +163,9 @@ round_refused {Y = Y} seen {reason} {known} old new here one t seconds batch why
       dated = λ read. absurd (omega (arith, read));
       whose = all_more (IsOfOneOf (numbers here)) g.reads [] g.beside.whose tt;
       whose_refused = g.whose_refused;
-      are_told = λ p y y' at at' k first before took is.
-          subst (λ (ss : List Step). AreRefused known k (seen first) (seen new) (before ++ ss) (Some why) g.refused y')
-          (sym (append-nil g.reads)) (g.are_told p y y' at at' k first before took is);
+      are_told = λ p y y' at at' k before is.
+          subst (λ (ss : List Step). AreRefused known k (before ++ ss) (Some why) g.refused y')
+          (sym (append-nil g.reads)) (g.are_told p y y' at at' k before is);
       fare = subst (λ (ss : List Step). AllFare (Some why) g.refused ss here one) (sym (append-nil g.reads)) g.fare;
       clock = refl;
       stood = f.stood;
@@ -183,9 +181,9 @@ round_refused {Y = Y} seen {reason} {known} old new here one t seconds batch why
       idle = g.asked.idle;
       why = g.asked.why;
       same = g.beside.same;
-      stand = λ p x x' at at' k_first first before took is.
-          subst (λ (ss : List Step). StandsHere known k_first (seen first) (seen new) (before ++ ss) x')
-          (sym (append-nil g.reads)) (g.beside.stand p x x' at at' k_first first before took is);
+      stand = λ p x x' at at' k_first before is.
+          subst (λ (ss : List Step). StandsHere known k_first (before ++ ss) x')
+          (sym (append-nil g.reads)) (g.beside.stand p x x' at at' k_first before is);
     }
 
 -- the result stands for another

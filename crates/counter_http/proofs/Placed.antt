@@ -117,70 +117,53 @@ of_these here p client (s ∷ ss) at all = (
 -- ---- what becomes of all clients
 
 -- messages of the one at a place were answered
-pub beside_one : {C R W : Type 0} (seen : C → Seen) {known : R × W → Known} (old new : C) (here : List (Client R W))
+pub beside_one : {R W : Type 0} {known : R × W → Known} (here : List (Client R W))
     (p : ℕ) (client client' : Client R W) (steps : List Step) → AllDiffer (numbers here)
     → slice_get here p ≡ Some client → client'.number ≡ client.number → AllByRecursion (OfOne client.number) steps
-    → ((seen new).honest → (seen old).honest)
-    → ((k : Known) (first : C) (before : List Step) → Takes (seen first) (seen old) (submitted_by before)
-    → StandsHere known k (seen first) (seen old) before client
-    → StandsHere known k (seen first) (seen new) (before ++ steps) client')
-    → AreBeside seen known old new here (slice_set here p client') steps
-beside_one {R = R} {W} seen {known} old new here p client client' steps all at same own honest stands = record {
+    → ((k : Known) (before : List Step) → StandsHere known k before client → StandsHere known k (before ++ steps) client')
+    → AreBeside known here (slice_set here p client') steps
+beside_one {R} {W} {known} here p client client' steps all at same own stands = record {
   whose = of_these here p client steps at own;
   same = numbers_at here p client client' at same;
-  stand = λ q x x' at_q at_q' k first before takes is. elim (same_or_not q p) [
+  stand = λ q x x' at_q at_q' k before is. elim (same_or_not q p) [
     | inl e ↦
         let x_is : x ≡ client =
         some_is x client (sym at_q ∙ ap (λ (n : ℕ). slice_get here n) e ∙ at) in
         let x'_is : client' ≡ x' =
         some_is client' x' (sym (at_same here p client client' at)
         ∙ ap (λ (n : ℕ). slice_get (slice_set here p client') n) (sym e) ∙ at_q') in
-        subst (λ (y : Client R W). StandsHere known k (seen first) (seen new) (before ++ steps) y) x'_is
-        (stands k first before takes (subst (λ (y : Client R W). StandsHere known k (seen first) (seen old) before y)
+        subst (λ (y : Client R W). StandsHere known k (before ++ steps) y) x'_is
+        (stands k before (subst (λ (y : Client R W). StandsHere known k before y)
         x_is is))
     | inr ne ↦
         let x'_is : x ≡ x' = some_is x x' (sym at_q ∙ sym (at_other here p q client' ne) ∙ at_q') in
-        subst (λ (y : Client R W). StandsHere known k (seen first) (seen new) (before ++ steps) y) x'_is
+        subst (λ (y : Client R W). StandsHere known k (before ++ steps) y) x'_is
         (record {
           is = stands_beside x.parting steps
-              (of_others x.number client.number steps (numbers_apart here p q client x all at at_q ne) own)
-              honest is.is;
+              (of_others x.number client.number steps (numbers_apart here p q client x all at at_q ne) own) is.is;
         })
   ];
 }
 
--- nothing was answered, while the bank may have gone on
-pub beside_none : {C R W : Type 0} (seen : C → Seen) {known : R × W → Known} (old new : C) (here : List (Client R W))
-    → ((seen new).honest → (seen old).honest) → AreBeside seen known old new here here []
-beside_none {R = R} {W} seen {known} old new here honest = record {
+-- nothing was answered
+pub beside_none : {R W : Type 0} {known : R × W → Known} (here : List (Client R W)) → AreBeside known here here []
+beside_none {R} {W} {known} here = record {
   whose = tt;
   same = refl;
-  stand = λ p x x' at at' k first before takes is.
-      subst (λ (y : Client R W). StandsHere known k (seen first) (seen new) (before ++ []) y)
-      (some_is x x' (sym at ∙ at')) (record { is = stands_beside x.parting [] tt honest is.is });
+  stand = λ p x x' at at' k before is.
+      subst (λ (y : Client R W). StandsHere known k (before ++ []) y)
+      (some_is x x' (sym at ∙ at')) (record { is = stands_beside x.parting [] tt is.is });
 }
 
--- what the bank took before and what it took then
-pub takes_then : {C : Type 0} (seen : C → Seen) (first old mid : C) (before steps : List Step)
-    → ((seen mid).honest → (seen old).honest) → Takes (seen first) (seen old) (submitted_by before)
-    → Takes (seen old) (seen mid) (submitted_by steps) → Takes (seen first) (seen mid) (submitted_by (before ++ steps))
-takes_then seen first old mid before steps honest a b =
-    subst (λ (cs : List Command). Takes (seen first) (seen mid) cs) (sym (submitted-append before steps))
-    (Takes-append (seen first) (seen old) (seen mid) (submitted_by before) (submitted_by steps) a b honest)
-
 -- some messages, and then others
-pub beside_then : {C R W : Type 0} (seen : C → Seen) {known : R × W → Known} (old mid new : C)
-    (here one two : List (Client R W)) (ss ts : List Step) → Takes (seen old) (seen mid) (submitted_by ss)
-    → ((seen mid).honest → (seen old).honest) → AreBeside seen known old mid here one ss
-    → AreBeside seen known mid new one two ts → AreBeside seen known old new here two (ss ++ ts)
-beside_then seen {known} old mid new here one two ss ts takes honest a b = record {
+pub beside_then : {R W : Type 0} {known : R × W → Known} (here one two : List (Client R W)) (ss ts : List Step)
+    → AreBeside known here one ss → AreBeside known one two ts → AreBeside known here two (ss ++ ts)
+beside_then {known = known} here one two ss ts a b = record {
   whose = all_more (IsOfOneOf (numbers here)) ss ts a.whose
       (subst (λ (ns : List ℕ). AllByRecursion (IsOfOneOf ns) ts) a.same b.whose);
   same = b.same ∙ a.same;
-  stand = λ p x z at at' k first before took is.
+  stand = λ p x z at at' k before is.
       let mids = found_too here one p x a.same at in
-      subst (λ (l : List Step). StandsHere known k (seen first) (seen new) l z) (append_assoc before ss ts)
-      (b.stand p mids.0 z mids.1 at' k first (before ++ ss)
-      (takes_then seen first old mid before ss honest took takes)
-      (a.stand p x mids.0 at mids.1 k first before took is));
+      subst (λ (l : List Step). StandsHere known k l z) (append_assoc before ss ts)
+      (b.stand p mids.0 z mids.1 at' k (before ++ ss) (a.stand p x mids.0 at mids.1 k before is));
 }

@@ -202,43 +202,43 @@ same_client : {R W : Type 0} (here : List (Client R W)) (s p : ℕ) (client x : 
 same_client here s p client x at there e =
     some_is x client (sym there ∙ ap (λ (n : ℕ). slice_get here n) e ∙ at)
 
-answered_one : {R W : Type 0} {known : R × W → Known} {k : Known} {c c' : Seen} {steps : List Step} (moment : ℕ)
+answered_one : {R W : Type 0} {known : R × W → Known} {k : Known} {steps : List Step} (moment : ℕ)
     (here one : List (Client R W)) (s : Sender) (r q : List ℕ) (g : GivesAt here s r) (a : AnswersAt here one s q)
     (p : ℕ) (x y : Client R W) → AllDiffer (numbers here) → slice_get here p ≡ Some x → slice_get one p ≡ Some y
-    → StandsHere known k c c' steps x → StandsHere known k c c' (steps ++ step_at moment q g ∷ []) y
-answered_one {R} {W} {known} {k} {c} {c'} {steps} moment here one s r q g a p x y all at there is =
+    → StandsHere known k steps x → StandsHere known k (steps ++ step_at moment q g ∷ []) y
+answered_one {R} {W} {known} {k} {steps} moment here one s r q g a p x y all at there is =
     elim (same_or_not p s.place) [
       | inl e ↦
-          subst (λ (z : Client R W). StandsHere known k c c' (steps ++ step_at moment q g ∷ []) z)
+          subst (λ (z : Client R W). StandsHere known k (steps ++ step_at moment q g ∷ []) z)
           (changed_at here one s.place p g.client a.after y g.at a.is there e)
           (record_step g.client a.after moment s.head q r g.gives.going g.gives.is
           (answers_given here one s r q g a)
-          (subst (λ (z : Client R W). StandsHere known k c c' steps z)
+          (subst (λ (z : Client R W). StandsHere known k steps z)
           (same_client here s.place p g.client x g.at at e) is))
       | inr ne ↦
-          subst (λ (z : Client R W). StandsHere known k c c' (steps ++ step_at moment q g ∷ []) z)
+          subst (λ (z : Client R W). StandsHere known k (steps ++ step_at moment q g ∷ []) z)
           (kept_at here one s.place p x a.after y at a.is there ne)
           (record {
             is = stands_beside x.parting (step_at moment q g ∷ [])
-                ((λ e. numbers_apart here s.place p g.client x all g.at at ne (sym e)), tt) (λ h. h) is.is;
+                ((λ e. numbers_apart here s.place p g.client x all g.at at ne (sym e)), tt) is.is;
           })
     ]
 
-refused_one : {R W : Type 0} {known : R × W → Known} {k : Known} {c c' : Seen} {steps : List Step}
+refused_one : {R W : Type 0} {known : R × W → Known} {k : Known} {steps : List Step}
     (here one : List (Client R W)) (s : Sender) (r : List ℕ) (why : Fault) (g : GivesAt here s r)
     (a : RefusesAt here one s why) (p : ℕ) (x y : Client R W) → slice_get here p ≡ Some x → slice_get one p ≡ Some y
-    → StandsHere known k c c' steps x → StandsHere known k c c' steps y
-refused_one {R} {W} {known} {k} {c} {c'} {steps} here one s r why g a p x y at there is =
+    → StandsHere known k steps x → StandsHere known k steps y
+refused_one {R} {W} {known} {k} {steps} here one s r why g a p x y at there is =
     elim (same_or_not p s.place) [
       | inl e ↦
-          subst (λ (z : Client R W). StandsHere known k c c' steps z)
+          subst (λ (z : Client R W). StandsHere known k steps z)
           (changed_at here one s.place p g.client a.after y g.at a.is there e)
           (refused_here g.client a.after g.gives.is.message s.head why g.gives.going g.gives.is.is
-          (refuses_given here one s r why g a) (λ h. h)
-          (subst (λ (z : Client R W). StandsHere known k c c' steps z)
+          (refuses_given here one s r why g a)
+          (subst (λ (z : Client R W). StandsHere known k steps z)
           (same_client here s.place p g.client x g.at at e) is))
       | inr ne ↦
-          subst (λ (z : Client R W). StandsHere known k c c' steps z)
+          subst (λ (z : Client R W). StandsHere known k steps z)
           (kept_at here one s.place p x a.after y at a.is there ne) is
     ]
 
@@ -268,42 +268,42 @@ numbers_all_refused here here' (s ∷ ss) (r ∷ rs) why g apart (mid, one, more
     (given_still here mid s.place one.after ss rs one.is g.1 apart.0) apart.1 more
     ∙ numbers_refused here mid s r why g.0 one
 
-pub answered_each : {R W : Type 0} {known : R × W → Known} {k : Known} {c c' : Seen} (moment : ℕ)
+pub answered_each : {R W : Type 0} {known : R × W → Known} {k : Known} (moment : ℕ)
     (here here' : List (Client R W)) (ss : List Sender) (rs qs : List (List ℕ)) (g : AreGiven here ss rs)
     → AreApart ss → AllDiffer (numbers here) → AnswersEach here here' ss qs → (p : ℕ) (x x' : Client R W)
     → slice_get here p ≡ Some x → slice_get here' p ≡ Some x' → (steps : List Step)
-    → StandsHere known k c c' steps x
-    → StandsHere known k c c' (steps ++ steps_at moment here ss rs qs g) x'
-answered_each {R} {W} {known} {k} {c} {c'} moment here here' [] rs qs g apart all a p x x' at at' steps is =
-    subst (λ (l : List Step). StandsHere known k c c' l x') (sym (append-nil steps))
-    (subst (λ (z : Client R W). StandsHere known k c c' steps z)
+    → StandsHere known k steps x
+    → StandsHere known k (steps ++ steps_at moment here ss rs qs g) x'
+answered_each {R} {W} {known} {k} moment here here' [] rs qs g apart all a p x x' at at' steps is =
+    subst (λ (l : List Step). StandsHere known k l x') (sym (append-nil steps))
+    (subst (λ (z : Client R W). StandsHere known k steps z)
     (some_is x x' (sym at ∙ ap (λ (cs : List (Client R W)). slice_get cs p) (sym a) ∙ at')) is)
 answered_each moment here here' (s ∷ ss) [] qs g apart all a p x x' at at' steps is = absurd g
 answered_each moment here here' (s ∷ ss) (r ∷ rs) [] g apart all a p x x' at at' steps is = absurd a
-answered_each {R} {W} {known} {k} {c} {c'} moment here here' (s ∷ ss) (r ∷ rs) (q ∷ qs) g apart all (mid, one, more)
+answered_each {R} {W} {known} {k} moment here here' (s ∷ ss) (r ∷ rs) (q ∷ qs) g apart all (mid, one, more)
     p x x' at at' steps is =
     let same = numbers_answered here mid s r q g.0 one in
     let there = found_too here mid p x same at in
     let later = given_still here mid s.place one.after ss rs one.is g.1 apart.0 in
     let step = step_at moment q g.0 in
-    let stands : StandsHere known k c c' (steps ++ step ∷ []) there.0 =
+    let stands : StandsHere known k (steps ++ step ∷ []) there.0 =
     answered_one moment here mid s r q g.0 one p x there.0 all at there.1 is in
-    subst (λ (l : List Step). StandsHere known k c c' l x')
+    subst (λ (l : List Step). StandsHere known k l x')
     (append_assoc steps (step ∷ []) (steps_at moment mid ss rs qs later)
     ∙ ap (λ (l : List Step). steps ++ step ∷ l) (steps_kept moment here mid s.place one.after ss rs qs one.is g.1 apart.0))
     (answered_each moment mid here' ss rs qs later apart.1 (differ_still _ _ same all) more p there.0 x' there.1 at'
     (steps ++ step ∷ []) stands)
 
-pub refused_each : {R W : Type 0} {known : R × W → Known} {k : Known} {c c' : Seen} (here here' : List (Client R W))
+pub refused_each : {R W : Type 0} {known : R × W → Known} {k : Known} (here here' : List (Client R W))
     (ss : List Sender) (rs : List (List ℕ)) (why : Fault) (g : AreGiven here ss rs) → AreApart ss
     → RefusesEach here here' ss why → (p : ℕ) (x x' : Client R W) → slice_get here p ≡ Some x
-    → slice_get here' p ≡ Some x' → (steps : List Step) → StandsHere known k c c' steps x
-    → StandsHere known k c c' steps x'
-refused_each {R} {W} {known} {k} {c} {c'} here here' [] rs why g apart a p x x' at at' steps is =
-    subst (λ (z : Client R W). StandsHere known k c c' steps z)
+    → slice_get here' p ≡ Some x' → (steps : List Step) → StandsHere known k steps x
+    → StandsHere known k steps x'
+refused_each {R} {W} {known} {k} here here' [] rs why g apart a p x x' at at' steps is =
+    subst (λ (z : Client R W). StandsHere known k steps z)
     (some_is x x' (sym at ∙ ap (λ (cs : List (Client R W)). slice_get cs p) (sym a) ∙ at')) is
 refused_each here here' (s ∷ ss) [] why g apart a p x x' at at' steps is = absurd g
-refused_each {R} {W} {known} {k} {c} {c'} here here' (s ∷ ss) (r ∷ rs) why g apart (mid, one, more) p x x' at at' steps
+refused_each {R} {W} {known} {k} here here' (s ∷ ss) (r ∷ rs) why g apart (mid, one, more) p x x' at at' steps
     is =
     let there = found_too here mid p x (numbers_refused here mid s r why g.0 one) at in
     refused_each mid here' ss rs why (given_still here mid s.place one.after ss rs one.is g.1 apart.0) apart.1 more p
@@ -319,25 +319,25 @@ refused_elsewhere {R} {W} here here' (s ∷ ss) why p (mid, one, more) all =
     ∙ at_other here s.place p one.after (λ e. all.0 (sym e))
 
 -- a record of the one at a place was refused
-told_one : {R W : Type 0} {known : R × W → Known} {k : Known} {c c' : Seen} {steps : List Step} (moment : ℕ)
+told_one : {R W : Type 0} {known : R × W → Known} {k : Known} {steps : List Step} (moment : ℕ)
     (here mid here' : List (Client R W)) (s : Sender) (r : List ℕ) (ss : List Sender) (why : Fault) (g : GivesAt here s r)
     (one : RefusesAt here mid s why) → AllByRecursion (IsElsewhere s.place) ss → RefusesEach mid here' ss why
     → AllDiffer (numbers here) → numbers here' ≡ numbers here → (p : ℕ) (x x' : Client R W) → slice_get here p ≡ Some x
-    → slice_get here' p ≡ Some x' → StandsHere known k c c' steps x → g.client.number ≡ x'.number
-    → StandsRefused known k c c' steps why (step_at moment [] g).turn x'
-told_one {R} {W} {known} {k} {c} {c'} {steps} moment here mid here' s r ss why g one apart more all same p x x' at at' is
+    → slice_get here' p ≡ Some x' → StandsHere known k steps x → g.client.number ≡ x'.number
+    → StandsRefused known k steps why (step_at moment [] g).turn x'
+told_one {R} {W} {known} {k} {steps} moment here mid here' s r ss why g one apart more all same p x x' at at' is
     own =
     elim (same_or_not p s.place) [
       | inl e ↦
           let there : slice_get here' s.place ≡ Some one.after =
           refused_elsewhere mid here' ss why s.place more apart
           ∙ ap (λ (cs : List (Client R W)). slice_get cs s.place) one.is ∙ at_same here s.place one.before one.after one.at in
-          subst (λ (z : Client R W). StandsRefused known k c c' steps why (step_at moment [] g).turn z)
+          subst (λ (z : Client R W). StandsRefused known k steps why (step_at moment [] g).turn z)
           (same_client here' s.place p x' one.after (sym (ap (λ (n : ℕ). slice_get here' n) e) ∙ at')
           (ap (λ (n : ℕ). slice_get here' n) e ∙ there) e)
           (refused_now g.client one.after moment g.gives.is.message s.head why g.gives.going g.gives.is.is
-          (refuses_given here mid s r why g one) (λ h. h)
-          (subst (λ (z : Client R W). StandsHere known k c c' steps z)
+          (refuses_given here mid s r why g one)
+          (subst (λ (z : Client R W). StandsHere known k steps z)
           (same_client here s.place p g.client x g.at at e) is))
       | inr ne ↦
           absurd (numbers_apart here s.place p g.client x all g.at at ne
@@ -345,21 +345,21 @@ told_one {R} {W} {known} {k} {c} {c'} {steps} moment here mid here' s r ss why g
     ]
 
 -- each was told
-pub told_each : {R W : Type 0} {known : R × W → Known} {k : Known} {c c' : Seen} {steps : List Step} (moment : ℕ)
+pub told_each : {R W : Type 0} {known : R × W → Known} {k : Known} {steps : List Step} (moment : ℕ)
     (here here' : List (Client R W)) (ss : List Sender) (rs : List (List ℕ)) (why : Fault) (g : AreGiven here ss rs)
     → AreApart ss → AllDiffer (numbers here) → RefusesEach here here' ss why → (p : ℕ) (x x' : Client R W)
-    → slice_get here p ≡ Some x → slice_get here' p ≡ Some x' → StandsHere known k c c' steps x
-    → AreRefused known k c c' steps (Some why) (steps_at moment here ss rs [] g) x'
+    → slice_get here p ≡ Some x → slice_get here' p ≡ Some x' → StandsHere known k steps x
+    → AreRefused known k steps (Some why) (steps_at moment here ss rs [] g) x'
 told_each moment here here' [] rs why g apart all a p x x' at at' is = tt
 told_each moment here here' (s ∷ ss) [] why g apart all a p x x' at at' is = absurd g
-told_each {R} {W} {known} {k} {c} {c'} {steps} moment here here' (s ∷ ss) (r ∷ rs) why g apart all (mid, one, more) p x x'
+told_each {R} {W} {known} {k} {steps} moment here here' (s ∷ ss) (r ∷ rs) why g apart all (mid, one, more) p x x'
     at at' is =
     let same = numbers_refused here mid s r why g.0 one in
     let there = found_too here mid p x same at in
     let later = given_still here mid s.place one.after ss rs one.is g.1 apart.0 in (
       (λ own. told_one moment here mid here' s r ss why g.0 one apart.0 more all
           (numbers_all_refused mid here' ss rs why later apart.1 more ∙ same) p x x' at at' is own),
-      subst (λ (l : List Step). AreRefused known k c c' steps (Some why) l x')
+      subst (λ (l : List Step). AreRefused known k steps (Some why) l x')
           (steps_kept moment here mid s.place one.after ss rs [] one.is g.1 apart.0)
           (told_each moment mid here' ss rs why later apart.1 (differ_still _ _ same all) more p there.0 x' there.1 at'
           (refused_one here mid s r why g.0 one p x there.0 at there.1 is)),

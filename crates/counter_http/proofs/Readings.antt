@@ -34,33 +34,33 @@ after_read {known = known} {old} made =
     record (known (old.reader, old.writer)) { reader = made.reader; reads = made.reads; beside = made.beside }
 
 -- as the read was made
-before_read : {R W : Type 0} {known : R × W → Known} {k : Known} {c c' : Seen} {steps : List Step} {old new : Client R W}
+before_read : {R W : Type 0} {known : R × W → Known} {k : Known} {steps : List Step} {old new : Client R W}
     {answer : Result ℕ Error} {bytes : List ℕ} → MakesRead known old new answer bytes
-    → StandsHere known k c c' steps old
-    → IsGoing old.number k (known (old.reader, old.writer)) c c' steps false old.shows_body (unread old) []
-before_read {known = known} {k} {c} {c'} {steps} {old} made stands =
+    → StandsHere known k steps old
+    → IsGoing old.number k (known (old.reader, old.writer)) steps false old.shows_body (unread old) []
+before_read {known = known} {k} {steps} {old} made stands =
     let l = known (old.reader, old.writer) in
-    subst (λ (x : List ℕ). IsGoing old.number k l c c' steps false old.shows_body (unread old) x) made.written
-    (subst (λ (b : Bool). IsGoing old.number k l c c' steps b old.shows_body (unread old) (pending old)) made.waited
+    subst (λ (x : List ℕ). IsGoing old.number k l steps false old.shows_body (unread old) x) made.written
+    (subst (λ (b : Bool). IsGoing old.number k l steps b old.shows_body (unread old) (pending old)) made.waited
     (going_of old made.going stands))
 
-with_read : {R W : Type 0} {known : R × W → Known} {k : Known} {c c' : Seen} {steps : List Step} {old new : Client R W}
+with_read : {R W : Type 0} {known : R × W → Known} {k : Known} {steps : List Step} {old new : Client R W}
     {answer : Result ℕ Error} {bytes : List ℕ} (made : MakesRead known old new answer bytes)
-    → StandsHere known k c c' steps old
-    → IsGoing old.number k (after_read made) c c' steps true old.shows_body (unread old ++ bytes) []
+    → StandsHere known k steps old
+    → IsGoing old.number k (after_read made) steps true old.shows_body (unread old ++ bytes) []
 with_read {known = known} {old = old} {answer = answer} {bytes} made stands =
     read_going (unread old ++ bytes) answer made.reader made.reads made.beside (before_read made stands)
     (record { bytes = bytes; got = made.got; all_is = refl; long = made.long }) made.tells made.sink
 
 -- a read that gave nothing
-with_none : {R W : Type 0} {known : R × W → Known} {k : Known} {c c' : Seen} {steps : List Step} {old new : Client R W}
-    {answer : Result ℕ Error} (made : MakesRead known old new answer []) → StandsHere known k c c' steps old
-    → IsGoing old.number k (after_read made) c c' steps true old.shows_body (unread old) []
+with_none : {R W : Type 0} {known : R × W → Known} {k : Known} {steps : List Step} {old new : Client R W}
+    {answer : Result ℕ Error} (made : MakesRead known old new answer []) → StandsHere known k steps old
+    → IsGoing old.number k (after_read made) steps true old.shows_body (unread old) []
 with_none {old = old} made stands = waits_so (append-nil (unread old)) (λ e. cc e) (with_read made stands)
 
-last_read : {R W : Type 0} {known : R × W → Known} {k : Known} {c c' : Seen} {steps : List Step} {old new : Client R W}
+last_read : {R W : Type 0} {known : R × W → Known} {k : Known} {steps : List Step} {old new : Client R W}
     {answer : Result ℕ Error} {bytes : List ℕ} (P : ReadCall → Type 0) (made : MakesRead known old new answer bytes)
-    → StandsHere known k c c' steps old → P (read_call answer) → EndsWith P k.reads made.reads
+    → StandsHere known k steps old → P (read_call answer) → EndsWith P k.reads made.reads
 last_read {known = known} {k} {old = old} {answer = answer} P made stands is =
     let before = (before_read made stands).prompt in
     record {
@@ -72,8 +72,8 @@ last_read {known = known} {k} {old = old} {answer = answer} P made stands is =
     }
 
 -- bytes came, or none for now
-some_here : {R W : Type 0} {known : R × W → Known} {k : Known} {c c' : Seen} {steps : List Step} (old new : Client R W)
-    → ReadsSome known old new → StandsHere known k c c' steps old → StandsHere known k c c' steps new
+some_here : {R W : Type 0} {known : R × W → Known} {k : Known} {steps : List Step} (old new : Client R W)
+    → ReadsSome known old new → StandsHere known k steps old → StandsHere known k steps new
 some_here old new some stands =
     let waits : new.has_more ≡ false → IsUnfinished (unread old ++ some.bytes) old.shows_body =
     λ e. subst (λ (x : List ℕ). IsUnfinished x old.shows_body)
@@ -83,9 +83,9 @@ some_here old new some stands =
     (waits_so refl waits (with_read some.made stands))
 
 -- the input ended
-ended_here : {R W : Type 0} {known : R × W → Known} {k : Known} {c c' : Seen} {steps : List Step} (old new : Client R W)
+ended_here : {R W : Type 0} {known : R × W → Known} {k : Known} {steps : List Step} (old new : Client R W)
     (end : ReadsEnd known old new) → HasEnded end.made.reader k.reads end.made.reads → SaysAtEnd old new
-    → StandsHere known k c c' steps old → StandsHere known k c c' steps new
+    → StandsHere known k steps old → StandsHere known k steps new
 ended_here old new end ended (Silent empty none why) stands =
     parted_here new parting.Served end.made.number why end.made.ends none
     (parted_finished (with_none end.made stands) ended empty)
@@ -107,17 +107,17 @@ ended_here old new end ended (Lost none why) stands =
     (lost_as parting.Memory tt (left_as None (record { is = with_none end.made stands })) tt)
 
 -- the reader failed
-unread_here : {R W : Type 0} {known : R × W → Known} {k : Known} {c c' : Seen} {steps : List Step} (old new : Client R W)
-    → ReadsLast known old new → StandsHere known k c c' steps old → StandsHere known k c c' steps new
+unread_here : {R W : Type 0} {known : R × W → Known} {k : Known} {steps : List Step} (old new : Client R W)
+    → ReadsLast known old new → StandsHere known k steps old → StandsHere known k steps new
 unread_here old new last stands =
     parted_here new parting.Read last.made.number last.parting last.made.ends last.none
     (parted_unread (with_none last.made stands)
     (unfinished_none (unread old) ((before_read last.made stands).waits refl)) (last_read _ last.made stands last.failed))
 
-pub read_here : {R W : Type 0} {known : R × W → Known} {k : Known} {c c' : Seen} {steps : List Step} (old new : Client R W)
-    → Reads known old new → StandsHere known k c c' steps old → StandsHere known k c c' steps new
-read_here {known = known} {k} {c} {c'} {steps} old new (inl same) stands =
-    subst (λ (x : Client _ _). StandsHere known k c c' steps x) (sym same) stands
+pub read_here : {R W : Type 0} {known : R × W → Known} {k : Known} {steps : List Step} (old new : Client R W)
+    → Reads known old new → StandsHere known k steps old → StandsHere known k steps new
+read_here {known = known} {k} {steps} old new (inl same) stands =
+    subst (λ (x : Client _ _). StandsHere known k steps x) (sym same) stands
 read_here old new (inr (inl some)) stands = some_here old new some stands
 read_here old new (inr (inr (inl end))) stands =
     ended_here old new end (record { none = end.none; read = last_read _ end.made stands end.end }) end.says stands

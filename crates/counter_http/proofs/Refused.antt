@@ -29,24 +29,24 @@ use Rattle.counter_http.proofs.Written.{failed_more}
 -- ---- where it stands
 
 -- by its fields
-refused_as : {R W : Type 0} {known : R × W → Known} {k : Known} {c c' : Seen} {steps : List Step} {i : ℕ} {l : Known}
+refused_as : {R W : Type 0} {known : R × W → Known} {k : Known} {steps : List Step} {i : ℕ} {l : Known}
     {left : List ℕ} {turn : Turn} (fault : Fault) (p : Parting) (new : Client R W) → new.parting ≡ Some p → new.number ≡ i
     → known (new.reader, new.writer) ≡ l → pending new ≡ left → IsOfRefusal fault p
-    → IsRefused i k l c c' steps left turn p → StandsRefused known k c c' steps fault turn new
-refused_as {known = known} {k} {c} {c'} {steps} {i} {l} {left} {turn} fault p new parting_is number ends none why is =
+    → IsRefused i k l steps left turn p → StandsRefused known k steps fault turn new
+refused_as {known = known} {k} {steps} {i} {l} {left} {turn} fault p new parting_is number ends none why is =
     record {
       parting = p;
       parting_is = parting_is;
       why = why;
-      is = subst (λ (j : ℕ). IsRefused j k (known (new.reader, new.writer)) c c' steps (pending new) turn p) (sym number)
-          (subst (λ (m : Known). IsRefused i k m c c' steps (pending new) turn p) (sym ends)
-          (subst (λ (x : List ℕ). IsRefused i k l c c' steps x turn p) (sym none) is));
+      is = subst (λ (j : ℕ). IsRefused j k (known (new.reader, new.writer)) steps (pending new) turn p) (sym number)
+          (subst (λ (m : Known). IsRefused i k m steps (pending new) turn p) (sym ends)
+          (subst (λ (x : List ℕ). IsRefused i k l steps x turn p) (sym none) is));
     }
 
 -- nothing more is written to it
-lost_to : {i : ℕ} {k l : Known} {c c' : Seen} {steps : List Step} {turn : Turn} (p : Parting) → IsLoss p
-    → (is : IsLeft i k l c c' steps) → PartingIsOfItsEnd p k.reads l.reads k.writes l.writes → is.lost ≡ turn ∷ []
-    → IsBrokenOff (of_client i steps) is.lost is.last → IsRefused i k l c c' steps [] turn p
+lost_to : {i : ℕ} {k l : Known} {steps : List Step} {turn : Turn} (p : Parting) → IsLoss p
+    → (is : IsLeft i k l steps) → PartingIsOfItsEnd p k.reads l.reads k.writes l.writes → is.lost ≡ turn ∷ []
+    → IsBrokenOff (of_client i steps) is.lost is.last → IsRefused i k l steps [] turn p
 unfolding lost_as loses
 lost_to parting.Served loss is ends lost broken_off = absurd loss
 lost_to parting.Read loss is ends lost broken_off = absurd loss
@@ -59,35 +59,34 @@ lost_to parting.GivenUp loss is ends lost broken_off = absurd loss
 lost_to parting.Stopped loss is ends lost broken_off = absurd loss
 
 -- there was no memory for the 503
-forgotten : {i : ℕ} {k l : Known} {c c' : Seen} {steps : List Step} {left : List ℕ} {turn : Turn} {p : Parting}
-    → IsRefused i k l c c' steps left turn p → IsRefused i k l c c' steps [] turn parting.Memory
+forgotten : {i : ℕ} {k l : Known} {steps : List Step} {left : List ℕ} {turn : Turn} {p : Parting}
+    → IsRefused i k l steps left turn p → IsRefused i k l steps [] turn parting.Memory
 unfolding left_as
 forgotten {p = p} is =
     lost_to parting.Memory tt
     (left_as (Some p) {has_more = true} {shown = true} {rest = []} (record { is = is.parted })) tt is.lost is.broken_off
 
-pub refused_now : {R W : Type 0} {known : R × W → Known} {k : Known} {c c' c'' : Seen} {steps : List Step}
+pub refused_now : {R W : Type 0} {known : R × W → Known} {k : Known} {steps : List Step}
     (old new : Client R W) (moment : ℕ) (m : Message) (head : Head) (why : Fault) → old.parting ≡ None
     → IsHeadOf head (unread old) m
-    → HasEndedWith old new (answer_text (bare 503) head.shows_body true) (parting.Bank why) → (c''.honest → c'.honest)
-    → StandsHere known k c c' steps old
-    → StandsRefused known k c c'' steps why (record { message = m; moment = moment }) new
-refused_now {known = known} old new moment m head why going is (inl ended) honest stands =
+    → HasEndedWith old new (answer_text (bare 503) head.shows_body true) (parting.Bank why) → StandsHere known k steps old
+    → StandsRefused known k steps why (record { message = m; moment = moment }) new
+refused_now {known = known} old new moment m head why going is (inl ended) stands =
     refused_as why (parting.Bank why) new ended.parting ended.same.number
     (ends_by known ended.same.reader ended.same.writer)
     (ended.added ∙ ap (λ (b : Bool). pending old ++ answer_text (bare 503) b true) is.shows_is) refl
-    (answered_unavailable why moment m (drop head.length (unread old)) is.whole is.front honest (going_of old going stands))
-refused_now {known = known} old new moment m head why going is (inr lost) honest stands =
+    (answered_unavailable why moment m (drop head.length (unread old)) is.whole is.front (going_of old going stands))
+refused_now {known = known} old new moment m head why going is (inr lost) stands =
     refused_as why parting.Memory new lost.parting lost.number (ends_by known lost.reader lost.writer) lost.none tt
-    (forgotten (answered_unavailable why moment m (drop head.length (unread old)) is.whole is.front honest
+    (forgotten (answered_unavailable why moment m (drop head.length (unread old)) is.whole is.front
     (going_of old going stands)))
 
 -- ---- it is written to
 
-refused_wrote : {i : ℕ} {k l : Known} {c c' : Seen} {steps : List Step} {left : List ℕ} {turn : Turn} {p : Parting} (n : ℕ)
+refused_wrote : {i : ℕ} {k l : Known} {steps : List Step} {left : List ℕ} {turn : Turn} {p : Parting} (n : ℕ)
     (w' : Option (List ℕ)) (v' : Option (List WriteCall)) → Appends l.writer w' (take n left) → HasMore l.writes v'
-    → left ≢ [] → (drop n left ≡ [] → EndsWith IsFlush l.writes v') → IsRefused i k l c c' steps left turn p
-    → IsRefused i k (record l { writer = w'; writes = v' }) c c' steps (drop n left) turn p
+    → left ≢ [] → (drop n left ≡ [] → EndsWith IsFlush l.writes v') → IsRefused i k l steps left turn p
+    → IsRefused i k (record l { writer = w'; writes = v' }) steps (drop n left) turn p
 unfolding wrote_to
 refused_wrote {p = p} n w' v' wrote more some flushed is = record {
   parted = (wrote_to (Some p) {has_more = true} {shown = true} {rest = []} n w' v' wrote more some flushed (record { is = is.parted })).is;
@@ -95,21 +94,21 @@ refused_wrote {p = p} n w' v' wrote more some flushed is = record {
   broken_off = is.broken_off;
 }
 
-refused_failed : {i : ℕ} {k l : Known} {c c' : Seen} {steps : List Step} {left : List ℕ} {turn : Turn} {p : Parting} (n : ℕ)
+refused_failed : {i : ℕ} {k l : Known} {steps : List Step} {left : List ℕ} {turn : Turn} {p : Parting} (n : ℕ)
     (w' : Option (List ℕ)) (v' : Option (List WriteCall)) → Appends l.writer w' (take n left) → HasWriteFailed l.writes v'
-    → IsRefused i k l c c' steps left turn p
-    → IsRefused i k (record l { writer = w'; writes = v' }) c c' steps [] turn parting.Write
+    → IsRefused i k l steps left turn p
+    → IsRefused i k (record l { writer = w'; writes = v' }) steps [] turn parting.Write
 unfolding left_after left_as
 refused_failed {p = p} n w' v' wrote failed is =
     lost_to parting.Write tt
     (left_after (Some p) {has_more = true} {shown = true} {rest = []} n w' v' wrote (failed_more failed) (record { is = is.parted }))
     (more_failed IsWriteFailure is.parted.more failed) is.lost is.broken_off
 
-pub refused_written : {R W : Type 0} {known : R × W → Known} {k : Known} {c c' : Seen} {steps : List Step} {fault : Fault}
-    {turn : Turn} (old new : Client R W) → Writes known old new → StandsRefused known k c c' steps fault turn old
-    → StandsRefused known k c c' steps fault turn new
-refused_written {known = known} {k} {c} {c'} {steps} {fault} {turn} old new (inl same) is =
-    subst (λ (x : Client _ _). StandsRefused known k c c' steps fault turn x) (sym same) is
+pub refused_written : {R W : Type 0} {known : R × W → Known} {k : Known} {steps : List Step} {fault : Fault}
+    {turn : Turn} (old new : Client R W) → Writes known old new → StandsRefused known k steps fault turn old
+    → StandsRefused known k steps fault turn new
+refused_written {known = known} {k} {steps} {fault} {turn} old new (inl same) is =
+    subst (λ (x : Client _ _). StandsRefused known k steps fault turn x) (sym same) is
 refused_written {fault = fault} old new (inr (inl w)) is =
     refused_as fault is.parting new (w.parting ∙ is.parting_is) w.number w.ends w.left is.why
     (refused_wrote w.count w.contents w.writes w.wrote w.more w.some (λ e. w.flushed (w.left ∙ e)) is.is)
@@ -125,9 +124,9 @@ IsRefusedCause parting.Memory = ⊤
 IsRefusedCause parting.Stopped = ⊤
 IsRefusedCause _ = ⊥
 
-refused_early : {i : ℕ} {k l : Known} {c c' : Seen} {steps : List Step} {left : List ℕ} {turn : Turn} {p : Parting}
-    (fault : Fault) (cause : Parting) → IsRefusedCause cause → IsRefused i k l c c' steps left turn p
-    → ClientIsRefused i k l c c' steps fault turn cause
+refused_early : {i : ℕ} {k l : Known} {steps : List Step} {left : List ℕ} {turn : Turn} {p : Parting}
+    (fault : Fault) (cause : Parting) → IsRefusedCause cause → IsRefused i k l steps left turn p
+    → ClientIsRefused i k l steps fault turn cause
 unfolding closed_early closed_for left_as
 refused_early {p = p} fault parting.Memory ours is = record {
   served = closed_early parting.Memory tt
@@ -149,9 +148,9 @@ refused_early fault parting.Read ours is = absurd ours
 refused_early fault parting.Write ours is = absurd ours
 refused_early fault (parting.Bank why) ours is = absurd ours
 
-refused_over : {i : ℕ} {k l : Known} {c c' : Seen} {steps : List Step} {left : List ℕ} {turn : Turn} {p : Parting}
-    (fault : Fault) → left ≡ [] → IsOfRefusal fault p → IsRefused i k l c c' steps left turn p
-    → ClientIsRefused i k l c c' steps fault turn p
+refused_over : {i : ℕ} {k l : Known} {steps : List Step} {left : List ℕ} {turn : Turn} {p : Parting}
+    (fault : Fault) → left ≡ [] → IsOfRefusal fault p → IsRefused i k l steps left turn p
+    → ClientIsRefused i k l steps fault turn p
 unfolding closed_as
 refused_over fault none why is =
     record { served = closed_as none is.parted; lost = is.lost; broken_off = is.broken_off; why = why }
@@ -159,19 +158,19 @@ refused_over fault none why is =
 some_same : (p q : Parting) → Some p ≡ Some q → p ≡ q
 some_same p q e = cc e
 
-pub refused_parted : {R W : Type 0} {known : R × W → Known} {k : Known} {c c' : Seen} {steps : List Step} {fault : Fault}
+pub refused_parted : {R W : Type 0} {known : R × W → Known} {k : Known} {steps : List Step} {fault : Fault}
     {turn : Turn} (client : Client R W) (cause : Parting) (parts : R × W × Parting) → IsParting client cause parts
-    → ((IsOver client → ⊥) → IsRefusedCause cause) → StandsRefused known k c c' steps fault turn client
-    → ClientIsRefused client.number k (known (parts.0, parts.1)) c c' steps fault turn parts.2
-refused_parted {known = known} {k} {c} {c'} {steps} {fault} {turn} client cause parts is ours stands =
-    subst (λ (l : Known). ClientIsRefused client.number k l c c' steps fault turn parts.2)
+    → ((IsOver client → ⊥) → IsRefusedCause cause) → StandsRefused known k steps fault turn client
+    → ClientIsRefused client.number k (known (parts.0, parts.1)) steps fault turn parts.2
+refused_parted {known = known} {k} {steps} {fault} {turn} client cause parts is ours stands =
+    subst (λ (l : Known). ClientIsRefused client.number k l steps fault turn parts.2)
     (sym (ends_by known is.reader is.writer))
     (elim is.why [
       | inl early ↦
-          subst (λ (q : Parting). ClientIsRefused client.number k (known (client.reader, client.writer)) c c' steps fault
+          subst (λ (q : Parting). ClientIsRefused client.number k (known (client.reader, client.writer)) steps fault
           turn q) (sym early.0) (refused_early fault cause (ours early.1) stands.is)
       | inr over ↦
-          subst (λ (q : Parting). ClientIsRefused client.number k (known (client.reader, client.writer)) c c' steps fault
+          subst (λ (q : Parting). ClientIsRefused client.number k (known (client.reader, client.writer)) steps fault
           turn q) (some_same stands.parting parts.2 (sym stands.parting_is ∙ over.0))
           (refused_over fault over.1 stands.why stands.is)
     ])

@@ -35,7 +35,7 @@ use Rattle.counter_http.proofs.AnsweredTurns.{submits_as}
 use Rattle.counter_http.proofs.Asked.{answered_nothing, asked_as, asked_err, asked_full}
 use Rattle.counter_http.proofs.Faring.{fares_answered, fares_lost, fares_unread}
 use Rattle.counter_http.proofs.Fronts.{answered_here, ends_by, going_here, going_of, gone_here, parted_here}
-use Rattle.counter_http.proofs.Fronts.{number_ended, refused_here, stands_after}
+use Rattle.counter_http.proofs.Fronts.{number_ended, refused_here}
 use Rattle.counter_http.proofs.Refused.{refused_now}
 use Rattle.counter_http.proofs.Walking.{walks_always, walks_end}
 
@@ -66,7 +66,7 @@ pub says_answered : {C R W X : Type 0} (seen : C → Seen) {reason : Fault → C
     (figures : Figures) (bank new : C) (old after : Client R W) (m : Message) (head : Head) (answer : Answer) (done : Front)
     (result : Result X Fault) → SaysSo old after answer head done → IsHeadOf head (unread old) m
     → old.parting ≡ None → is_posting (asked_by m) ≡ false → IsAsked seen reason bank new result
-    → ((more : List Step) → IfErr result (TellsRefusal seen known bank new old after more))
+    → ((more : List Step) → IfErr result (TellsRefusal known old after more))
     → ((seen new).honest → (log : List Command) → ShowsLog (seen bank) log
     → answer ≡ answer_with (told_to figures (asked_by m)) log (asked_by m))
     → IsAnswered seen reason known figures bank new old after result
@@ -88,13 +88,13 @@ says_answered seen {known = known} figures bank new old after m head answer fron
       told = told _;
       fares = λ fault refused among. fares_answered old after text head (step_told given old.number 0 m text) [] refl going did;
       number = did.same.number;
-      stands = λ k first steps takes stands.
-          answered_here old after given 0 m head text going is did asked.honest stands;
+      stands = λ k steps stands.
+          answered_here old after given 0 m head text going is did stands;
     }
 says_answered seen figures bank new old after m head answer front.Nothing result lost is going reads asked told says =
     answered_nothing seen bank new old after result asked (told [])
     (λ fault refused among. fares_lost old after lost) lost.number
-    (λ k c steps stands. gone_here old after lost (stands_after old asked.honest stands))
+    (λ k steps stands. gone_here old after lost stands)
 says_answered seen figures bank new old after m head answer (front.Record r) result did is going reads asked told says =
     absurd did
 
@@ -113,30 +113,30 @@ pub as_told : (figures : Figures) (a : Asked) (log : List Command) → asks_figu
 as_told figures a log asks = rw asks refl
 
 -- the bank refused it
-tells_refusal : {C R W : Type 0} (seen : C → Seen) {known : R × W → Known} (bank new : C) (old after : Client R W) (m : Message)
+tells_refusal : {R W : Type 0} {known : R × W → Known} (old after : Client R W) (m : Message)
     (head : Head) (why : Fault) → HasEndedWith old after (answer_text (bare 503) head.shows_body true) (parting.Bank why)
     → IsHeadOf head (unread old) m → old.parting ≡ None → is_posting (asked_by m) ≡ false
-    → ((seen new).honest → (seen bank).honest) → TellsRefusal seen known bank new old after [] why
-tells_refusal seen {known} bank new old after m head why ended is going reads honest = record {
+    → TellsRefusal known old after [] why
+tells_refusal {known = known} old after m head why ended is going reads = record {
   step = step_of old.number 0 m [];
   own = refl;
   reads = reads;
-  told = λ k first steps takes stands.
-      subst (λ (ss : List Step). StandsRefused known k (seen first) (seen new) ss why (step_of old.number 0 m []).turn after)
-      (sym (append-nil steps)) (refused_now old after 0 m head why going is ended honest stands);
+  told = λ k steps stands.
+      subst (λ (ss : List Step). StandsRefused known k ss why (step_of old.number 0 m []).turn after)
+      (sym (append-nil steps)) (refused_now old after 0 m head why going is ended stands);
 }
 
 refusal_told : {C R W : Type 0} (seen : C → Seen) {known : R × W → Known} (bank new : C) (old after : Client R W) (why : Fault)
-    (result : Result Front Fault) → IsToldOf why result → TellsRefusal seen known bank new old after [] why
-    → IfErr result (TellsRefusal seen known bank new old after [])
+    (result : Result Front Fault) → IsToldOf why result → TellsRefusal known old after [] why
+    → IfErr result (TellsRefusal known old after [])
 refusal_told seen {known} bank new old after fault.Memory result is told =
-    subst (λ (r : Result Front Fault). IfErr r (TellsRefusal seen known bank new old after [])) (sym is) tt
+    subst (λ (r : Result Front Fault). IfErr r (TellsRefusal known old after [])) (sym is) tt
 refusal_told seen {known} bank new old after fault.Store result is told =
-    subst (λ (r : Result Front Fault). IfErr r (TellsRefusal seen known bank new old after [])) (sym is) told
+    subst (λ (r : Result Front Fault). IfErr r (TellsRefusal known old after [])) (sym is) told
 refusal_told seen {known} bank new old after fault.Down result is told =
-    subst (λ (r : Result Front Fault). IfErr r (TellsRefusal seen known bank new old after [])) (sym is) told
+    subst (λ (r : Result Front Fault). IfErr r (TellsRefusal known old after [])) (sym is) told
 refusal_told seen {known} bank new old after (fault.Damaged rule) result is told =
-    subst (λ (r : Result Front Fault). IfErr r (TellsRefusal seen known bank new old after [])) (sym is) told
+    subst (λ (r : Result Front Fault). IfErr r (TellsRefusal known old after [])) (sym is) told
 
 refusal_asked : {C : Type 0} (seen : C → Seen) {reason : Fault → C → C → Type 0} (bank new : C) (why : Fault)
     (result : Result Front Fault) → IsToldOf why result → IsAsked {X = Reading} seen reason bank new (Err why)
@@ -162,22 +162,22 @@ read_answered seen {reason} {known} figures bank new old after m head (Ok readin
     says =
     says_answered seen figures bank new old after m head (said_in reading) did.0 result did.2 is going reads
     (subst (λ (r : Result Front Fault). IsAsked seen reason bank new r) (sym did.1) (asked_as did.0 asked))
-    (λ more. subst (λ (r : Result Front Fault). IfErr r (TellsRefusal seen known bank new old after more)) (sym did.1) tt)
+    (λ more. subst (λ (r : Result Front Fault). IfErr r (TellsRefusal known old after more)) (sym did.1) tt)
     (λ h log s. as_untold figures (asked_by m) log (said_in reading) none (says h log s))
 read_answered seen figures bank new old after m head (Err why) result did is going reads none asked says =
     let asks = refusal_asked seen bank new why result did.1 asked in
     answered_nothing seen bank new old after result asks
     (refusal_told seen bank new old after why result did.1
-    (tells_refusal seen bank new old after m head why did.0 is going reads asks.honest))
-    (fares_unread old after why result did.0 did.1) (number_ended old after did.0) (λ k c steps stands. refused_here old after m head why going is did.0 asks.honest stands)
+    (tells_refusal old after m head why did.0 is going reads))
+    (fares_unread old after why result did.0 did.1) (number_ended old after did.0) (λ k steps stands. refused_here old after m head why going is did.0 stands)
 
 -- ---- no message is there
 
-pub unfinished_here : {R W : Type 0} {known : R × W → Known} {k : Known} {c c' : Seen} {steps : List Step}
+pub unfinished_here : {R W : Type 0} {known : R × W → Known} {k : Known} {steps : List Step}
     (old new : Client R W) (shown : Bool) → new.number ≡ old.number → new.reader ≡ old.reader → new.writer ≡ old.writer
     → old.parting ≡ None → new.parting ≡ None → new.has_more ≡ false → new.shows_body ≡ shown
     → unread new ≡ unread old → pending new ≡ pending old → IsUnfinished (unread old) shown
-    → StandsHere known k c c' steps old → StandsHere known k c c' steps new
+    → StandsHere known k steps old → StandsHere known k steps new
 unfinished_here {known = known} old new shown number reader writer going going' more shows_is rest left waits stands =
     going_here new number going' (ends_by known reader writer) more shows_is rest left
     (waits_so refl (λ e. waits) (going_of old going stands))
@@ -193,10 +193,10 @@ hopeless own buf shown stays is = record {
   none_refused = refl;
 }
 
-pub hopeless_here : {R W : Type 0} {known : R × W → Known} {k : Known} {c c' : Seen} {steps : List Step}
+pub hopeless_here : {R W : Type 0} {known : R × W → Known} {k : Known} {steps : List Step}
     (old new : Client R W) (shown : Bool) (answer : Answer) → answer ≡ bare 400 → old.parting ≡ None
     → IsHopeless (unread old) shown → HasEndedWith old new (answer_text answer shown true) parting.Served
-    → StandsHere known k c c' steps old → StandsHere known k c c' steps new
+    → StandsHere known k steps old → StandsHere known k steps new
 hopeless_here {known = known} {steps = steps} old new shown answer same going is (inl ended) stands =
     let g = going_of old going stands in
     parted_here new parting.Served ended.same.number ended.parting (ends_by known ended.same.reader ended.same.writer)

@@ -37,8 +37,8 @@ use Rattle.counter_http.proofs.Counted.{counts_none, figured_more, rounds_then}
 use Rattle.counter_http.proofs.CrowdRounds.{all_by, zip_places}
 use Rattle.counter_http.proofs.Dues.{answers_none, answers_then}
 use Rattle.counter_http.proofs.Crowds.{each_weaker}
-use Rattle.counter_http.proofs.Moving.{HadMuch, IsDone, all_further, done_written}
-use Rattle.counter_http.proofs.Moving.{last_one, last_then, left_settled, moved_more, moved_on, much_on}
+use Rattle.counter_http.proofs.Moving.{HadMuch, IsDone, done_written}
+use Rattle.counter_http.proofs.Moving.{last_one, last_then, left_settled, moved_more}
 use Rattle.counter_http.proofs.Steps.{submitted-append}
 use Rattle.counter_http.proofs.Turning.{readings_append}
 
@@ -54,10 +54,10 @@ pub record Rounding {C R W : Type 0} (seen : C → Seen) (reason : Fault → C �
   pub calls : List (ClientsCall (R × W))
   pub laps : List (Lap (R × W))
   pub calls_are : calls ≡ calls_of laps ++ until
-  pub are_laps : AreLaps known (seen old) (seen now) n [] [] laps rounds
-  pub moves : AllMoved (HasSpared reason) known (seen old) (seen now) [] [] laps rounds
+  pub are_laps : AreLaps known n [] [] laps rounds
+  pub moves : AllMoved (HasSpared reason) known [] [] laps rounds
   -- before the next one is begun, those who are here wait for it
-  pub settled : until ≡ [] → OnLast (all_settled (fills (HasSpared reason)) known (seen old) (seen now) here) [] [] laps rounds
+  pub settled : until ≡ [] → OnLast (all_settled (fills (HasSpared reason)) known here) [] [] laps rounds
   pub many : length laps ≡ turns
   pub are_rounds : AllByRecursion IsRound rounds
   pub clock : AreReadings k k' (readings_of rounds)
@@ -68,7 +68,7 @@ pub record Rounding {C R W : Type 0} (seen : C → Seen) (reason : Fault → C �
   pub due : (seen now).honest → AnswersAll (seen old) (seen now) (steps_of rounds)
   pub idle : (seen old).is_down → now ≡ old
   pub few : came ≤ n
-  pub crowd : IsCrowd ⊥ [] known g calls (seen old) (seen now) (steps_of rounds) None []
+  pub crowd : IsCrowd ⊥ [] known g calls (steps_of rounds) None []
       (record { calls = t; came = came; here = here })
 
 pub rounding_none : {C R W : Type 0} (seen : C → Seen) {reason : Fault → C → C → Type 0} {known : R × W → Known} (g : Option (List (ClientsCall (R × W))))
@@ -149,58 +149,24 @@ figured_then seen now new s r honest log shown =
 
 -- ---- the calls of a round
 
-all_stood_on : {E : Type 0} (known : E → Known) (c c' c'' : Seen) (steps : List Step) (calls : List (ClientsCall E))
-    (ws : List (ℕ × E)) → (c''.honest → c'.honest) → AllByRecursion (StoodSo known c c' steps calls) ws
-    → AllByRecursion (StoodSo known c c'' steps calls) ws
-all_stood_on known c c' c'' steps calls ws honest all =
-    each_weaker (StoodSo known c c' steps calls) (StoodSo known c c'' steps calls) (λ w is. record {
-      given = is.given;
-      came = is.came;
-      served = subst (λ (ss : List Step). ClientIsServed w.0 (known is.given) (known w.1) c c'' ss parting.Stopped)
-          (append-nil steps) (served_beside [] tt honest is.served);
-    }) ws all
-
-laps_on : {E : Type 0} (known : E → Known) (c c' c'' : Seen) (n : ℕ) (calls : List (ClientsCall E)) (before : List Round)
-    (ls : List (Lap E)) (rs : List Round) → (c''.honest → c'.honest) → AreLaps known c c' n calls before ls rs
-    → AreLaps known c c'' n calls before ls rs
-laps_on known c c' c'' n calls before [] [] honest all = tt
-laps_on known c c' c'' n calls before [] (r ∷ rs) honest all = absurd all
-laps_on known c c' c'' n calls before (l ∷ ls) [] honest all = absurd all
-laps_on known c c' c'' n calls before (l ∷ ls) (r ∷ rs) honest all = (
-  lap_on known c c' c'' n calls (steps_of before) l r honest all.0,
-  laps_on known c c' c'' n (calls ++ calls_in l) (before ++ r ∷ []) ls rs honest all.1,
-)
-  where
-    lap_on : {E : Type 0} (known : E → Known) (c c' c'' : Seen) (n : ℕ) (calls : List (ClientsCall E)) (steps : List Step)
-        (l : Lap E) (r : Round) → (c''.honest → c'.honest) → IsLap known c c' n calls steps l r
-        → IsLap known c c'' n calls steps l r
-    lap_on known c c' c'' n calls steps l r honest is = record {
-      all = is.all;
-      once = is.once;
-      stood = all_stood_on known c c' c'' steps calls l.waited honest is.stood;
-      taken_in = is.taken_in;
-      whose = is.whose;
-      counted = is.counted;
-    }
-
 -- one more
-laps_more : {E : Type 0} (known : E → Known) (c c' : Seen) (n : ℕ) (calls : List (ClientsCall E)) (before : List Round)
-    (ls : List (Lap E)) (rs : List Round) (l : Lap E) (r : Round) → AreLaps known c c' n calls before ls rs
-    → IsLap known c c' n (calls ++ calls_of ls) (steps_of (before ++ rs)) l r
-    → AreLaps known c c' n calls before (ls ++ l ∷ []) (rs ++ r ∷ [])
-laps_more known c c' n calls before [] [] l r all one = (
-  subst (λ (x : List (ClientsCall _)). IsLap known c c' n x (steps_of before) l r) (append-nil calls)
-      (subst (λ (x : List Round). IsLap known c c' n (calls ++ []) (steps_of x) l r) (append-nil before) one),
+laps_more : {E : Type 0} (known : E → Known) (n : ℕ) (calls : List (ClientsCall E)) (before : List Round)
+    (ls : List (Lap E)) (rs : List Round) (l : Lap E) (r : Round) → AreLaps known n calls before ls rs
+    → IsLap known n (calls ++ calls_of ls) (steps_of (before ++ rs)) l r
+    → AreLaps known n calls before (ls ++ l ∷ []) (rs ++ r ∷ [])
+laps_more known n calls before [] [] l r all one = (
+  subst (λ (x : List (ClientsCall _)). IsLap known n x (steps_of before) l r) (append-nil calls)
+      (subst (λ (x : List Round). IsLap known n (calls ++ []) (steps_of x) l r) (append-nil before) one),
   tt,
 )
-laps_more known c c' n calls before [] (s ∷ rs) l r all one = absurd all
-laps_more known c c' n calls before (k ∷ ls) [] l r all one = absurd all
-laps_more known c c' n calls before (k ∷ ls) (s ∷ rs) l r all one = (
+laps_more known n calls before [] (s ∷ rs) l r all one = absurd all
+laps_more known n calls before (k ∷ ls) [] l r all one = absurd all
+laps_more known n calls before (k ∷ ls) (s ∷ rs) l r all one = (
   all.0,
-  laps_more known c c' n (calls ++ calls_in k) (before ++ s ∷ []) ls rs l r all.1
-      (subst (λ (x : List (ClientsCall _)). IsLap known c c' n x (steps_of ((before ++ s ∷ []) ++ rs)) l r)
+  laps_more known n (calls ++ calls_in k) (before ++ s ∷ []) ls rs l r all.1
+      (subst (λ (x : List (ClientsCall _)). IsLap known n x (steps_of ((before ++ s ∷ []) ++ rs)) l r)
       (sym (append_assoc calls (calls_in k) (calls_of ls)))
-      (subst (λ (x : List Round). IsLap known c c' n (calls ++ calls_of (k ∷ ls)) (steps_of x) l r)
+      (subst (λ (x : List Round). IsLap known n (calls ++ calls_of (k ∷ ls)) (steps_of x) l r)
       (sym (append_assoc before (s ∷ []) rs)) one)),
 )
 
@@ -211,11 +177,11 @@ calls_more {E} calls ls l are =
     ∙ sym (flat_map-append calls_in ls (l ∷ []) ∙ ap (λ (x : List (ClientsCall E)). calls_of ls ++ x) (append-nil (calls_in l)))
 
 -- who was waited for after these calls and messages, and what came of that until messages were answered
-pub record Opened {R W : Type 0} (known : R × W → Known) (c c' : Seen) (n : ℕ) (calls : List (ClientsCall (R × W)))
+pub record Opened {R W : Type 0} (known : R × W → Known) (n : ℕ) (calls : List (ClientsCall (R × W)))
     (steps : List Step) (waited : List (ℕ × (R × W))) (before : List (ClientsCall (R × W))) : Type 0 where
   pub all : map number_waited waited ≡ here_after [] calls
   pub once : AllByRecursion IsNoWait before
-  pub stood : AllByRecursion (StoodSo known c c' steps calls) waited
+  pub stood : AllByRecursion (StoodSo known steps calls) waited
   pub taken_in : AreTakenIn n calls (Waited waited ∷ before)
 
 -- a round was begun
@@ -225,9 +191,9 @@ pub record Begun {C R W : Type 0} (seen : C → Seen) (reason : Fault → C → 
   pub waited : List (ℕ × (R × W))
   pub before : List (ClientsCall (R × W))
   pub s : Rounding seen reason known g t k k' old now n came here tally turns (Waited waited ∷ before)
-  pub opened : Opened known (seen old) (seen now) n (calls_of s.laps) (steps_of s.rounds) waited before
-  pub moved : OnLast (all_on (fills (HasSpared reason)) known (seen old) (seen now) waited) [] [] s.laps s.rounds
-  pub much : AllByRecursion (HadMuch known (seen old) (seen now) (steps_of s.rounds) (calls_of s.laps) waited) here
+  pub opened : Opened known n (calls_of s.laps) (steps_of s.rounds) waited before
+  pub moved : OnLast (all_on (fills (HasSpared reason)) known waited) [] [] s.laps s.rounds
+  pub much : AllByRecursion (HadMuch known (steps_of s.rounds) (calls_of s.laps) waited) here
   pub refused : OnErr result (HasRefused before)
 
 -- the lap of a round that was answered
@@ -248,18 +214,16 @@ pub laps_then : {C R W X : Type 0} (seen : C → Seen) {reason : Fault → C →
     {result : Result X Fault} (b : Begun seen reason known g t k k' old now n came here u turns done)
     (r : AnswersRound seen reason known k' k'' now new here here' u u' seconds result) (after : List (ClientsCall (R × W)))
     → AllByRecursion IsNoWait after
-    → AreLaps known (seen old) (seen new) n [] [] (b.s.laps ++ lap_of b after ∷ []) (b.s.rounds ++ r.round ∷ [])
+    → AreLaps known n [] [] (b.s.laps ++ lap_of b after ∷ []) (b.s.rounds ++ r.round ∷ [])
 laps_then {R = R} {W} seen {known = known} {old = old} now new {n} {here = here} b r after waits =
     let s = b.s in
-    let honest : (seen new).honest → (seen now).honest = λ h. r.honest_first (r.honest h) in
     let are : numbers here ≡ here_after [] (calls_of s.laps ++ (Waited b.waited ∷ b.before)) =
     s.crowd.now ∙ ap (here_after []) s.calls_are in
-    laps_more known (seen old) (seen new) n [] [] s.laps s.rounds (lap_of b after) r.round
-    (laps_on known (seen old) (seen now) (seen new) n [] [] s.laps s.rounds honest s.are_laps) (record {
+    laps_more known n [] [] s.laps s.rounds (lap_of b after) r.round
+    s.are_laps (record {
       all = b.opened.all;
       once = all_more IsNoWait b.before after b.opened.once waits;
-      stood = all_stood_on known (seen old) (seen now) (seen new) (steps_of s.rounds) (calls_of s.laps) b.waited honest
-          b.opened.stood;
+      stood = b.opened.stood;
       taken_in = b.opened.taken_in;
       whose = subst (λ (ns : List ℕ). AllByRecursion (IsOfOneOf ns) (steps_in r.round)) are r.whose;
       counted = ap (λ (f : Figures). f.connections) r.figured ∙ here_long here s.calls _ s.crowd.now s.calls_are;
@@ -271,46 +235,37 @@ pub moves_then : {C R W X : Type 0} (seen : C → Seen) {reason : Fault → C �
     {n came seconds turns : ℕ} {here here' : List (Client R W)} {u u' : Tally} {done : Result (Unit {0}) ListenFault}
     {result : Result X Fault} (b : Begun seen reason known g t k k' old now n came here u turns done)
     (r : AnswersRound seen reason known k' k'' now new here here' u u' seconds result) (after : List (ClientsCall (R × W)))
-    → AllMoved (HasSpared reason) known (seen old) (seen new) [] [] (b.s.laps ++ lap_of b after ∷ []) (b.s.rounds ++ r.round ∷ [])
+    → AllMoved (HasSpared reason) known [] [] (b.s.laps ++ lap_of b after ∷ []) (b.s.rounds ++ r.round ∷ [])
 moves_then seen {reason} {known} {old = old} now new {n} b r after =
     let s = b.s in
-    let spared = HasSpared reason in
-    let honest : (seen new).honest → (seen now).honest = λ h. r.honest_first (r.honest h) in
-    moved_more spared known (seen old) (seen new) (seen now) n [] [] s.laps s.rounds (lap_of b after) r.round s.are_laps
-    (moved_on spared known (seen old) (seen now) (seen new) [] [] s.laps s.rounds honest s.moves)
-    (last_then (all_on (fills spared) known (seen old) (seen now) b.waited) (all_on (fills spared) known (seen old) (seen new) b.waited)
-    (calls_of s.laps) (steps_of s.rounds)
-    (λ calls before l x called answered is.
-    all_further (fills spared) known (seen old) (seen now) (seen new) b.waited calls before l x honest is)
-    known (seen old) (seen now) n [] [] s.laps s.rounds s.are_laps refl refl b.moved)
+    moved_more (HasSpared reason) known n [] [] s.laps s.rounds (lap_of b after) r.round s.are_laps s.moves b.moved
 
 -- and who is here after it waits for the next one
 half_done : {C R W X : Type 0} (seen : C → Seen) {reason : Fault → C → C → Type 0} {known : R × W → Known}
     {k k' : Option (List ℕ)} (first now new : C) {seconds : ℕ} {u u' : Tally} (here here' : List (Client R W))
     (result : Result X Fault) (r : AnswersRound seen reason known k k' now new here here' u u' seconds result) (calls : List (ClientsCall (R × W)))
-    (steps : List Step) (l : Lap (R × W)) → AllByRecursion (HadMuch known (seen first) (seen now) steps calls l.waited) here
-    → AllByRecursion (IsDone (MayBeLate reason result r.round.posts r.refused) known (seen first) (seen new) calls steps l r.round) here'
+    (steps : List Step) (l : Lap (R × W)) → AllByRecursion (HadMuch known steps calls l.waited) here
+    → AllByRecursion (IsDone (MayBeLate reason result r.round.posts r.refused) known calls steps l r.round) here'
 half_done {C} {R} {W} seen {reason} {known} first now new here here' result r calls steps l much =
     let late = MayBeLate reason result r.round.posts r.refused in
-    let honest : (seen new).honest → (seen now).honest = λ h. r.honest_first (r.honest h) in
-    let Had : Client R W → Type 0 = HadMuch known (seen first) (seen now) steps calls l.waited in
-    let Done : Client R W → Type 0 = IsDone late known (seen first) (seen new) calls steps l r.round in
+    let Had : Client R W → Type 0 = HadMuch known steps calls l.waited in
+    let Done : Client R W → Type 0 = IsDone late known calls steps l r.round in
     let Moved : Client R W → Client R W → Type 0 = λ y z. (Had y → z.number ≡ y.number → Done z) in
     let zip = zip_places Moved here here' r.same (λ p y z is is' had number.
-    subst (λ (m : ℕ). HasNoMore z ⊎ MayHaveMore late known (seen first) (seen new) calls steps l r.round m) (sym number)
+    subst (λ (m : ℕ). HasNoMore z ⊎ MayHaveMore late known calls steps l r.round m) (sym number)
     (one y z (r.moves p y z is is') (r.fare p y z is is').did had y.parting refl)) in
     all_by (λ (y z : Client R W). (z.number ≡ y.number) × Moved y z) Had Done (λ y z m had. m.1 had m.0) here here' zip much
   where
     one : (y z : Client R W) → HasNoMore z ⊎ (Contains (clients_of (steps_in r.round)) y.number
         ⊎ (HasMuch y ⊎ MayBeLate reason result r.round.posts r.refused))
         → (z ≡ y) ⊎ (HasNoMore z ⊎ Contains (clients_of (steps_in r.round)) y.number)
-        → HadMuch known (seen first) (seen now) steps calls l.waited y → (p : Option Parting) → y.parting ≡ p
-        → HasNoMore z ⊎ MayHaveMore (MayBeLate reason result r.round.posts r.refused) known (seen first) (seen new) calls steps l r.round y.number
+        → HadMuch known steps calls l.waited y → (p : Option Parting) → y.parting ≡ p
+        → HasNoMore z ⊎ MayHaveMore (MayBeLate reason result r.round.posts r.refused) known calls steps l r.round y.number
     one y z (inl none) did had p is = inl none
     one y z (inr (inl own)) did had p is = inr (inl own)
     one y z (inr (inr (inr behind))) did had p is = inr (inr (inr behind))
     one y z (inr (inr (inl many))) did had None is =
-        inr (inr (inl (much_on (λ h. r.honest_first (r.honest h)) (had many is))))
+        inr (inr (inl (had many is)))
     one y z (inr (inr (inl many))) (inl same) had (Some p) is =
         inl (inr (p, ap (λ (c : Client R W). c.parting) same ∙ is))
     one y z (inr (inr (inl many))) (inr (inl none)) had (Some p) is = inl none
@@ -322,20 +277,20 @@ pub settled_round : {C R W X : Type 0} (seen : C → Seen) {reason : Fault → C
     → viewed ≡ here' → here'' ≡ gone → (b : Begun seen reason known g t k k' old now n came here u turns done)
     (r : AnswersRound seen reason known k' k'' now new here here' u u' seconds result) → AllZip (Writes known) viewed gone
     → AllByRecursion (IsLeftOf here'') left → (after : List (ClientsCall (R × W)))
-    → all_settled (λ y. MayBeLate reason result r.round.posts r.refused) known (seen old) (seen new) left (calls_of b.s.laps)
+    → all_settled (λ y. MayBeLate reason result r.round.posts r.refused) known left (calls_of b.s.laps)
     (steps_of b.s.rounds) (lap_of b after) r.round
 settled_round {C} {R} {W} seen {reason} {known} old now new here here' viewed gone here'' left result same is b r writes rest after =
     let s = b.s in
     let late = MayBeLate reason result r.round.posts r.refused in
     let l = lap_of b after in
     let Done : Client R W → Type 0 =
-    IsDone late known (seen old) (seen new) (calls_of s.laps) (steps_of s.rounds) l r.round in
+    IsDone late known (calls_of s.laps) (steps_of s.rounds) l r.round in
     let all : AllZip (Writes known) here' here'' =
     subst (λ (xs : List (Client R W)). AllZip (Writes known) xs here'') same
     (subst (λ (ys : List (Client R W)). AllZip (Writes known) viewed ys) (sym is) writes) in
-    left_settled (λ y. late) known (seen old) (seen new) (calls_of s.laps) (steps_of s.rounds) l r.round here'' left rest
+    left_settled (λ y. late) known (calls_of s.laps) (steps_of s.rounds) l r.round here'' left rest
     (all_by (Writes known) Done Done
-    (done_written late (seen old) (seen new) (calls_of s.laps) (steps_of s.rounds) l r.round) here' here'' all
+    (done_written late (calls_of s.laps) (steps_of s.rounds) l r.round) here' here'' all
     (half_done seen old now new here here' result r (calls_of s.laps) (steps_of s.rounds) l b.much))
 
 -- nothing was refused in it
@@ -369,9 +324,9 @@ unfoldable pub rounding_next : {C R W X : Type 0} (seen : C → Seen) {reason : 
     {done : Result (Unit {0}) ListenFault} (b : Begun seen reason known g t k k' old now n came here u turns done)
     (r : AnswersRound seen reason known k' k'' now new here here' u u' seconds (Ok x)) (after : List (ClientsCall (R × W)))
     → AllByRecursion IsNoWait after
-    → all_settled (fills (HasSpared reason)) known (seen old) (seen new) here'' (calls_of b.s.laps) (steps_of b.s.rounds)
+    → all_settled (fills (HasSpared reason)) known here'' (calls_of b.s.laps) (steps_of b.s.rounds)
     (lap_of b after) r.round
-    → IsCrowd ⊥ [] known g (b.s.calls ++ after) (seen old) (seen new) (steps_of b.s.rounds ++ steps_in r.round) None r.refused
+    → IsCrowd ⊥ [] known g (b.s.calls ++ after) (steps_of b.s.rounds ++ steps_in r.round) None r.refused
     (record { calls = t'; came = came; here = here'' })
     → Rounding seen reason known g t' k k'' old new n came here'' u' (turns + 1) []
 rounding_next seen {reason} {known} {g = g} {t' = t'} {k} {k'} {k''} old now new {n} {came = came} {here'' = here''} b r after
@@ -391,7 +346,7 @@ rounding_next seen {reason} {known} {g = g} {t' = t'} {k} {k'} {k''} old now new
       calls_are = calls_more s.calls s.laps (lap_of b after) s.calls_are ∙ sym (append-nil _);
       are_laps = laps_then seen now new b r after waits;
       moves = moves_then seen now new b r after;
-      settled = λ none. last_one (all_settled (fills (HasSpared reason)) known (seen old) (seen new) here'') known (seen old) (seen now) n [] []
+      settled = λ none. last_one (all_settled (fills (HasSpared reason)) known here'') known n [] []
           s.laps s.rounds (lap_of b after) r.round s.are_laps settled;
       many = length-append s.laps (lap_of b after ∷ []) ∙ ap (λ (m : ℕ). m + 1) s.many;
       are_rounds = all_more IsRound s.rounds (r.round ∷ []) s.are_rounds (r.is_round, tt);
@@ -407,8 +362,8 @@ rounding_next seen {reason} {known} {g = g} {t' = t'} {k} {k'} {k''} old now new
           (subst (λ (c : _). AnswersAll (seen now) (seen c) (steps_in r.round)) (sym same) (r.due h));
       idle = idle_after seen old now s.idle new r.idle;
       few = s.few;
-      crowd = subst (λ (x : List Step). IsCrowd ⊥ [] known g calls (seen old) (seen new) x None []
+      crowd = subst (λ (x : List Step). IsCrowd ⊥ [] known g calls x None []
           (record { calls = t'; came = came; here = here'' })) (steps_one_more s.rounds r.round)
-          (subst (λ (x : List Step). IsCrowd ⊥ [] known g calls (seen old) (seen new) (steps_of s.rounds ++ steps_in r.round)
+          (subst (λ (x : List Step). IsCrowd ⊥ [] known g calls (steps_of s.rounds ++ steps_in r.round)
           None x (record { calls = t'; came = came; here = here'' })) r.ends.0 crowd);
     }

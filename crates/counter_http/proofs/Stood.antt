@@ -61,7 +61,7 @@ prefix_of parting.Stopped w m text e = begins_less w m text e
 -- ---- a client that isn't written to any more
 
 -- a prefix of its answers was written
-pub record IsLeft (i : ℕ) (k l : Known) (c c' : Seen) (steps : List Step) : Type 0 where
+pub record IsLeft (i : ℕ) (k l : Known) (steps : List Step) : Type 0 where
   pub lost : List Turn
   pub rest : List ℕ
   pub last : List (List ℕ)
@@ -71,13 +71,13 @@ pub record IsLeft (i : ℕ) (k l : Known) (c c' : Seen) (steps : List Step) : Ty
   pub stands : Stands (HasEnded l.reader k.reads l.reads) (of_client i steps) lost rest last
   pub answers : written ≡ take (length written) (joined (answers_of i steps ++ last))
   pub more : HasMore k.writes l.writes
-  pub prompt : AnswersBeforeItsReads i k.reads l.reads k.beside l.beside k.writer k.writes c c' steps
+  pub prompt : AnswersBeforeItsReads i k.reads l.reads k.beside l.beside k.writer k.writes steps
       (texts_of (of_client i steps ++ lost) ++ rest)
 
-unfoldable pub left_as : {i : ℕ} {k l : Known} {c c' : Seen} {steps : List Step} (p : Option Parting) {has_more shown : Bool}
-    {rest pending : List ℕ} → StandsAs p i k l c c' steps has_more shown rest pending → IsLeft i k l c c' steps
-left_as {i} {k} {l} {c} {c'} {steps} None {has_more} {shown} {rest} {pending} so =
-    let g : IsGoing i k l c c' steps has_more shown rest pending = so.is in
+unfoldable pub left_as : {i : ℕ} {k l : Known} {steps : List Step} (p : Option Parting) {has_more shown : Bool}
+    {rest pending : List ℕ} → StandsAs p i k l steps has_more shown rest pending → IsLeft i k l steps
+left_as {i} {k} {l} {steps} None {has_more} {shown} {rest} {pending} so =
+    let g : IsGoing i k l steps has_more shown rest pending = so.is in
     let own = of_client i steps in
     let none = ap (λ (ts : List Turn). texts_of ts ++ rest) (sym (append-nil own)) in
     record {
@@ -91,10 +91,10 @@ left_as {i} {k} {l} {c} {c'} {steps} None {has_more} {shown} {rest} {pending} so
       answers = begins_with g.written pending (joined (answers_of i steps ++ []))
           (g.answers ∙ ap joined (sym (append-nil (answers_of i steps))));
       more = g.more;
-      prompt = subst (λ (x : List ℕ). AnswersBeforeItsReads i k.reads l.reads k.beside l.beside k.writer k.writes c c'
+      prompt = subst (λ (x : List ℕ). AnswersBeforeItsReads i k.reads l.reads k.beside l.beside k.writer k.writes
           steps x) none g.prompt;
     }
-left_as {i} {k} {l} {c} {c'} {steps} (Some p) {pending = pending} so = let g : IsParted i k l c c' steps pending p = so.is in record {
+left_as {i} {k} {l} {steps} (Some p) {pending = pending} so = let g : IsParted i k l steps pending p = so.is in record {
   lost = g.lost;
   rest = g.rest;
   last = g.last;
@@ -113,11 +113,11 @@ IsLoss parting.Write = ⊤
 IsLoss parting.Memory = ⊤
 IsLoss _ = ⊥
 
-unfoldable pub loses : {i : ℕ} {k l : Known} {c c' : Seen} {steps : List Step} (p : Parting) (is : IsLeft i k l c c' steps)
+unfoldable pub loses : {i : ℕ} {k l : Known} {steps : List Step} (p : Parting) (is : IsLeft i k l steps)
     → PartsAs p (HasEnded l.reader k.reads l.reads) (of_client i steps) is.lost is.rest is.last
     → IsWrittenAs p (is.written ++ []) (joined (answers_of i steps ++ is.last))
     → MayBeLeft p [] → PartingIsOfItsEnd p k.reads l.reads k.writes l.writes
-    → IsParted i k l c c' steps [] p
+    → IsParted i k l steps [] p
 loses p is parts answers left ends = record {
   lost = is.lost;
   rest = is.rest;
@@ -138,9 +138,9 @@ pub no_more_written : (written text : List ℕ) → written ≡ take (length wri
 no_more_written written text e =
     append-nil written ∙ e ∙ ap (λ (x : List ℕ). take (length x) text) (sym (append-nil written))
 
-unfoldable pub lost_as : {i : ℕ} {k l : Known} {c c' : Seen} {steps : List Step} (p : Parting) → IsLoss p
-    → IsLeft i k l c c' steps → PartingIsOfItsEnd p k.reads l.reads k.writes l.writes
-    → IsParted i k l c c' steps [] p
+unfoldable pub lost_as : {i : ℕ} {k l : Known} {steps : List Step} (p : Parting) → IsLoss p
+    → IsLeft i k l steps → PartingIsOfItsEnd p k.reads l.reads k.writes l.writes
+    → IsParted i k l steps [] p
 lost_as parting.Served loss is ends = absurd loss
 lost_as parting.Read loss is ends = absurd loss
 lost_as (parting.Bank fault) loss is ends = absurd loss
@@ -160,10 +160,10 @@ IsCause parting.GivenUp = ⊤
 IsCause parting.Stopped = ⊤
 IsCause _ = ⊥
 
-unfoldable pub closed_for : {i : ℕ} {k l : Known} {c c' : Seen} {steps : List Step} (cause : Parting)
-    (is : IsLeft i k l c c' steps) → PartsAs cause (HasEnded l.reader k.reads l.reads) (of_client i steps) is.lost is.rest is.last
+unfoldable pub closed_for : {i : ℕ} {k l : Known} {steps : List Step} (cause : Parting)
+    (is : IsLeft i k l steps) → PartsAs cause (HasEnded l.reader k.reads l.reads) (of_client i steps) is.lost is.rest is.last
     → IsWrittenAs cause is.written (joined (answers_of i steps ++ is.last))
-    → PartingIsOfItsEnd cause k.reads l.reads k.writes l.writes → ClientIsServed i k l c c' steps cause
+    → PartingIsOfItsEnd cause k.reads l.reads k.writes l.writes → ClientIsServed i k l steps cause
 closed_for cause is parts answers ends = record {
   lost = is.lost;
   rest = is.rest;
@@ -177,8 +177,8 @@ closed_for cause is parts answers ends = record {
   prompt = is.prompt;
 }
 
-unfoldable pub closed_early : {i : ℕ} {k l : Known} {c c' : Seen} {steps : List Step} (cause : Parting) → IsCause cause
-    → IsLeft i k l c c' steps → ClientIsServed i k l c c' steps cause
+unfoldable pub closed_early : {i : ℕ} {k l : Known} {steps : List Step} (cause : Parting) → IsCause cause
+    → IsLeft i k l steps → ClientIsServed i k l steps cause
 closed_early parting.Memory ours is = closed_for parting.Memory is is.stands is.answers tt
 closed_early parting.GivenUp ours is = closed_for parting.GivenUp is is.stands is.answers tt
 closed_early parting.Stopped ours is = closed_for parting.Stopped is is.stands is.answers tt
@@ -187,8 +187,8 @@ closed_early parting.Read ours is = absurd ours
 closed_early parting.Write ours is = absurd ours
 closed_early (parting.Bank fault) ours is = absurd ours
 
-unfoldable pub closed_as : {i : ℕ} {k l : Known} {c c' : Seen} {steps : List Step} {pending : List ℕ} {p : Parting}
-    → pending ≡ [] → IsParted i k l c c' steps pending p → ClientIsServed i k l c c' steps p
+unfoldable pub closed_as : {i : ℕ} {k l : Known} {steps : List Step} {pending : List ℕ} {p : Parting}
+    → pending ≡ [] → IsParted i k l steps pending p → ClientIsServed i k l steps p
 closed_as {i} {steps = steps} {pending} {p} none is = record {
   lost = is.lost;
   rest = is.rest;
@@ -234,14 +234,14 @@ still_left parting.GivenUp pending n left some = absurd left
 still_left parting.Stopped pending n left some = absurd left
 
 -- so many bytes of what was left were written, and where no more is left they were flushed
-unfoldable pub wrote_to : {i : ℕ} {k l : Known} {c c' : Seen} {steps : List Step} (p : Option Parting) {has_more shown : Bool}
+unfoldable pub wrote_to : {i : ℕ} {k l : Known} {steps : List Step} (p : Option Parting) {has_more shown : Bool}
     {rest pending : List ℕ} (n : ℕ) (w' : Option (List ℕ)) (v' : Option (List WriteCall))
     → Appends l.writer w' (take n pending) → HasMore l.writes v' → pending ≢ []
     → (drop n pending ≡ [] → EndsWith IsFlush l.writes v')
-    → StandsAs p i k l c c' steps has_more shown rest pending
-    → StandsAs p i k (record l { writer = w'; writes = v' }) c c' steps has_more shown rest (drop n pending)
-wrote_to {i} {k} {l} {c} {c'} {steps} None {has_more} {shown} {rest} {pending} n w' v' wrote more some flushed so =
-    let g : IsGoing i k l c c' steps has_more shown rest pending = so.is in record {
+    → StandsAs p i k l steps has_more shown rest pending
+    → StandsAs p i k (record l { writer = w'; writes = v' }) steps has_more shown rest (drop n pending)
+wrote_to {i} {k} {l} {steps} None {has_more} {shown} {rest} {pending} n w' v' wrote more some flushed so =
+    let g : IsGoing i k l steps has_more shown rest pending = so.is in record {
       is = record {
         read = g.read;
         stays = g.stays;
@@ -254,8 +254,8 @@ wrote_to {i} {k} {l} {c} {c'} {steps} None {has_more} {shown} {rest} {pending} n
         prompt = g.prompt;
       };
     }
-wrote_to {i} {k} {l} {c} {c'} {steps} (Some p) {pending = pending} n w' v' wrote more some flushed so =
-    let g : IsParted i k l c c' steps pending p = so.is in record {
+wrote_to {i} {k} {l} {steps} (Some p) {pending = pending} n w' v' wrote more some flushed so =
+    let g : IsParted i k l steps pending p = so.is in record {
       is = record {
         lost = g.lost;
         rest = g.rest;
@@ -279,27 +279,27 @@ prefix_more p written pending text n is =
     prefix_of p (written ++ take n pending) (drop n pending) text
     (subst (λ (x : List ℕ). IsWrittenAs p x text) (sym (regrouped written pending n)) is)
 
-pub take_written : {i : ℕ} {k l : Known} {c c' : Seen} {steps : List Step} (p : Option Parting)
+pub take_written : {i : ℕ} {k l : Known} {steps : List Step} (p : Option Parting)
     {has_more shown : Bool} {rest pending : List ℕ} (n : ℕ)
-    (g : StandsAs p i k l c c' steps has_more shown rest pending)
+    (g : StandsAs p i k l steps has_more shown rest pending)
     → (left_as p g).written ++ take n pending
     ≡ take (length ((left_as p g).written ++ take n pending)) (joined (answers_of i steps ++ (left_as p g).last))
 unfolding left_as
-take_written {i} {k} {l} {c} {c'} {steps} None {has_more} {shown} {rest} {pending} n so =
-    let g : IsGoing i k l c c' steps has_more shown rest pending = so.is in
+take_written {i} {k} {l} {steps} None {has_more} {shown} {rest} {pending} n so =
+    let g : IsGoing i k l steps has_more shown rest pending = so.is in
     begins_with (g.written ++ take n pending) (drop n pending) (joined (answers_of i steps ++ []))
     (regrouped g.written pending n ∙ g.answers ∙ ap joined (sym (append-nil (answers_of i steps))))
-take_written {i} {k} {l} {c} {c'} {steps} (Some p) {pending = pending} n so =
-    let g : IsParted i k l c c' steps pending p = so.is in
+take_written {i} {k} {l} {steps} (Some p) {pending = pending} n so =
+    let g : IsParted i k l steps pending p = so.is in
     prefix_more p g.written pending (joined (answers_of i steps ++ g.last)) n g.answers
 
 -- some were written, and no more will be
-unfoldable pub left_after : {i : ℕ} {k l : Known} {c c' : Seen} {steps : List Step} (p : Option Parting)
+unfoldable pub left_after : {i : ℕ} {k l : Known} {steps : List Step} (p : Option Parting)
     {has_more shown : Bool} {rest pending : List ℕ} (n : ℕ) (w' : Option (List ℕ)) (v' : Option (List WriteCall))
     → Appends l.writer w' (take n pending) → HasMore l.writes v'
-    → StandsAs p i k l c c' steps has_more shown rest pending
-    → IsLeft i k (record l { writer = w'; writes = v' }) c c' steps
-left_after {i} {k} {l} {c} {c'} {steps} p {has_more} {shown} {rest} {pending} n w' v' wrote more g =
+    → StandsAs p i k l steps has_more shown rest pending
+    → IsLeft i k (record l { writer = w'; writes = v' }) steps
+left_after {i} {k} {l} {steps} p {has_more} {shown} {rest} {pending} n w' v' wrote more g =
     let is = left_as p g in
     let text = take_written p n g in
     record {

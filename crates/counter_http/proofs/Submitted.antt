@@ -29,8 +29,7 @@ use Rattle.counter_http.proofs.Asked.{unchanged_takes}
 use Rattle.counter_http.proofs.Dues.{answers_none, answers_then, unchanged_stays}
 use Rattle.counter_http.proofs.Fared.{all_same, all_then}
 use Rattle.counter_http.proofs.FaredEach.{all_among, all_spared, fare_answered, fare_refused}
-use Rattle.counter_http.proofs.Fronts.{stands_after}
-use Rattle.counter_http.proofs.Placed.{beside_none, beside_then, found_too, takes_then}
+use Rattle.counter_http.proofs.Placed.{beside_none, beside_then, found_too}
 use Rattle.counter_http.proofs.Posted.{answered_each, numbers_all_answered, numbers_all_refused, refused_each}
 use Rattle.counter_http.proofs.Posted.{posts_due, steps_at, steps_long, steps_posted, steps_submit, steps_whose, told_each}
 use Rattle.counter_http.proofs.Steps.{submitted-append}
@@ -55,9 +54,9 @@ submitted_nothing seen readings bank here t = record {
   moves = inl (omega arith);
   whole = tt;
   dated = λ some. absurd (omega (arith, some));
-  beside = beside_none seen bank bank here (λ h. h);
+  beside = beside_none here;
   whose_refused = tt;
-  are_told = λ p y y' at at' k first before takes is. tt;
+  are_told = λ p y y' at at' k before is. tt;
   fare = all_same here;
   stood = bank;
   honest_first = λ h. h;
@@ -97,9 +96,9 @@ spared_all {X = X} seen contents reason readings old new here cs t why e it =
       moves = inl (omega arith);
       whole = tt;
       dated = λ some. absurd (omega (arith, some));
-      beside = beside_none seen old new here call.honest;
+      beside = beside_none here;
       whose_refused = tt;
-      are_told = λ p y y' at at' k first before takes is. tt;
+      are_told = λ p y y' at at' k before is. tt;
       fare = all_same here;
       stood = new;
       honest_first = call.honest;
@@ -114,15 +113,14 @@ spared_all {X = X} seen contents reason readings old new here cs t why e it =
 
 -- ---- one call
 
-refused_beside : {C R W : Type 0} (seen : C → Seen) {known : R × W → Known} (old new : C)
-    (here here' : List (Client R W)) (ss : List Sender) (rs : List (List ℕ)) (g : AreGiven here ss rs) → AreApart ss
-    → (why : Fault) → ((seen new).honest → (seen old).honest) → RefusesEach here here' ss why
-    → (p : ℕ) (y y' : Client R W) → slice_get here p ≡ Some y → slice_get here' p ≡ Some y' → (k : Known) (first : C)
-    (before : List Step) → StandsHere known k (seen first) (seen old) before y
-    → StandsHere known k (seen first) (seen new) (before ++ []) y'
-refused_beside seen {known} old new here here' ss rs g apart why honest chain p y y' at at' k first before is =
-    subst (λ (l : List Step). StandsHere known k (seen first) (seen new) l y') (sym (append-nil before))
-    (refused_each here here' ss rs why g apart chain p y y' at at' before (stands_after y honest is))
+refused_beside : {R W : Type 0} {known : R × W → Known} (here here' : List (Client R W)) (ss : List Sender) (rs : List (List ℕ)) (g : AreGiven here ss rs) → AreApart ss
+    → (why : Fault) → RefusesEach here here' ss why
+    → (p : ℕ) (y y' : Client R W) → slice_get here p ≡ Some y → slice_get here' p ≡ Some y' → (k : Known)
+    (before : List Step) → StandsHere known k before y
+    → StandsHere known k (before ++ []) y'
+refused_beside {known = known} here here' ss rs g apart why chain p y y' at at' k before is =
+    subst (λ (l : List Step). StandsHere known k l y') (sym (append-nil before))
+    (refused_each here here' ss rs why g apart chain p y y' at at' before is)
 
 module _ {C K R W X : Type 0} (seen : C → Seen) (contents : C → K) (reason : Fault → C → C → Type 0)
     {known : R × W → Known} (moment : ℕ) (old new : C) (here here' : List (Client R W)) (t t' : Tally) (ss : List Sender)
@@ -152,12 +150,12 @@ module _ {C K R W X : Type 0} (seen : C → Seen) (contents : C → K) (reason :
     beside = record {
       whose = steps_whose moment here ss rs qs g;
       same = numbers_all_answered here here' ss rs qs g apart chain;
-      stand = λ p y y' at at' k first before takes is.
+      stand = λ p y y' at at' k before is.
           answered_each moment here here' ss rs qs g apart all chain p y y' at at' before
-          (stands_after y call.honest is);
+          is;
     };
     whose_refused = tt;
-    are_told = λ p y y' at at' k first before takes is. tt;
+    are_told = λ p y y' at at' k before is. tt;
     fare = fare_answered moment here here' ss rs qs g apart chain;
     stood = new;
     honest_first = call.honest;
@@ -190,13 +188,13 @@ module _ {C K R W X : Type 0} (seen : C → Seen) (contents : C → K) (reason :
     beside = record {
       whose = tt;
       same = numbers_all_refused here here' ss rs why g apart chain;
-      stand = λ p y y' at at' k first before takes is. refused_beside seen old new here here' ss rs g apart why call.honest chain p y y' at at' k first before is;
+      stand = λ p y y' at at' k before is. refused_beside here here' ss rs g apart why chain p y y' at at' k before is;
     };
     whose_refused = steps_whose moment here ss rs [] g;
-    are_told = λ p y y' at at' k first before takes is.
-        subst (λ (l : List Step). AreRefused known k (seen first) (seen new) l (Some why) (steps_at moment here ss rs [] g) y')
+    are_told = λ p y y' at at' k before is.
+        subst (λ (l : List Step). AreRefused known k l (Some why) (steps_at moment here ss rs [] g) y')
         (sym (append-nil before))
-        (told_each moment here here' ss rs why g apart all chain p y y' at at' (stands_after y call.honest is));
+        (told_each moment here here' ss rs why g apart all chain p y y' at at' is);
     fare = fare_refused moment here here' ss rs why g apart (all_among why (steps_at moment here ss rs [] g)) chain;
     stood = old;
     honest_first = λ h. h;
@@ -233,11 +231,11 @@ module _ {C K R W X : Type 0} (seen : C → Seen) (contents : C → K) (reason :
         beside = record {
           whose = tt;
           same = numbers_all_refused here here' ss rs why g apart chain;
-          stand = λ p y y' at at' k first before takes is.
-              refused_beside seen old new here here' ss rs g apart why call.honest chain p y y' at at' k first before is;
+          stand = λ p y y' at at' k before is.
+              refused_beside here here' ss rs g apart why chain p y y' at at' k before is;
         };
         whose_refused = tt;
-        are_told = λ p y y' at at' k first before takes is. tt;
+        are_told = λ p y y' at at' k before is. tt;
         fare = fare_refused moment here here' ss rs why g apart (all_spared why e (clients_of (steps_at moment here ss rs [] g))) chain;
         stood = new;
         honest_first = call.honest;
@@ -309,15 +307,13 @@ submitted_then {C = C} seen {reason} {known} readings old mid new here one two {
       moves = more_moved a.posts b.posts n m result a.moves b.moves;
       whole = whole;
       dated = λ given. more_dated a.posts b.posts (b.dated (some given));
-      beside = beside_then seen old mid new here one two a.posts b.posts took honest a.beside b.beside;
+      beside = beside_then here one two a.posts b.posts a.beside b.beside;
       whose_refused = subst (λ (ns : List ℕ). AllByRecursion (IsOfOneOf ns) b.refused) a.beside.same b.whose_refused;
-      are_told = λ p y y' at at' k first before takes is.
+      are_told = λ p y y' at at' k before is.
           let mids = found_too here one p y a.beside.same at in
-          subst (λ (l : List Step). AreRefused known k (seen first) (seen new) l (fault_in result) b.refused y')
+          subst (λ (l : List Step). AreRefused known k l (fault_in result) b.refused y')
           (append_assoc before a.posts b.posts)
-          (b.are_told p mids.0 y' mids.1 at' k first (before ++ a.posts)
-          (takes_then seen first old mid before a.posts honest takes took)
-          (a.beside.stand p y mids.0 at mids.1 k first before takes is));
+          (b.are_told p mids.0 y' mids.1 at' k (before ++ a.posts) (a.beside.stand p y mids.0 at mids.1 k before is));
       fare = all_then here one two a.posts b.posts a.beside.same a.fare b.fare;
       stood = b.stood;
       honest_first = λ h. honest (b.honest_first h);

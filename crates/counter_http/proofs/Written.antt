@@ -15,30 +15,30 @@ use Rattle.counter_http.proofs.Fronts.{ends_by, parted_here}
 use Rattle.counter_http.proofs.Stood.{IsCause, closed_as, closed_early, left_after, left_as, lost_as, wrote_to}
 
 -- where it stands, by its fields
-stands_as : {R W : Type 0} {known : R × W → Known} {k : Known} {c c' : Seen} {steps : List Step} {i : ℕ} {l : Known}
+stands_as : {R W : Type 0} {known : R × W → Known} {k : Known} {steps : List Step} {i : ℕ} {l : Known}
     {has_more shown : Bool} {rest left : List ℕ} (p : Option Parting) (new : Client R W) → new.parting ≡ p
     → new.number ≡ i → known (new.reader, new.writer) ≡ l → new.has_more ≡ has_more → new.shows_body ≡ shown
-    → unread new ≡ rest → pending new ≡ left → StandsAs p i k l c c' steps has_more shown rest left
-    → StandsHere known k c c' steps new
-stands_as {known = known} {k} {c} {c'} {steps} {i} {l} {has_more} {shown} {rest} {left} p new why number ends more
+    → unread new ≡ rest → pending new ≡ left → StandsAs p i k l steps has_more shown rest left
+    → StandsHere known k steps new
+stands_as {known = known} {k} {steps} {i} {l} {has_more} {shown} {rest} {left} p new why number ends more
     shows_is same none is =
     record {
-      is = subst (λ (q : Option Parting). StandsAs q new.number k (known (new.reader, new.writer)) c c' steps
+      is = subst (λ (q : Option Parting). StandsAs q new.number k (known (new.reader, new.writer)) steps
           new.has_more new.shows_body (unread new) (pending new)) (sym why)
-          (subst (λ (j : ℕ). StandsAs p j k (known (new.reader, new.writer)) c c' steps new.has_more new.shows_body
+          (subst (λ (j : ℕ). StandsAs p j k (known (new.reader, new.writer)) steps new.has_more new.shows_body
           (unread new) (pending new)) (sym number)
-          (subst (λ (m : Known). StandsAs p i k m c c' steps new.has_more new.shows_body (unread new) (pending new))
+          (subst (λ (m : Known). StandsAs p i k m steps new.has_more new.shows_body (unread new) (pending new))
           (sym ends)
-          (subst (λ (b : Bool). StandsAs p i k l c c' steps b new.shows_body (unread new) (pending new)) (sym more)
-          (subst (λ (b : Bool). StandsAs p i k l c c' steps has_more b (unread new) (pending new)) (sym shows_is)
-          (subst (λ (x : List ℕ). StandsAs p i k l c c' steps has_more shown x (pending new)) (sym same)
-          (subst (λ (x : List ℕ). StandsAs p i k l c c' steps has_more shown rest x) (sym none) is))))));
+          (subst (λ (b : Bool). StandsAs p i k l steps b new.shows_body (unread new) (pending new)) (sym more)
+          (subst (λ (b : Bool). StandsAs p i k l steps has_more b (unread new) (pending new)) (sym shows_is)
+          (subst (λ (x : List ℕ). StandsAs p i k l steps has_more shown x (pending new)) (sym same)
+          (subst (λ (x : List ℕ). StandsAs p i k l steps has_more shown rest x) (sym none) is))))));
     }
 
 -- ---- it is written to
 
-some_here : {R W : Type 0} {known : R × W → Known} {k : Known} {c c' : Seen} {steps : List Step} (old new : Client R W)
-    → WritesSome known old new → StandsHere known k c c' steps old → StandsHere known k c c' steps new
+some_here : {R W : Type 0} {known : R × W → Known} {k : Known} {steps : List Step} (old new : Client R W)
+    → WritesSome known old new → StandsHere known k steps old → StandsHere known k steps new
 some_here old new w stands =
     stands_as old.parting new w.parting w.number w.ends w.has_more w.shows w.unread_same w.left
     (wrote_to old.parting w.count w.contents w.writes w.wrote w.more w.some (λ e. w.flushed (w.left ∙ e)) stands.is)
@@ -47,19 +47,19 @@ pub failed_more : {old new : Option (List WriteCall)} → HasWriteFailed old new
 failed_more (inl last) = last_some IsWriteFailure last
 failed_more (inr many) = record { calls = many.earlier ++ many.last; made = many.made }
 
-last_here : {R W : Type 0} {known : R × W → Known} {k : Known} {c c' : Seen} {steps : List Step} (old new : Client R W)
-    → WritesLast known old new → StandsHere known k c c' steps old → StandsHere known k c c' steps new
+last_here : {R W : Type 0} {known : R × W → Known} {k : Known} {steps : List Step} (old new : Client R W)
+    → WritesLast known old new → StandsHere known k steps old → StandsHere known k steps new
 last_here old new w stands =
     parted_here new parting.Write w.number w.parting w.ends w.none
     (lost_as parting.Write tt
     (left_after old.parting w.count w.contents w.writes w.wrote (failed_more w.failed) stands.is)
     (more_failed IsWriteFailure (left_as old.parting stands.is).more w.failed))
 
-pub written_here : {R W : Type 0} {known : R × W → Known} {k : Known} {c c' : Seen} {steps : List Step}
-    (old new : Client R W) → Writes known old new → StandsHere known k c c' steps old
-    → StandsHere known k c c' steps new
-written_here {known = known} {k} {c} {c'} {steps} old new (inl same) stands =
-    subst (λ (x : Client _ _). StandsHere known k c c' steps x) (sym same) stands
+pub written_here : {R W : Type 0} {known : R × W → Known} {k : Known} {steps : List Step}
+    (old new : Client R W) → Writes known old new → StandsHere known k steps old
+    → StandsHere known k steps new
+written_here {known = known} {k} {steps} old new (inl same) stands =
+    subst (λ (x : Client _ _). StandsHere known k steps x) (sym same) stands
 written_here old new (inr (inl w)) stands = some_here old new w stands
 written_here old new (inr (inr w)) stands = last_here old new w stands
 
@@ -71,26 +71,26 @@ number_written old new (inr (inr w)) = w.number
 
 -- ---- its connection is closed
 
-before_over : {R W : Type 0} {known : R × W → Known} {k : Known} {c c' : Seen} {steps : List Step} (client : Client R W)
-    (cause p : Parting) → p ≡ cause → IsCause cause → StandsHere known k c c' steps client
-    → ClientIsServed client.number k (known (client.reader, client.writer)) c c' steps p
-before_over {known = known} {k} {c} {c'} {steps} client cause p is ours stands =
-    subst (λ (q : Parting). ClientIsServed client.number k (known (client.reader, client.writer)) c c' steps q) (sym is)
+before_over : {R W : Type 0} {known : R × W → Known} {k : Known} {steps : List Step} (client : Client R W)
+    (cause p : Parting) → p ≡ cause → IsCause cause → StandsHere known k steps client
+    → ClientIsServed client.number k (known (client.reader, client.writer)) steps p
+before_over {known = known} {k} {steps} client cause p is ours stands =
+    subst (λ (q : Parting). ClientIsServed client.number k (known (client.reader, client.writer)) steps q) (sym is)
     (closed_early cause ours (left_as client.parting stands.is))
 
-finished : {R W : Type 0} {known : R × W → Known} {k : Known} {c c' : Seen} {steps : List Step} (client : Client R W)
-    (p : Parting) → client.parting ≡ Some p → pending client ≡ [] → StandsHere known k c c' steps client
-    → ClientIsServed client.number k (known (client.reader, client.writer)) c c' steps p
-finished {known = known} {k} {c} {c'} {steps} client p is none stands =
-    closed_as none (subst (λ (q : Option Parting). StandsBy q client.number k (known (client.reader, client.writer)) c c'
+finished : {R W : Type 0} {known : R × W → Known} {k : Known} {steps : List Step} (client : Client R W)
+    (p : Parting) → client.parting ≡ Some p → pending client ≡ [] → StandsHere known k steps client
+    → ClientIsServed client.number k (known (client.reader, client.writer)) steps p
+finished {known = known} {k} {steps} client p is none stands =
+    closed_as none (subst (λ (q : Option Parting). StandsBy q client.number k (known (client.reader, client.writer))
     steps client.has_more client.shows_body (unread client) (pending client)) is stands.is.is)
 
-pub parted_with : {R W : Type 0} {known : R × W → Known} {k : Known} {c c' : Seen} {steps : List Step}
+pub parted_with : {R W : Type 0} {known : R × W → Known} {k : Known} {steps : List Step}
     (client : Client R W) (cause : Parting) (parts : R × W × Parting) → IsParting client cause parts
-    → ((IsOver client → ⊥) → IsCause cause) → StandsHere known k c c' steps client
-    → ClientIsServed client.number k (known (parts.0, parts.1)) c c' steps parts.2
-parted_with {known = known} {k} {c} {c'} {steps} client cause parts is ours stands =
-    subst (λ (l : Known). ClientIsServed client.number k l c c' steps parts.2)
+    → ((IsOver client → ⊥) → IsCause cause) → StandsHere known k steps client
+    → ClientIsServed client.number k (known (parts.0, parts.1)) steps parts.2
+parted_with {known = known} {k} {steps} client cause parts is ours stands =
+    subst (λ (l : Known). ClientIsServed client.number k l steps parts.2)
     (sym (ends_by known is.reader is.writer))
     (elim is.why [
       | inl early ↦ before_over client cause parts.2 early.0 (ours early.1) stands

@@ -1,6 +1,5 @@
--- Clients that are served at once, as they come in, are served and leave. The bank is seen as c when the serving
--- began and as c' now, steps are the messages that were answered, and of the ends of a client known says what is
--- known.
+-- Clients that are served at once, as they come in, are served and leave: steps are the messages that were answered, and
+-- of the ends of a client known says what is known.
 use Rattle.std.specs.Prelude.{◌≡◌, ◌≢◌, ◌⊎◌, ◌<◌, ◌≤◌, ◌+◌, ℕ, List, [], ◌∷◌, ◌++◌, length, map, Option, Result, ⊤, Contains}
 use Rattle.std.specs.Prelude.{Err, IfErr, None, OnErr, OnOk, Some}
 use Rattle.std.proofs.Common.{inl, inr}
@@ -133,26 +132,26 @@ pub record TakesIn {R W : Type 0} (n : ℕ) (a b : Scene R W) (result : Result (
 
 -- one that is here was given by an opening, stands by the messages that were answered, and was told that the bank
 -- refused what it refused of it, and nothing else
-pub record IsHere {R W : Type 0} (known : R × W → Known) (c c' : Seen) (steps : List Step) (fault : Option Fault)
+pub record IsHere {R W : Type 0} (known : R × W → Known) (steps : List Step) (fault : Option Fault)
     (refused : List Step) (calls : List (ClientsCall (R × W))) (client : Client R W) : Type 0 where
   pub given : R × W
   pub came : Contains calls (Gave client.number given)
-  pub stands : StandsHere known (known given) c c' steps client
-  pub are_refused : AreRefused known (known given) c c' steps fault refused client
+  pub stands : StandsHere known (known given) steps client
+  pub are_refused : AreRefused known (known given) steps fault refused client
   pub told : IsToldSo fault refused client.number client.parting
 
 -- and so was one that left
-abbrev pub WereRefused : {E : Type 0} → (E → Known) → (c c' : Seen) → List Step → Option Fault → List Step → Visit E
+abbrev pub WereRefused : {E : Type 0} → (E → Known) → List Step → Option Fault → List Step → Visit E
     → Type 0
-WereRefused known c c' steps None refused v = ⊤
-WereRefused known c c' steps (Some fault) refused v =
+WereRefused known steps None refused v = ⊤
+WereRefused known steps (Some fault) refused v =
     AllByRecursion (λ s. s.client ≡ v.number
-    → ClientIsRefused v.number (known v.given) (known v.left) c c' steps fault s.turn v.parting) refused
+    → ClientIsRefused v.number (known v.given) (known v.left) steps fault s.turn v.parting) refused
 
-abbrev pub HasLeft : {E : Type 0} → (stops : Type 0) → (E → Known) → (c c' : Seen) → List Step → Option Fault → List Step
+abbrev pub HasLeft : {E : Type 0} → (stops : Type 0) → (E → Known) → List Step → Option Fault → List Step
     → List (ClientsCall E) → Visit E → Type 0
-HasLeft stops known c c' steps fault refused calls v =
-    IsVisited known c c' steps calls v × WereRefused known c c' steps fault refused v × IsVisitWhy stops fault refused calls v
+HasLeft stops known steps fault refused calls v =
+    IsVisited known steps calls v × WereRefused known steps fault refused v × IsVisitWhy stops fault refused calls v
 
 -- a wait said to give these up, and the bank refused nothing yet
 abbrev pub AreGivenUp : {E : Type 0} → Option Fault → List (ClientsCall E) → List ℕ → Type 0
@@ -170,14 +169,14 @@ Differ (n ∷ ns) = AllByRecursion (λ m. n ≢ m) ns × Differ ns
 -- those who left were served, each once, and the others are here; the bank refused some messages at last, or none; these
 -- are to be given up, and clients may be stopped
 pub record IsCrowd {R W : Type 0} (stops : Type 0) (given : List ℕ) (known : R × W → Known) (g : Option (List (ClientsCall (R × W))))
-    (calls : List (ClientsCall (R × W))) (c c' : Seen) (steps : List Step) (fault : Option Fault) (refused : List Step)
+    (calls : List (ClientsCall (R × W))) (steps : List Step) (fault : Option Fault) (refused : List Step)
     (a : Scene R W) : Type 0 where
   pub made : GrowsBy g a.calls calls
   pub visits : List (Visit (R × W))
   pub closed : map closed_of visits ≡ closings calls
-  pub visited : AllByRecursion (HasLeft stops known c c' steps fault refused calls) visits
+  pub visited : AllByRecursion (HasLeft stops known steps fault refused calls) visits
   pub to_give_up : AreGivenUp fault calls given
-  pub are_here : AllByRecursion (IsHere known c c' steps fault refused calls) a.here
+  pub are_here : AllByRecursion (IsHere known steps fault refused calls) a.here
   pub now : numbers a.here ≡ here_after [] calls
   pub differ : Differ (all_numbers visits a.here)
   pub below : AllByRecursion (λ n. n < a.came) (all_numbers visits a.here)
@@ -188,15 +187,15 @@ pub record IsCrowd {R W : Type 0} (stops : Type 0) (given : List ℕ) (known : R
 -- ---- after a round
 
 -- one is to be waited for, and can't go on, or may have more
-abbrev pub IsSettled : {R W : Type 0} → (late : Type 0) → (R × W → Known) → (c c' : Seen) → List (ClientsCall (R × W))
+abbrev pub IsSettled : {R W : Type 0} → (late : Type 0) → (R × W → Known) → List (ClientsCall (R × W))
     → List Step → Lap (R × W) → Round → Client R W → Type 0
-IsSettled late known c c' calls steps l r client =
-    (IsOver client → ⊥) × (HasNoMore client ⊎ MayHaveMore late known c c' calls steps l r client.number)
+IsSettled late known calls steps l r client =
+    (IsOver client → ⊥) × (HasNoMore client ⊎ MayHaveMore late known calls steps l r client.number)
 
-abbrev pub all_settled : {R W : Type 0} → (late : Round → Type 0) → (R × W → Known) → (c c' : Seen) → (here : List (Client R W))
+abbrev pub all_settled : {R W : Type 0} → (late : Round → Type 0) → (R × W → Known) → (here : List (Client R W))
     → List (ClientsCall (R × W)) → List Step → Lap (R × W) → Round → Type 0
-all_settled late known c c' here calls steps l r =
-    AllByRecursion (IsSettled (late r) known c c' calls steps l r) here
+all_settled late known here calls steps l r =
+    AllByRecursion (IsSettled (late r) known calls steps l r) here
 
 -- ---- round by round
 
@@ -226,13 +225,12 @@ pub record ServesRounds {C R W : Type 0} (seen : C → Seen) (reason : Fault →
   pub calls : List (ClientsCall (R × W))
   pub laps : List (Lap (R × W))
   pub calls_are : calls ≡ calls_of laps
-  pub are_laps : AreLaps known (seen old) (seen new) n [] [] laps rounds
-  pub moves : AllMoved (HasSpared reason) known (seen old) (seen new) [] [] laps rounds
-  pub left : IfErr result (λ fault. IfBank fault (λ f. OnLast (all_settled (λ r. BreaksOff (HasSpared reason) refused) known
-      (seen old) (seen new) here) [] [] laps rounds))
+  pub are_laps : AreLaps known n [] [] laps rounds
+  pub moves : AllMoved (HasSpared reason) known [] [] laps rounds
+  pub left : IfErr result (λ fault. IfBank fault (λ f. OnLast (all_settled (λ r. BreaksOff (HasSpared reason) refused) known here) [] [] laps rounds))
   pub network : IsCutOff result calls laps
   pub came : ℕ
   pub few : came ≤ n
   pub done : OnOk result ((came ≡ n) × (here ≡ []))
-  pub crowd : IsCrowd ⊥ [] known g calls (seen old) (seen new) (steps_of rounds) (fault_of_bank result) refused
+  pub crowd : IsCrowd ⊥ [] known g calls (steps_of rounds) (fault_of_bank result) refused
       (record { calls = g'; came = came; here = here })

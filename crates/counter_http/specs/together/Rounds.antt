@@ -57,13 +57,13 @@ fault_in (Err fault) = Some fault
 
 -- a client that stood by the messages so far stands by them and these, and was told that the bank refused what it
 -- refused of it
-abbrev pub AreToldAt : {C R W : Type 0} → (C → Seen) → (R × W → Known) → (old new : C) → (here here' : List (Client R W))
+abbrev pub AreToldAt : {R W : Type 0} → (R × W → Known) → (here here' : List (Client R W))
     → List Step → Option Fault → List Step → Type 0
-AreToldAt {C} {R} {W} seen known old new here here' steps fault refused =
+AreToldAt {R} {W} known here here' steps fault refused =
     (p : ℕ) (client client' : Client R W) → slice_get here p ≡ Some client → slice_get here' p ≡ Some client'
-    → (known_first : Known) (first : C) (before : List Step) → Takes (seen first) (seen old) (submitted_by before)
-    → StandsHere known known_first (seen first) (seen old) before client
-    → AreRefused known known_first (seen first) (seen new) (before ++ steps) fault refused client'
+    → (known_first : Known) (before : List Step)
+    → StandsHere known known_first before client
+    → AreRefused known known_first (before ++ steps) fault refused client'
 
 -- ---- what was done
 
@@ -124,11 +124,11 @@ pub record AnswersRound {C R W X : Type 0} (seen : C → Seen) (reason : Fault �
   pub same : numbers here' ≡ numbers here
   -- a client that stood by the messages so far stands by them and those of the round
   pub stand : (p : ℕ) (client client' : Client R W) → slice_get here p ≡ Some client → slice_get here' p ≡ Some client'
-      → (known_first : Known) (first : C) (steps : List Step) → Takes (seen first) (seen old) (submitted_by steps)
-      → StandsHere known known_first (seen first) (seen old) steps client
-      → StandsHere known known_first (seen first) (seen new) (steps ++ steps_in round) client'
+      → (known_first : Known) (steps : List Step)
+      → StandsHere known known_first steps client
+      → StandsHere known known_first (steps ++ steps_in round) client'
   -- what could be done was done
   pub moves : AllMoveOn (MayBeLate reason result round.posts refused) here here' (steps_in round)
   -- each client whose record was refused was told so
-  pub are_told : AreToldAt seen known old new here here' (steps_in round) (fault_in result) refused
+  pub are_told : AreToldAt known here here' (steps_in round) (fault_in result) refused
   pub fare : AllFare (fault_in result) refused (steps_in round) here here'

@@ -69,7 +69,7 @@ PartingIsOfItsEnd _ q q' v v' = ⊤
 
 -- as a read was made, the sink held the answers to all whole messages at the front of the input and no more: those
 -- that were answered then, before all others
-pub record HoldsOwnAnswers (i : ℕ) (w : Option (List ℕ)) (t : Option (List WriteCall)) (c c' : Seen)
+pub record HoldsOwnAnswers (i : ℕ) (w : Option (List ℕ)) (t : Option (List WriteCall))
     (steps : List Step) (input : List ℕ) (sink : Beside) : Type 0 where
   pub before : List Step
   pub after : List Step
@@ -82,7 +82,7 @@ pub record HoldsOwnAnswers (i : ℕ) (w : Option (List ℕ)) (t : Option (List W
 
 -- so it was at each of a client's reads
 pub record AnswersBeforeItsReads (i : ℕ) (q q' : Option (List ReadCall)) (b b' : Option (List Beside))
-    (w : Option (List ℕ)) (t : Option (List WriteCall)) (c c' : Seen) (steps : List Step) (input : List ℕ)
+    (w : Option (List ℕ)) (t : Option (List WriteCall)) (steps : List Step) (input : List ℕ)
     : Type 0 where
   pub reads : List ReadCall
   pub made : GrowsBy q q' reads
@@ -91,12 +91,12 @@ pub record AnswersBeforeItsReads (i : ℕ) (q q' : Option (List ReadCall)) (b b'
   pub beside : GrowsBy b b' sinks
   pub each : length sinks ≡ length reads
   pub answered : (n : ℕ) → n < length reads
-      → HoldsOwnAnswers i w t c c' steps (take (given (take n reads)) input) (get_or sinks n unknown)
+      → HoldsOwnAnswers i w t steps (take (given (take n reads)) input) (get_or sinks n unknown)
 
 -- ---- what became of a client
 
 -- The client before whom i came, where all messages that were answered are steps, in this order.
-pub record ClientIsServed (i : ℕ) (k l : Known) (c c' : Seen) (steps : List Step) (p : Parting) : Type 0 where
+pub record ClientIsServed (i : ℕ) (k l : Known) (steps : List Step) (p : Parting) : Type 0 where
   -- the message that the bank refused, if it did, and what was read after it; and the answer to that, or to what
   -- is no message
   pub lost : List Turn
@@ -108,7 +108,7 @@ pub record ClientIsServed (i : ℕ) (k l : Known) (c c' : Seen) (steps : List St
   pub parts : PartsAs p (HasEnded l.reader k.reads l.reads) (of_client i steps) lost rest last
   pub answers : IsWrittenAs p written (joined (answers_of i steps ++ last))
   pub ends : PartingIsOfItsEnd p k.reads l.reads k.writes l.writes
-  pub prompt : AnswersBeforeItsReads i k.reads l.reads k.beside l.beside k.writer k.writes c c' steps
+  pub prompt : AnswersBeforeItsReads i k.reads l.reads k.beside l.beside k.writer k.writes steps
       (texts_of (of_client i steps ++ lost) ++ rest)
 
 -- why a client was parted from that was told that the bank refused its message, by this fault: it took all of the 503,
@@ -121,9 +121,9 @@ IsOfRefusal fault parting.Stopped = ⊤
 IsOfRefusal fault _ = ⊥
 
 -- the bank refused this message of it, the next one of what was read, and the last of its answers is a 503
-pub record ClientIsRefused (i : ℕ) (k l : Known) (c c' : Seen) (steps : List Step) (fault : Fault) (turn : Turn)
+pub record ClientIsRefused (i : ℕ) (k l : Known) (steps : List Step) (fault : Fault) (turn : Turn)
     (p : Parting) : Type 0 where
-  pub served : ClientIsServed i k l c c' steps p
+  pub served : ClientIsServed i k l steps p
   pub lost : served.lost ≡ turn ∷ []
   pub broken_off : IsBrokenOff (of_client i steps) served.lost served.last
   pub why : IsOfRefusal fault p
@@ -170,11 +170,11 @@ closings (Refused kind ∷ cs) = closings cs
 closings (Gave_up n ∷ cs) = closings cs
 
 -- each was given by an opening, and was served so
-abbrev pub IsVisited : {E : Type 0} → (known : E → Known) → (c c' : Seen) → List Step → List (ClientsCall E)
+abbrev pub IsVisited : {E : Type 0} → (known : E → Known) → List Step → List (ClientsCall E)
     → Visit E → Type 0
-IsVisited known c c' steps calls v =
+IsVisited known steps calls v =
     Contains calls (Gave v.number v.given)
-    × ClientIsServed v.number (known v.given) (known v.left) c c' steps v.parting
+    × ClientIsServed v.number (known v.given) (known v.left) steps v.parting
 
 -- a client is told that the bank refused its message, by this fault, only where memory was refused, or the bank refused the
 -- last call by that fault and a message of this client was in it
@@ -196,12 +196,12 @@ abbrev pub IsVisitWhy : {E : Type 0} → (stops : Type 0) → Option Fault → (
 IsVisitWhy stops fault refused calls v = IsWhyParted stops fault refused calls v.number v.parting
 
 -- a message that the bank refused is of one of them, who was told so
-pub record IsToldTo {E : Type 0} (known : E → Known) (c c' : Seen) (steps : List Step) (visits : List (Visit E))
+pub record IsToldTo {E : Type 0} (known : E → Known) (steps : List Step) (visits : List (Visit E))
     (fault : Fault) (s : Step) : Type 0 where
   pub visit : Visit E
   pub one : Contains visits visit
   pub whose : visit.number ≡ s.client
-  pub refused : ClientIsRefused visit.number (known visit.given) (known visit.left) c c' steps fault s.turn visit.parting
+  pub refused : ClientIsRefused visit.number (known visit.given) (known visit.left) steps fault s.turn visit.parting
 
 -- ---- all of it
 

@@ -1,6 +1,5 @@
 -- Where a client stands while it is served beside others, and what a function does to it. Of its ends k was known
--- when it was taken in, and l now. The bank is seen as c when the serving began, and as c' now; steps are the
--- messages that were answered.
+-- when it was taken in, and l now; steps are the messages that were answered.
 use Rattle.std.specs.Prelude.{◌≡◌, ◌≢◌, ◌<◌, ℕ, List, [], ◌∷◌, ◌++◌, length, take, drop, Bool, false, true, Option, Some, None}
 use Rattle.std.specs.Prelude.{Contains, IfErr, Result, Ok, Err, ⊤, ◌⊎◌}
 use Rattle.std.specs.List.{AllByRecursion}
@@ -39,7 +38,7 @@ use Rattle.counter_http.specs.declared.parting.Parting.TheVariants as parting
 -- ---- where it stands
 
 -- its messages go on: rest was read and isn't answered, and pending isn't written
-pub record IsGoing (i : ℕ) (k l : Known) (c c' : Seen) (steps : List Step) (has_more shown : Bool)
+pub record IsGoing (i : ℕ) (k l : Known) (steps : List Step) (has_more shown : Bool)
     (rest pending : List ℕ) : Type 0 where
   pub read : Consumes k.reader l.reader (texts_of (of_client i steps) ++ rest)
   pub stays : AllByRecursion (λ t. KeepsConnection t.message) (of_client i steps)
@@ -50,7 +49,7 @@ pub record IsGoing (i : ℕ) (k l : Known) (c c' : Seen) (steps : List Step) (ha
   pub answers : written ++ pending ≡ joined (answers_of i steps)
   pub more : HasMore k.writes l.writes
   pub through : pending ≡ [] → IsThrough k.writes l.writes
-  pub prompt : AnswersBeforeItsReads i k.reads l.reads k.beside l.beside k.writer k.writes c c' steps
+  pub prompt : AnswersBeforeItsReads i k.reads l.reads k.beside l.beside k.writer k.writes steps
       (texts_of (of_client i steps) ++ rest)
 
 -- some answers may be left, where they are written still; who is given up or stopped is parted from at once
@@ -62,7 +61,7 @@ MayBeLeft parting.Stopped pending = ⊥
 MayBeLeft _ pending = pending ≡ []
 
 -- no more of its messages are answered
-pub record IsParted (i : ℕ) (k l : Known) (c c' : Seen) (steps : List Step) (pending : List ℕ) (p : Parting)
+pub record IsParted (i : ℕ) (k l : Known) (steps : List Step) (pending : List ℕ) (p : Parting)
     : Type 0 where
   pub lost : List Turn
   pub rest : List ℕ
@@ -75,18 +74,18 @@ pub record IsParted (i : ℕ) (k l : Known) (c c' : Seen) (steps : List Step) (p
   pub more : HasMore k.writes l.writes
   pub left : MayBeLeft p pending
   pub ends : pending ≡ [] → PartingIsOfItsEnd p k.reads l.reads k.writes l.writes
-  pub prompt : AnswersBeforeItsReads i k.reads l.reads k.beside l.beside k.writer k.writes c c' steps
+  pub prompt : AnswersBeforeItsReads i k.reads l.reads k.beside l.beside k.writer k.writes steps
       (texts_of (of_client i steps ++ lost) ++ rest)
 
-abbrev pub StandsBy : Option Parting → (i : ℕ) → (k l : Known) → (c c' : Seen) → List Step
+abbrev pub StandsBy : Option Parting → (i : ℕ) → (k l : Known) → List Step
     → (has_more shown : Bool) → (rest pending : List ℕ) → Type 0
-StandsBy None i k l c c' steps has_more shown rest pending =
-    IsGoing i k l c c' steps has_more shown rest pending
-StandsBy (Some p) i k l c c' steps has_more shown rest pending = IsParted i k l c c' steps pending p
+StandsBy None i k l steps has_more shown rest pending =
+    IsGoing i k l steps has_more shown rest pending
+StandsBy (Some p) i k l steps has_more shown rest pending = IsParted i k l steps pending p
 
-pub record StandsAs (p : Option Parting) (i : ℕ) (k l : Known) (c c' : Seen) (steps : List Step)
+pub record StandsAs (p : Option Parting) (i : ℕ) (k l : Known) (steps : List Step)
     (has_more shown : Bool) (rest pending : List ℕ) : Type 0 where
-  pub is : StandsBy p i k l c c' steps has_more shown rest pending
+  pub is : StandsBy p i k l steps has_more shown rest pending
 
 -- ---- of a client
 
@@ -96,9 +95,9 @@ unread client = take client.filled client.input.items
 abbrev pub pending : {R W : Type 0} → Client R W → List ℕ
 pending client = drop client.written client.output.items
 
-pub record StandsHere {R W : Type 0} (known : R × W → Known) (k : Known) (c c' : Seen) (steps : List Step)
+pub record StandsHere {R W : Type 0} (known : R × W → Known) (k : Known) (steps : List Step)
     (client : Client R W) : Type 0 where
-  pub is : StandsAs client.parting client.number k (known (client.reader, client.writer)) c c' steps client.has_more
+  pub is : StandsAs client.parting client.number k (known (client.reader, client.writer)) steps client.has_more
       client.shows_body (unread client) (pending client)
 
 -- its whole messages are answered, where it goes on and has no more
@@ -126,25 +125,25 @@ LooksDone old new (front.Record r) = ⊤
 -- ---- what the bank refused
 
 -- no more of its messages are answered, since the bank refused this one
-pub record IsRefused (i : ℕ) (k l : Known) (c c' : Seen) (steps : List Step) (pending : List ℕ) (turn : Turn)
+pub record IsRefused (i : ℕ) (k l : Known) (steps : List Step) (pending : List ℕ) (turn : Turn)
     (p : Parting) : Type 0 where
-  pub parted : IsParted i k l c c' steps pending p
+  pub parted : IsParted i k l steps pending p
   pub lost : parted.lost ≡ turn ∷ []
   pub broken_off : IsBrokenOff (of_client i steps) parted.lost parted.last
 
-pub record StandsRefused {R W : Type 0} (known : R × W → Known) (k : Known) (c c' : Seen) (steps : List Step)
+pub record StandsRefused {R W : Type 0} (known : R × W → Known) (k : Known) (steps : List Step)
     (fault : Fault) (turn : Turn) (client : Client R W) : Type 0 where
   pub parting : Parting
   pub parting_is : client.parting ≡ Some parting
   pub why : IsOfRefusal fault parting
-  pub is : IsRefused client.number k (known (client.reader, client.writer)) c c' steps (pending client) turn parting
+  pub is : IsRefused client.number k (known (client.reader, client.writer)) steps (pending client) turn parting
 
 -- so it stands by each of its own among these messages
-abbrev pub AreRefused : {R W : Type 0} → (R × W → Known) → Known → (c c' : Seen) → List Step → Option Fault → List Step
+abbrev pub AreRefused : {R W : Type 0} → (R × W → Known) → Known → List Step → Option Fault → List Step
     → Client R W → Type 0
-AreRefused known k c c' steps None refused client = ⊤
-AreRefused known k c c' steps (Some fault) refused client =
-    AllByRecursion (λ s. s.client ≡ client.number → StandsRefused known k c c' steps fault s.turn client) refused
+AreRefused known k steps None refused client = ⊤
+AreRefused known k steps (Some fault) refused client =
+    AllByRecursion (λ s. s.client ≡ client.number → StandsRefused known k steps fault s.turn client) refused
 
 -- ---- what is done for the message at the front
 
@@ -164,14 +163,14 @@ pub record IsRecordIn (buf bytes : List ℕ) (head : Head) : Type 0 where
   pub body : bytes ≡ message.body
 
 -- the bank refused its next message, which submits nothing, after these were answered, and it was told so
-pub record TellsRefusal {C R W : Type 0} (seen : C → Seen) (known : R × W → Known) (old new : C)
+pub record TellsRefusal {R W : Type 0} (known : R × W → Known)
     (client client' : Client R W) (more : List Step) (fault : Fault) : Type 0 where
   pub step : Step
   pub own : step.client ≡ client.number
   pub reads : is_posting (asked_by step.turn.message) ≡ false
-  pub told : (k : Known) (first : C) (steps : List Step) → Takes (seen first) (seen old) (submitted_by steps)
-      → StandsHere known k (seen first) (seen old) steps client
-      → StandsRefused known k (seen first) (seen new) (steps ++ more) fault step.turn client'
+  pub told : (k : Known) (steps : List Step)
+      → StandsHere known k steps client
+      → StandsRefused known k (steps ++ more) fault step.turn client'
 
 -- messages at the front were answered, which submit nothing, while the bank went from old to new; those that ask for the
 -- figures were told these
@@ -182,15 +181,15 @@ pub record IsAnswered {C R W X : Type 0} (seen : C → Seen) (reason : Fault →
   pub own : AllByRecursion (λ s. s.client ≡ client.number) more
   pub asked : IsAsked seen reason old new result
   pub due : (seen new).honest → (log : List Command) → ShowsLog (seen old) log → AreDue log more
-  pub told : IfErr result (TellsRefusal seen known old new client client' more)
+  pub told : IfErr result (TellsRefusal known client client' more)
   -- whatever else was refused with its message, if one was
   pub fares : (fault : Option Fault) (refused : List Step)
       → IfErr result (λ why. (fault ≡ Some why) × Contains (clients_of refused) client.number)
       → Fares fault refused more client client'
   pub number : client'.number ≡ client.number
-  pub stands : (k : Known) (first : C) (steps : List Step) → Takes (seen first) (seen old) (submitted_by steps)
-      → StandsHere known k (seen first) (seen old) steps client
-      → StandsHere known k (seen first) (seen new) (steps ++ more) client'
+  pub stands : (k : Known) (steps : List Step)
+      → StandsHere known k steps client
+      → StandsHere known k (steps ++ more) client'
 
 -- nothing more is written to it
 pub record IsLost {R W : Type 0} (old new : Client R W) (p : Parting) : Type 0 where

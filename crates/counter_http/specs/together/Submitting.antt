@@ -122,16 +122,15 @@ RefusesEach {R} {W} here here' (sender ∷ senders) fault =
 -- ---- what becomes of the clients and the bank
 
 -- these messages were answered, all of clients that are here: each client stands as its own have it
-pub record AreBeside {C R W : Type 0} (seen : C → Seen) (known : R × W → Known) (old new : C)
+pub record AreBeside {R W : Type 0} (known : R × W → Known)
     (here here' : List (Client R W)) (steps : List Step) : Type 0 where
   pub whose : AllByRecursion (IsOfOneOf (numbers here)) steps
   pub same : numbers here' ≡ numbers here
   pub stand : (p : ℕ) (client client' : Client R W) → slice_get here p ≡ Some client
       → slice_get here' p ≡ Some client'
-      → (known_first : Known) (first : C) (before : List Step)
-      → Takes (seen first) (seen old) (submitted_by before)
-      → StandsHere known known_first (seen first) (seen old) before client
-      → StandsHere known known_first (seen first) (seen new) (before ++ steps) client'
+      → (known_first : Known) (before : List Step)
+      → StandsHere known known_first before client
+      → StandsHere known known_first (before ++ steps) client'
 
 -- messages that submit nothing were answered, those that ask for the figures by these, and the batch has records of
 -- clients that are here
@@ -146,9 +145,9 @@ pub record Gathers {C R W X : Type 0} (seen : C → Seen) (reason : Fault → C 
   pub some : IfErr result (λ fault. refused ≢ [])
   pub whose_refused : AllByRecursion (IsOfOneOf (numbers here)) refused
   pub none_posted : submitted_by refused ≡ []
-  pub are_told : AreToldAt seen known old new here here' reads (fault_in result) refused
+  pub are_told : AreToldAt known here here' reads (fault_in result) refused
   pub fare : AllFare (fault_in result) refused reads here here'
-  pub beside : AreBeside seen known old new here here' reads
+  pub beside : AreBeside known here here' reads
   pub gives : IsBatchOf here' batch
 
 -- n records were submitted, and each sender was answered: the bank took posts, stood there, and refused one call then
@@ -168,9 +167,9 @@ pub record AreSubmitted {C R W X : Type 0} (seen : C → Seen) (reason : Fault �
   pub moves : OnOk result ((n ≤ length posts) ⊎ HasSpared reason)
   pub whole : IfErr result (λ fault. (n ≤ length refused) ⊎ HasSpared reason)
   pub dated : 0 < n → (0 < length posts) ⊎ (HasSpared reason ⊎ (0 < length refused))
-  pub beside : AreBeside seen known old new here here' posts
+  pub beside : AreBeside known here here' posts
   pub whose_refused : AllByRecursion (IsOfOneOf (numbers here)) refused
-  pub are_told : AreToldAt seen known old new here here' posts (fault_in result) refused
+  pub are_told : AreToldAt known here here' posts (fault_in result) refused
   pub fare : AllFare (fault_in result) refused posts here here'
   pub stood : C
   pub honest_first : (seen stood).honest → (seen old).honest

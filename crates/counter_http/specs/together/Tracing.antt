@@ -1,5 +1,5 @@
 -- What all clients together do to the bank, round by round: from each wait for clients up to the next one. The bank is old
--- before and new after, and seen as c and c'; of the ends of a client known says what is known.
+-- before and new after; of the ends of a client known says what is known.
 use Rattle.std.specs.Prelude.{◌≡◌, ◌≢◌, ◌⊎◌, ◌<◌, ◌≤◌, ◌+◌, ◌-◌, ◌^◌, ◌==◌, ℕ, List, [], ◌∷◌, ◌++◌, length, map, Bool, true, false, ⊤, Contains}
 use Rattle.std.specs.Prelude.{All, AllPairs, Err, IfErr, IsErr, OnOk, Option, Result}
 use Rattle.std.specs.List.{AllByRecursion, flat_map}
@@ -77,11 +77,11 @@ number_waited w = w.0
 -- As a client was waited for, it had been served as one that is stopped then: it had been read the messages that were
 -- answered so far, and was written their answers or a prefix. So a message is answered after the wait after which the last
 -- of it was read, and before any of its answer is written.
-pub record StoodSo {E : Type 0} (known : E → Known) (c c' : Seen) (steps : List Step) (calls : List (ClientsCall E))
+pub record StoodSo {E : Type 0} (known : E → Known) (steps : List Step) (calls : List (ClientsCall E))
     (w : ℕ × E) : Type 0 where
   pub given : E
   pub came : Contains calls (Gave w.0 given)
-  pub served : ClientIsServed w.0 (known given) (known w.1) c c' steps parting.Stopped
+  pub served : ClientIsServed w.0 (known given) (known w.1) steps parting.Stopped
 
 -- an opening gave nobody, or was refused
 abbrev pub GivesNone : {E : Type 0} → ClientsCall E → Type 0
@@ -96,31 +96,31 @@ AreTakenIn {E} n calls until =
     ⊎ ((call : ClientsCall E) × Contains until call × GivesNone call))
 
 -- one round of a serving of n clients, after these calls and messages
-pub record IsLap {E : Type 0} (known : E → Known) (c c' : Seen) (n : ℕ) (calls : List (ClientsCall E)) (steps : List Step)
+pub record IsLap {E : Type 0} (known : E → Known) (n : ℕ) (calls : List (ClientsCall E)) (steps : List Step)
     (l : Lap E) (r : Round) : Type 0 where
   -- all who were here were waited for, once
   pub all : map number_waited l.waited ≡ here_after [] calls
   pub once : AllByRecursion IsNoWait (l.before ++ l.after)
   -- what each of them had been read and written then
-  pub stood : AllByRecursion (StoodSo known c c' steps calls) l.waited
+  pub stood : AllByRecursion (StoodSo known steps calls) l.waited
   pub taken_in : AreTakenIn n calls (calls_until l)
   -- its messages are of those who were here then, whom the figures count
   pub whose : AllByRecursion (λ s. Contains (here_after [] (calls ++ calls_until l)) s.client) (steps_in r)
   pub counted : r.figures.connections ≡ length (here_after [] (calls ++ calls_until l))
 
 -- each round, one after another
-abbrev pub AreLaps : {E : Type 0} → (known : E → Known) → (c c' : Seen) → (n : ℕ) → List (ClientsCall E) → (before : List Round)
+abbrev pub AreLaps : {E : Type 0} → (known : E → Known) → (n : ℕ) → List (ClientsCall E) → (before : List Round)
     → List (Lap E) → List Round → Type 0
-AreLaps known c c' n calls before [] [] = ⊤
-AreLaps known c c' n calls before [] (r ∷ rs) = ⊥
-AreLaps known c c' n calls before (l ∷ ls) [] = ⊥
-AreLaps known c c' n calls before (l ∷ ls) (r ∷ rs) =
-    IsLap known c c' n calls (steps_of before) l r × AreLaps known c c' n (calls ++ calls_in l) (before ++ r ∷ []) ls rs
+AreLaps known n calls before [] [] = ⊤
+AreLaps known n calls before [] (r ∷ rs) = ⊥
+AreLaps known n calls before (l ∷ ls) [] = ⊥
+AreLaps known n calls before (l ∷ ls) (r ∷ rs) =
+    IsLap known n calls (steps_of before) l r × AreLaps known n (calls ++ calls_in l) (before ++ r ∷ []) ls rs
 
 -- ---- who moves on from one wait to the next
 
 -- as a client was waited for, it had more answers to take than are let wait
-pub record LeftMuch {E : Type 0} (known : E → Known) (c c' : Seen) (steps : List Step) (calls : List (ClientsCall E))
+pub record LeftMuch {E : Type 0} (known : E → Known) (steps : List Step) (calls : List (ClientsCall E))
     (waited : List (ℕ × E)) (n : ℕ) : Type 0 where
   pub ends : E
   pub one : Contains waited (n, ends)
@@ -132,10 +132,10 @@ pub record LeftMuch {E : Type 0} (known : E → Known) (c c' : Seen) (steps : Li
 
 -- A whole message may be left of a client after a round, where another one of it was answered in that, where it had many
 -- answers to take first, and where it was late for that.
-abbrev pub MayHaveMore : {E : Type 0} → (late : Type 0) → (known : E → Known) → (c c' : Seen) → List (ClientsCall E)
+abbrev pub MayHaveMore : {E : Type 0} → (late : Type 0) → (known : E → Known) → List (ClientsCall E)
     → List Step → Lap E → Round → ℕ → Type 0
-MayHaveMore late known c c' calls steps l r n =
-    Contains (clients_of (steps_in r)) n ⊎ (LeftMuch known c c' steps calls l.waited n ⊎ late)
+MayHaveMore late known calls steps l r n =
+    Contains (clients_of (steps_in r)) n ⊎ (LeftMuch known steps calls l.waited n ⊎ late)
 
 -- no whole message is left of one that stands so, or no more of its messages are answered
 abbrev pub HasNoneLeft : {has_ended : Type 0} {own lost : List Turn} {rest : List ℕ} {last : List (List ℕ)}
@@ -145,7 +145,7 @@ HasNoneLeft (Walk_ended is) = ⊤
 HasNoneLeft (Broken_off is) = ⊤
 
 -- so it is of one whose ends stand so after a round, after these calls and messages before that
-pub record HasMovedOn {E : Type 0} (late : Type 0) (known : E → Known) (c c' : Seen) (calls : List (ClientsCall E))
+pub record HasMovedOn {E : Type 0} (late : Type 0) (known : E → Known) (calls : List (ClientsCall E))
     (steps : List Step) (l : Lap E) (r : Round) (w : ℕ × E) : Type 0 where
   pub given : E
   pub came : Contains (calls ++ calls_in l) (Gave w.0 given)
@@ -155,25 +155,25 @@ pub record HasMovedOn {E : Type 0} (late : Type 0) (known : E → Known) (c c' :
   pub read : Consumes (known given).reader (known w.1).reader (texts_of (of_client w.0 (steps ++ steps_in r) ++ lost) ++ rest)
   pub stands : Stands (HasEnded (known w.1).reader (known given).reads (known w.1).reads)
       (of_client w.0 (steps ++ steps_in r)) lost rest last
-  pub none : HasNoneLeft stands ⊎ MayHaveMore late known c c' calls steps l r w.0
+  pub none : HasNoneLeft stands ⊎ MayHaveMore late known calls steps l r w.0
 
 -- others filled a round
 abbrev pub fills : (spared : Type 0) → Round → Type 0
 fills spared r = FillsRound spared r.posts
 
-abbrev pub all_on : {E : Type 0} → (late : Round → Type 0) → (known : E → Known) → (c c' : Seen) → (stood : List (ℕ × E))
+abbrev pub all_on : {E : Type 0} → (late : Round → Type 0) → (known : E → Known) → (stood : List (ℕ × E))
     → List (ClientsCall E) → List Step → Lap E → Round → Type 0
-all_on late known c c' stood calls steps l r = AllByRecursion (HasMovedOn (late r) known c c' calls steps l r) stood
+all_on late known stood calls steps l r = AllByRecursion (HasMovedOn (late r) known calls steps l r) stood
 
 -- and of all that are waited for after each round
-abbrev pub AllMoved : {E : Type 0} → (spared : Type 0) → (known : E → Known) → (c c' : Seen) → List (ClientsCall E)
+abbrev pub AllMoved : {E : Type 0} → (spared : Type 0) → (known : E → Known) → List (ClientsCall E)
     → (before : List Round) → List (Lap E) → List Round → Type 0
-AllMoved spared known c c' calls before [] rs = ⊤
-AllMoved spared known c c' calls before (l ∷ []) rs = ⊤
-AllMoved spared known c c' calls before (l ∷ m ∷ ls) [] = ⊤
-AllMoved spared known c c' calls before (l ∷ m ∷ ls) (r ∷ rs) =
-    all_on (fills spared) known c c' m.waited calls (steps_of before) l r
-    × AllMoved spared known c c' (calls ++ calls_in l) (before ++ r ∷ []) (m ∷ ls) rs
+AllMoved spared known calls before [] rs = ⊤
+AllMoved spared known calls before (l ∷ []) rs = ⊤
+AllMoved spared known calls before (l ∷ m ∷ ls) [] = ⊤
+AllMoved spared known calls before (l ∷ m ∷ ls) (r ∷ rs) =
+    all_on (fills spared) known m.waited calls (steps_of before) l r
+    × AllMoved spared known (calls ++ calls_in l) (before ++ r ∷ []) (m ∷ ls) rs
 
 -- this holds of the last round, and of what was called and answered before it
 abbrev pub OnLast : {E : Type 0} → (List (ClientsCall E) → List Step → Lap E → Round → Type 0) → List (ClientsCall E)
@@ -186,13 +186,13 @@ OnLast P calls before (l ∷ m ∷ ls) (r ∷ rs) = OnLast P (calls ++ calls_in 
 -- ---- all of it
 
 -- the calls are those of the rounds, and then connections were closed
-pub record IsTraced {E : Type 0} (known : E → Known) (c c' : Seen) (n : ℕ) (calls : List (ClientsCall E)) (rounds : List Round)
+pub record IsTraced {E : Type 0} (known : E → Known) (n : ℕ) (calls : List (ClientsCall E)) (rounds : List Round)
     : Type 0 where
   pub laps : List (Lap E)
   pub last : List (ClientsCall E)
   pub calls_are : calls ≡ calls_of laps ++ last
   pub no_more : AllByRecursion IsNoWait last
-  pub are_laps : AreLaps known c c' n [] [] laps rounds
+  pub are_laps : AreLaps known n [] [] laps rounds
 
 -- an opening was refused
 pub record HasRefused {E : Type 0} (calls : List (ClientsCall E)) : Type 0 where
@@ -233,18 +233,17 @@ pub record ServesTogether {C E : Type 0} (seen : C → Seen) (reason : Fault →
   -- the calls of what gives clients, round by round
   pub calls : List (ClientsCall E)
   pub made : GrowsBy g g' calls
-  pub traced : IsTraced known (seen old) (seen new) n calls rounds
+  pub traced : IsTraced known n calls rounds
   -- everybody is served: as each is waited for, its whole messages are answered, or one was in the round before
-  pub moves : AllMoved (HasSpared reason) known (seen old) (seen new) [] [] traced.laps rounds
+  pub moves : AllMoved (HasSpared reason) known [] [] traced.laps rounds
   -- and so it is of those who are left where the bank refused a call: whoever was in that was told so
-  pub broken : IfErr result (λ fault. IfBank fault (λ f. OnLast (all_on (λ r. BreaksOff (HasSpared reason) refused) known
-      (seen old) (seen new) (closings traced.last)) [] [] traced.laps rounds))
+  pub broken : IfErr result (λ fault. IfBank fault (λ f. OnLast (all_on (λ r. BreaksOff (HasSpared reason) refused) known (closings traced.last)) [] [] traced.laps rounds))
   pub network : IsCutOff result calls traced.laps
   -- the clients, as their connections were closed: each one that was taken in, once
   pub visits : List (Visit E)
   pub closed : map closed_of visits ≡ closings calls
   pub once : AllPairs OfOthers visits
-  pub each : All (IsVisited known (seen old) (seen new) (steps_of rounds) calls) visits
+  pub each : All (IsVisited known (steps_of rounds) calls) visits
   pub all : length visits ≡ length (openings calls)
   -- nobody else is given up than a wait says, nobody is stopped where the serving ends well, and nobody is told of a refusal
   -- whose message the bank didn't refuse
@@ -252,7 +251,7 @@ pub record ServesTogether {C E : Type 0} (seen : C → Seen) (reason : Fault →
   -- a call of the bank was refused with some messages in it, and each is its client's own, who was told so
   pub some : IfErr result (λ fault. IfBank fault (λ f. (refused ≢ []) ⊎ ((f ≡ Memory) × (new ≡ old))))
   pub refusals : IfErr result (λ fault. IfBank fault
-      (λ f. AllByRecursion (IsToldTo known (seen old) (seen new) (steps_of rounds) visits f) refused))
+      (λ f. AllByRecursion (IsToldTo known (steps_of rounds) visits f) refused))
   -- no message is of anybody else
   pub whose : AllByRecursion (IsOfVisit visits) (steps_of rounds ++ refused)
   pub many : length visits ≤ n

@@ -31,7 +31,7 @@ pub returns-then-not-self-clause-answers : goal.returns-then-not-self-clause-ans
 returns-then-not-self-clause-answers g c =
     answered_nothing g.C.Counter.seen c.args.bank.now c.args.bank.now c.args.self.now c.args.self.now _
     (asked_none g.C.Counter.seen c.args.bank.now _) tt (λ fault refused among. fares_same c.args.self.now) refl
-    (λ k first steps is. is)
+    (λ k steps is. is)
 
 -- a record
 pub returns-in-Submit : goal.returns-in-Submit
@@ -42,7 +42,7 @@ returns-in-Submit g c =
     record {
       answers = answered_nothing g.C.Counter.seen c.args.bank.now c.args.bank.now c.args.self.now c.args.self.now _
           (asked_none g.C.Counter.seen c.args.bank.now _) tt (λ fault refused among. fares_same c.args.self.now) refl
-          (λ k first steps is. is);
+          (λ k steps is. is);
       «record» = record {
         going = none_if c.args.self.now.parting c.is_some.result c.is_some.ensures c.if-is_some.false;
         is = record_of _ whole c.in-Submit.bytes (head_of _ whole refl (ap not c.is_head.ensures) refl) task;
@@ -143,7 +143,7 @@ returns-in-Unfinished g c =
       answers = answered_nothing g.C.Counter.seen c.args.bank.now c.args.bank.now old _ _
           (asked_none g.C.Counter.seen c.args.bank.now _) tt
           (λ fault refused among. record { did = inr (inl (inl refl)); told = told_still [] }) refl
-          (λ k first steps is. unfinished_here old _ c.in-Unfinished.shows refl refl refl going going refl refl refl refl
+          (λ k steps is. unfinished_here old _ c.in-Unfinished.shows refl refl refl going going refl refl refl refl
           waits is);
       «record» = tt;
       rests = inl refl;
@@ -161,7 +161,7 @@ returns-in-Refused g c =
           (asked_none g.C.Counter.seen c.args.bank.now _) tt
           (λ fault refused among. fares_ended old c.end_with.new.self c.end_with.ensures)
           (number_ended old c.end_with.new.self c.end_with.ensures)
-          (λ k first steps stands. hopeless_here old c.end_with.new.self c.in-Refused.shows _ c.bad_request.ensures
+          (λ k steps stands. hopeless_here old c.end_with.new.self c.in-Refused.shows _ c.bad_request.ensures
           (none_if old.parting c.is_some.result c.is_some.ensures c.if-is_some.false) is c.end_with.ensures stands);
       «record» = tt;
       rests = ended_so c.args.self.now c.end_with.new.self parting.Served c.end_with.ensures;

@@ -9,7 +9,7 @@ pub messages-init : goal.messages-init
 messages-init g c = record {
   answered = answered_nothing g.C.Counter.seen c.args.bank.now c.args.bank.now c.args.self.now c.args.self.now (Ok tt)
       (asked_none g.C.Counter.seen c.args.bank.now tt) tt (λ fault refused among. fares_same c.args.self.now) refl
-      (λ k first steps is. is);
+      (λ k steps is. is);
   few = omega arith;
   spares = g.met.C.Counter.spares_itself c.args.bank.now;
 }
