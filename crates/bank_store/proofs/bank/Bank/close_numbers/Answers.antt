@@ -11,12 +11,12 @@ close_run-requires g c = row_sound c.of_numbers.result (inr c.of_numbers.ensures
 
 pub returns : goal.returns
 returns g c =
-    let it = c.close_run.ensures in
-    rw c.of_numbers.ensures.row at (record {
+    let it = rw c.of_numbers.ensures.row at c.close_run.ensures in
+    record {
       answer = it.answer;
       call = it.call;
       frugal = it.frugal;
       stored = it.stored;
       own = it.own;
       spares = it.spares;
-    })
+    }
