@@ -254,8 +254,15 @@ def made_anew(tables):
     for bid in sorted(plan):
         open_for(bid)
     for last, (first,) in sorted(tables["closing"].items()):
-        book.close(first, last)
+        if is_closing(abs(first), last):
+            book.close(abs(first), last)
     return book.tables()
+
+
+def is_closing(first, last):
+    """Whether these are the keys of a run of one teller's numbers, or of the seal."""
+    return first == last == 0 or (
+        PER_TELLER < first <= last and first % PER_TELLER > 0 and first // PER_TELLER == last // PER_TELLER)
 
 
 def entry_of(request, reference, posting):
@@ -300,9 +307,6 @@ def unread(table, row):
         return 6
     if table == "history" and not 0 <= moment_of(rest) <= 253_402_300_799:
         return 6
-    if table == "closing" and (key or rest[0]) and not (
-            PER_TELLER < rest[0] <= key and rest[0] % PER_TELLER and rest[0] // PER_TELLER == key // PER_TELLER):
-        return 10
     is_text = table != "request_reference" or len(rest[0]) == 20 and all(" " <= byte <= "~" for byte in rest[0])
     return 0 if is_text else 9
 

@@ -6,7 +6,7 @@ use Rattle.std.specs.{Io.KnownBytes.Appends, Io.KnownBytes.Keeps, declared.net.s
 use Rattle.std.proofs.{KnownBytes.Keeps-refl, lemmas.Result.err_from_is_err_and}
 use Rattle.sqlite.specs.Held.{Held}
 use Rattle.sqlite_trees.specs.declared.store.Store.{Ghosts}
-use Rattle.posting_rules.specs.declared.fault.Fault.{Fault}
+use Rattle.posting_rules.specs.declared.{closed_numbers.Closing.Closing, fault.Fault.Fault}
 use Rattle.posting_rules.specs.believed.Counter.{Seen}
 use Rattle.posting_rules.specs.declared.fault.Fault.TheVariants as bank
 use Rattle.posting_core.specs.{believed.Stream.Streamed, believed.EndCalls.ReadCall, EndCalls.WriteCall}
@@ -41,8 +41,8 @@ use Rattle.counter_http.specs.Connections.{Known}
 use Rattle.command_line.specs.Translating.{ended_by_replies, ended_by_sheet}
 use Rattle.command_line.specs.Working.{DrivesOver, LoadsAnswer, LoadsOver, ServesOver, TellsDrive, TellsLoad}
 use Rattle.command_line.specs.Working.{TellsServing, done_after}
-use Rattle.bank_commands.specs.Commands.{EndsAllStated, EndsPost, PrintsDrive, PrintsLoad, PrintsServe, TellsLine}
-use Rattle.bank_commands.specs.Commands.{ended_by, stated_by}
+use Rattle.bank_commands.specs.Commands.{EndsAllStated, EndsPost, PrintsDrive, PrintsLoad, PrintsSeal, PrintsServe}
+use Rattle.bank_commands.specs.Commands.{TellsLine, ended_by, stated_by}
 use Rattle.bank_commands.specs.{Over.IsRefusedOver, Over.RunsOver}
 use Rattle.bank_commands.specs.Doing.{DoesOver, TaskLeaves, WorkLeaves, Works}
 use Rattle.bank_commands.specs.Running.{PrintsNone, TaskTells, Tells, WorkTells}
@@ -261,6 +261,7 @@ module _ {S P D E L : Type 0} (g : Ghosts S) (IsNamed : List ℕ → P → Type 
   work_told (works.Statements query) e e' k k' old new end did = all_stated_done did.0 end did.1
   work_told (works.Export after) e e' k k' old new end did = rw did.1 (writing_done did.0)
   work_told (works.Log after) e e' k k' old new end did = rw did.1 (log_done after did.0)
+  work_told works.Seal e e' k k' old new end did = (did.0, did.1)
   work_told works.Plan e e' k k' old new end did = rw did.1 (writing_done did.0)
 
   pub task_told : (task : Task) (conn back : Held S) (e e' : Known) (k k' : Option (List ℕ))
@@ -385,6 +386,11 @@ digested_is_not_usage requests (Ok (Some d)) w w' t t' status end =
 digested_is_not_usage requests (Ok None) w w' t t' status end = not_a_fault status _ end.0
 digested_is_not_usage requests (Err cause) w w' t t' status end = not_a_fault status _ end.0
 
+sealed_is_not_usage : (sealed : Result Closing Fault) (w w' : Option (List ℕ)) (status : Status)
+    → PrintsSeal sealed w w' (Ok status) → status ≢ Usage
+sealed_is_not_usage (Ok closing) w w' status told = done_is_not_usage status told.0
+sealed_is_not_usage (Err cause) w w' status told = not_a_fault status _ told.0
+
 work_is_not_usage : (work : Work) (e e' : Known) (status : Status) → WorkTells work e e' (Ok status) → status ≢ Usage
 work_is_not_usage (works.Load plan) e e' status end =
     one_of_two _ Differs Done status differs_is_not_usage (done_is_not_usage Done refl) end.1.1
@@ -394,6 +400,7 @@ work_is_not_usage works.Audit e e' status end = audited_is_not_usage end.0 _ _ s
 work_is_not_usage works.Replay e e' status end = replayed_is_not_usage end.0 _ _ _ _ status end.1
 work_is_not_usage (works.Digest requests) e e' status end =
     digested_is_not_usage requests end.0 _ _ _ _ status end.1
+work_is_not_usage works.Seal e e' status end = sealed_is_not_usage end.0 _ _ status end.1
 work_is_not_usage (works.Follow plan) e e' status end = done_is_not_usage status end.0
 work_is_not_usage (works.Serve address connections) e e' status end = done_is_not_usage status end.0
 work_is_not_usage other e e' status end = done_is_not_usage status end

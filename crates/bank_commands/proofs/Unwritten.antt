@@ -60,7 +60,7 @@ bank_not_write bank.Down is = cc is
 bank_not_write (bank.Damaged rule) is = cc is
 
 -- how a bank's fault ends the command is how no output does
-ends_by_bank : {Q : Type 0} (cause : Fault) (end : Result Status CommandFault) → end ≡ Err (fault_of_bank cause)
+pub ends_by_bank : {Q : Type 0} (cause : Fault) (end : Result Status CommandFault) → end ≡ Err (fault_of_bank cause)
     → IsErrOf end fault.Write → Q
 ends_by_bank cause end same is =
     let bad : fault_of_bank cause ≡ fault.Write = cc (same, is) in

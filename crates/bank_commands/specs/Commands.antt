@@ -3,11 +3,15 @@
 -- the clock's known readings; what the calls of its ends are known to have returned is q and q' of the input, and t and
 -- t' of the output; beside which sinks the input is known to have been read is b and b'. A bank that is made or carried
 -- over comes over the connection conn, which is handed back as back.
-use Rattle.std.specs.Prelude.{◌≡◌, ◌≢◌, ◌⊎◌, ◌+◌, ℕ, List, Option, Result, Ok, Err, IfErr, IfOk, OnOk}
+use Rattle.std.specs.Prelude.{◌≡◌, ◌≢◌, ◌⊎◌, ◌+◌, ℕ, List, [], ◌∷◌, Option, Result, Ok, Err, IfErr, IfOk, OnOk, if◌then◌else◌}
 use Rattle.std.specs.Io.KnownBytes.{Appends, IsAtEnd, Keeps}
 use Rattle.std.specs.declared.net.socket_addr.SocketAddr.{SocketAddr}
 use Rattle.sqlite.specs.Held.{Held}
 use Rattle.sqlite_trees.specs.declared.store.Store.{Ghosts}
+use Rattle.posting_rules.specs.believed.Commands.{Close}
+use Rattle.posting_rules.specs.believed.Closings.{sealed}
+use Rattle.posting_rules.specs.declared.closed_numbers.Closing.{Closing}
+use Rattle.posting_rules.specs.declared.closed_numbers.Closing.TheVariants as answers
 use Rattle.posting_rules.specs.declared.fault.Fault.{Fault}
 use Rattle.posting_rules.specs.declared.fault.Fault.TheVariants.{Memory}
 use Rattle.posting_core.specs.Stream.{Streams}
@@ -19,7 +23,8 @@ use Rattle.load_driver.specs.declared.drive.Driven.{Driven}
 use Rattle.report_contents.specs.Written.{AppendsPart}
 use Rattle.report_contents.specs.declared.audit.Audit.{Audit}
 use Rattle.report_contents.specs.declared.query.Query.{Query}
-use Rattle.bank_store.specs.believed.Down.{bank_reason}
+use Rattle.bank_store.specs.believed.BankSparing.{SparesOtherTables}
+use Rattle.bank_store.specs.believed.Down.{AnswersBy, IsBankCall, bank_reason}
 use Rattle.bank_store.specs.believed.Seen.{bank_seen}
 use Rattle.bank_store.specs.Seen.{fault_of}
 use Rattle.bank_store.specs.declared.bank.Bank.{Bank}
@@ -35,7 +40,7 @@ use Rattle.store_rows.specs.declared.metas.TheConstants.{VERSION}
 use Rattle.command_line.specs.Auditing.{Prints}
 use Rattle.command_line.specs.CommandFaults.{IsOfFile, fault_of_bank, fault_of_stream}
 use Rattle.command_line.specs.Lines.{already_line, created_line, driven_line, listening_line, loaded_line}
-use Rattle.command_line.specs.Lines.{migrated_line, usable_line}
+use Rattle.command_line.specs.Lines.{migrated_line, sealed_line, usable_line}
 use Rattle.command_line.specs.Statuses.{status_of_loaded}
 use Rattle.counter_http.specs.Clients.{ClientsCall}
 use Rattle.counter_http.specs.Connections.{Known}
@@ -103,6 +108,24 @@ abbrev pub Serves : {S D E : Type 0} (g : Ghosts S) → (IsBound : D → Type 0)
     → (old new : Bank S g) → Result Status CommandFault → Type 0
 Serves g IsBound known calls w w' k k' count old new end =
     ServesOver (bank_seen g) (bank_reason g) IsBound known calls k k' w w' count (λ other. end ≡ other) old new
+
+-- the books were sealed
+pub record SealsBank {S : Type 0} (g : Ghosts S) (closing : Result Closing Fault) (old new : Bank S g)
+    : Type 0 where
+  pub answer : AnswersBy g old new closing
+      (λ log closing. closing ≡ if sealed log then answers.Already else answers.Closed)
+  pub call : IsBankCall g old new (Close 0 0 ∷ []) closing
+  pub frugal : closing ≢ Err Memory
+  pub spares : SparesOtherTables g old new
+
+abbrev pub PrintsSeal : Result Closing Fault → (w w' : Option (List ℕ)) → Result Status CommandFault → Type 0
+PrintsSeal (Ok closing) w w' end = TellsLine w w' (sealed_line closing) end
+PrintsSeal (Err fault) w w' end = (end ≡ Err (fault_of_bank fault)) × Keeps w w'
+
+abbrev pub Seals : {S : Type 0} (g : Ghosts S) → (w w' : Option (List ℕ)) → (old new : Bank S g)
+    → Result Status CommandFault → Type 0
+Seals g w w' old new end =
+    (closing : Result Closing Fault) × PrintsSeal closing w w' end × SealsBank g closing old new
 
 -- ---- reports
 

@@ -14,8 +14,8 @@ use Rattle.command_line.specs.declared.reading.Task.TheVariants as tasks
 use Rattle.command_line.specs.declared.reading.Work.{Work}
 use Rattle.command_line.specs.declared.reading.Work.TheVariants as works
 use Rattle.command_line.specs.declared.status.Status.{Status}
-use Rattle.bank_commands.specs.Commands.{AuditsFound, DrivesBank, Inits, Loads, Migrates, Posts, Serves, States}
-use Rattle.bank_commands.specs.Commands.{StatesEach}
+use Rattle.bank_commands.specs.Commands.{AuditsFound, DrivesBank, Inits, Loads, Migrates, Posts, Seals, Serves}
+use Rattle.bank_commands.specs.Commands.{States, StatesEach}
 use Rattle.bank_commands.specs.Following.{Follows, Logs}
 use Rattle.bank_commands.specs.Over.{FindsOver}
 use Rattle.bank_commands.specs.Sharing.{SharesOver}
@@ -76,6 +76,7 @@ module _ {S P D E L : Type 0} (g : Ghosts S) (IsNamed : List ℕ → P → Type 
       Exports g after e.writer e'.writer e.writes e'.writes old new end
   Works (works.Log after) e e' k k' old new end = Logs g after e.writer e'.writer e.writes e'.writes old new end
   Works works.Plan e e' k k' old new end = WritesPlanOf g e.writer e'.writer e.writes e'.writes old new end
+  Works works.Seal e e' k k' old new end = Seals g e.writer e'.writer old new end
   Works (works.Follow plan) e e' k k' old new end =
       Follows g (IsNamed plan.now) known e.reader e'.reader e.reads e'.reads e.writer e'.writer old new end
   Works (works.Serve address connections) e e' k k' old new end =

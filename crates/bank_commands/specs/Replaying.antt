@@ -58,7 +58,7 @@ TellsFault fault w w' end = (end ≡ Err fault) × Keeps w w'
 abbrev pub PrintsReplay : Result Replay Fault → (w w' : Option (List ℕ)) → (t t' : Option (List WriteCall))
     → Result Status CommandFault → Type 0
 PrintsReplay (Ok (Agrees a)) w w' t t' end =
-    TellsText statuses.Done (agreeing_lines a.digest.requests a.digest.sha256 a.plan) w w' t t' end
+    TellsText statuses.Done (agreeing_lines a.digest.requests a.digest.sha256 a.plan a.closings) w w' t t' end
 PrintsReplay (Ok (Differs d)) w w' t t' end =
     TellsText statuses.Differs (differing_lines (difference_text d)) w w' t t' end
 PrintsReplay (Err fault) w w' t t' end = TellsFault (fault_of_bank fault) w w' end

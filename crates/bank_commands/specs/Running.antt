@@ -5,7 +5,7 @@ use Rattle.std.specs.Prelude.{IfOk, option_map}
 use Rattle.std.specs.Io.KnownBytes.{Keeps}
 use Rattle.clap.specs.Words.{IsAmong, Text, fault_of, takes}
 use Rattle.clap.specs.declared.error.kind.ErrorKind.{ErrorKind}
-use Rattle.posting_rules.specs.declared.fault.Fault.{Fault}
+use Rattle.posting_rules.specs.declared.{closed_numbers.Closing.Closing, fault.Fault.Fault}
 use Rattle.posting_sheets.specs.declared.money.Money.{Money}
 use Rattle.report_contents.specs.Written.{AppendsPart}
 use Rattle.report_contents.specs.declared.audit.Audit.{Audit}
@@ -30,7 +30,8 @@ use Rattle.command_line.specs.declared.reading.Work.{Work}
 use Rattle.command_line.specs.declared.reading.Work.TheVariants as works
 use Rattle.command_line.specs.declared.status.Status.{Status}
 use Rattle.command_line.specs.declared.status.Status.TheVariants.{Done, System}
-use Rattle.bank_commands.specs.Commands.{EndsPost, PrintsDrive, PrintsLoad, PrintsServe, TellsLine, migration_line}
+use Rattle.bank_commands.specs.Commands.{EndsPost, PrintsDrive, PrintsLoad, PrintsSeal, PrintsServe, TellsLine}
+use Rattle.bank_commands.specs.Commands.{migration_line}
 use Rattle.bank_commands.specs.Doing.{OnlyWrites, TaskLeaves}
 use Rattle.bank_commands.specs.Following.{PrintsFollow}
 use Rattle.bank_commands.specs.Replaying.{PrintsDigest, PrintsReplay}
@@ -80,6 +81,7 @@ WorkTells works.Replay e e' end =
     (found : Result Replay Fault) × PrintsReplay found e.writer e'.writer e.writes e'.writes end
 WorkTells (works.Digest requests) e e' end =
     (found : Result (Option Digest) Fault) × PrintsDigest requests found e.writer e'.writer e.writes e'.writes end
+WorkTells works.Seal e e' end = (sealed : Result Closing Fault) × PrintsSeal sealed e.writer e'.writer end
 WorkTells (works.Follow plan) e e' end = PrintsFollow e.writer e'.writer end
 WorkTells (works.Serve address connections) e e' end = PrintsServe e.writer e'.writer end
 WorkTells _ e e' end = IfOk end (λ status. status ≡ Done)

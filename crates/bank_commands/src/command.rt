@@ -8,7 +8,7 @@ ghost use Rattle.command_line.specs.CommandLine.{IsTaskInRange, IsWorkInRange};
 ghost use Rattle.command_line.specs.Working.{known_source};
 ghost use Rattle.bank_commands.specs.Doing.{DoesOver, WorkLeaves, Works};
 
-use crate::commands::{drive_found, init_over, load_found, post_found};
+use crate::commands::{drive_found, init_over, load_found, post_found, seal_found};
 use crate::ended::{Ended, find};
 use crate::following::{follow_found, log_found};
 use crate::migration::migrate_over;
@@ -178,6 +178,7 @@ fn work_found<
         Work::Export { after } => export_found(bank, after, output),
         Work::Log { after } => log_found(bank, after, output),
         Work::Plan => plan_found(bank, output),
+        Work::Seal => seal_found(bank, output),
         Work::Follow { plan } => follow_found(alloc, bank, plans, plan, input, output, watch),
         Work::Serve {
             address,

@@ -1,18 +1,20 @@
-//! The command that makes a bank over a connection, and the works that open branches of one and post to it.
+//! The command that makes a bank over a connection, and the works that open branches of one, post to it and seal it.
 ghost use Rattle.std.specs.Prelude.{◌≡◌, ◌≤◌, Result, IsErrOf, false};
 ghost use Rattle.posting_core.specs.EndCalls.{HasWriteFailed};
 ghost use Rattle.bank_store.specs.OpenBankSparing.{SparesWhileOpen};
 ghost use Rattle.bank_store.specs.believed.Seen.{connection_of};
 ghost use Rattle.load_driver.specs.declared.drive.TheConstants.{MAX_DRIVEN};
 ghost use Rattle.command_line.specs.Working.{done_after, ended_by_load, known_source};
-ghost use Rattle.bank_commands.specs.Commands.{DrivesBank, Inits, Loads, Posts, ended_by};
+ghost use Rattle.bank_commands.specs.Commands.{DrivesBank, Inits, Loads, Posts, PrintsSeal, Seals, ended_by};
 
 use crate::ended::{Ended, refuse};
-use bank_store::{Bank, create};
+use bank_store::{Bank, Closing, create};
 use branch_loader::Loaded;
-use command_line::{CommandFault, Plans, Status, drive_into, load_into, print_created};
+use command_line::{
+    CommandFault, Plans, Status, drive_into, load_into, print_created, print_sealed,
+};
 use load_driver::MAX_DRIVEN;
-use posting_core::{Clock, Count, Sink, Source, StreamFault, post_stream};
+use posting_core::{Clock, Count, Fault, Sink, Source, StreamFault, post_stream};
 use sqlite::{Alter, Connection};
 use sqlite_trees::store::Store;
 use std::alloc::Global;
@@ -94,6 +96,34 @@ pub(crate) fn drive_found<S: Alter + Drop, W: Sink, K: Clock>(
     ensures spares { SparesWhileOpen S.Store (connection_of bank.old) (connection_of bank.new) }
 {
     done(drive_into(alloc, bank, seed, count, output, clock))
+}
+
+/// Seals the books of the bank that was found, and prints `sealed`, or `already sealed`.
+pub(crate) fn seal_found<S: Alter + Drop, W: Sink>(
+    bank: &mut Bank<S>,
+    output: &mut W,
+) -> Result<Status, CommandFault>
+    ensures seals { Seals S.Store (W.contents output.old) (W.contents output.new) bank.old bank.new result }
+    ensures unprinted { IsErrOf result CommandFault.Write
+        → HasWriteFailed (W.calls output.old) (W.calls output.new) }
+    ensures spares { SparesWhileOpen S.Store (connection_of bank.old) (connection_of bank.new) }
+{
+    print_seal(bank.seal(), output)
+}
+
+// Prints what a seal came to.
+fn print_seal<W: Sink>(
+    answer: Result<Closing, Fault>,
+    output: &mut W,
+) -> Result<Status, CommandFault>
+    ensures prints { PrintsSeal answer (W.contents output.old) (W.contents output.new) result }
+    ensures unprinted { IsErrOf result CommandFault.Write
+        → HasWriteFailed (W.calls output.old) (W.calls output.new) }
+{
+    match answer {
+        Ok(closing) => done(print_sealed(closing, output)),
+        Err(fault) => Err(CommandFault::from(fault)),
+    }
 }
 
 /// How the program ends after a work that has no status of its own.

@@ -14,7 +14,8 @@ use sqlite::Alter;
 use sqlite_trees::store::Store;
 use std::alloc::Global;
 
-/// Replays the bank that was found, and prints the digests of its requests and of its plan, or the first difference.
+/// Replays the bank that was found, and prints the digests of its requests, its plan and its closed numbers, or the first
+/// difference.
 /// `watch` is told how far it is.
 pub fn replay_found<S: Alter + Drop, W: Sink, P: Watch + Drop>(
     alloc: Global,
@@ -97,6 +98,7 @@ fn print_replay<W: Sink>(
                 digest.requests,
                 &digest.sha256,
                 &agreed.plan,
+                &agreed.closings,
                 output,
             );
             ended(Status::Done, printed)

@@ -57,6 +57,11 @@ returns-in-Plan g c =
     let it = c.plan_found.ensures in
     rw c.in-Plan.is record { does = it.plans; leaves = ((refl, refl, refl), refl); unprinted = it.unprinted; spares = it.spares }
 
+pub returns-in-Seal : goal.returns-in-Seal
+returns-in-Seal g c =
+    let it = c.seal_found.ensures in
+    rw c.in-Seal.is record { does = it.seals; leaves = ((refl, refl, refl), refl); unprinted = it.unprinted; spares = it.spares }
+
 pub returns-in-Follow : goal.returns-in-Follow
 returns-in-Follow g c =
     let it = c.follow_found.ensures in
