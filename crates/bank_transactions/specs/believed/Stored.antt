@@ -2,6 +2,7 @@
 -- not.
 use Rattle.std.specs.Prelude.{◌≡◌, ◌≢◌, ℕ, ℤ, pos, Bool, true, false, filter, find, length, map, List, Option, Some, None, IsSome, Result, Ok, Err, ⊤}
 use Rattle.std.specs.List.{AllByRecursion, list_all, list_any}
+use Rattle.std.specs.Ordering.{int_cmp, is_ge}
 use Rattle.sqlite.specs.Effect.{Database}
 use Rattle.message_records.specs.believed.Reading.{request_of}
 use Rattle.message_records.specs.believed.Records.{RequestFields}
@@ -32,7 +33,6 @@ use Rattle.store_rows.specs.believed.View.{Shows}
 use Rattle.posting_batch.specs.believed.Batch.{HasFreeOrdinals}
 use Rattle.bank_transactions.specs.believed.Batches.{DecidesNone}
 use Rattle.posting_rules.specs.believed.Closings.{books_of, is_closed_in, meets}
-use Rattle.sql_meanings.specs.Seeks.{is_from}
 use Rattle.posting_rules.specs.declared.rows.ClosingRow.{ClosingRow}
 
 -- the balance that the account's row has, none where it has no row; and it has one just where its branch's
@@ -97,7 +97,7 @@ is_among x (Err rule) = false
 
 -- the rows from the key 0 of the seal on
 abbrev pub closing_rows : List Entry → List (Result ClosingRow Rule)
-closing_rows rows = map read_closing (filter (is_from (pos 0)) rows)
+closing_rows rows = map read_closing (filter (λ e. is_ge (int_cmp e.key (pos 0))) rows)
 
 -- each of them can be read, and these runs have the numbers that they close
 pub record HasNumbers (rows : List Entry) (runs : List ClosingRow) : Type 0 where
