@@ -8,7 +8,7 @@
 # another tree, it takes its turn in each round.
 #
 # It needs `rt`, a C compiler and SQLite's headers. TMPDIR picks the disk, and /dev/shm stands for none. It stands outside
-# the gate, and proves what it runs.
+# the gate, and proves what it runs: what is kept in the crates here is copied first.
 set -eu
 here=$(cd "$(dirname "$0")/.." && pwd)
 rounds=${1:-7}
@@ -19,6 +19,26 @@ post=${POST:-$PWD/post}
 work=$(mktemp -d)
 bare=$(mktemp -d -p /dev/shm)
 trap 'rm -rf "$work" "$bare"' EXIT
+below='message_records posting_rules posting_batch posting_core branch_loader load_driver sql_meanings'
+below="$below store_rows bank_transactions walked_rows bank_store bank_files"
+
+# The bench as a crate of its own, above copies of those that it measures.
+build() {
+    mkdir -p "$work/crates/post/src"
+    for crate in $below; do
+        mkdir "$work/crates/$crate"
+        for part in specs src proofs out; do
+            test ! -d "$here/crates/$crate/$part" || cp -a "$here/crates/$crate/$part" "$work/crates/$crate/$part"
+        done
+        grep -E "^$crate:" "$here/crates.txt" >>"$work/crates.txt"
+    done
+    cp "$here/bench/post.rt.in" "$work/crates/post/src/main.rt"
+    echo 'post: message_records posting_core branch_loader load_driver bank_store bank_files sqlite' >>"$work/crates.txt"
+    git -C "$work" init -q
+    (cd "$work/crates/post" && { rt run || test -x out/post; })
+    cp "$work/crates/post/out/post" "$post"
+}
+
 # The same postings in C.
 build_peer() {
     cc -O2 -o "$work/peer" "$here/bench/peer.c" -lsqlite3
@@ -51,7 +71,7 @@ each() {
     test -z "${BEFORE:-}" || measure "$1" before "${@:2}"
 }
 
-test -n "${POST:-}" || "$here/tools/own_crate.sh" "$here/bench/post.rt.in" "$post"
+test -n "${POST:-}" || build
 build_peer
 rm -f "$out"
 for _ in $(seq "$rounds"); do

@@ -50,7 +50,7 @@ done
 cp -r README.md CHANGELOG.md CONTRIBUTING.md SECURITY.md docs examples "$doc/"
 # Those that need a checkout, or are in another place.
 rm -r "$doc"/examples/{set_up,look,man_page,standby,evening,watch}.sh "$doc"/examples/*.{service,timer} \
-    "$doc"/examples/{bank.nft,completion.bash,sandbox.conf,embed}
+    "$doc"/examples/{bank.nft,completion.bash,sandbox.conf}
 chmod -R u=rwX,go=rX "$doc"
 if [ -e crates/bank/out/MANIFEST ]; then install -m 644 crates/bank/out/MANIFEST "$doc/"; fi
 cat >"$doc/copyright" <<END

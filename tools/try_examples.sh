@@ -1,7 +1,7 @@
 #!/usr/bin/env bash
 # Tries what README, docs/USING.md and examples/ show, with the built program: README's minute as a script and pasted
-# into a terminal, the reports in SQL, the evening's copy, a recovery, each with what they refuse; a bank that follows
-# another one; and, if `rt` is on the path, the program of examples/embed, which it proves.
+# into a terminal, the reports in SQL, the evening's copy, a recovery, each with what they refuse; and a bank that
+# follows another one.
 #
 #     tools/try_examples.sh [TIMES]
 #
@@ -115,6 +115,7 @@ changed 'UPDATE teller SET balance = balance + 1 WHERE tid = 1' 'bank audit ende
 changed 'UPDATE account SET balance = balance + 300 - 200 * aid WHERE aid < 3' 'bank replay ended with status 5' 5
 changed 'INSERT INTO branch_floor VALUES (1, -999999999999)' 'not as the evening before: the branches' 12
 changed 'UPDATE history SET moment = moment - 1 WHERE ordinal = 1' 'are not those of the evening before' 6
+changed 'INSERT INTO closing VALUES (0, 0)' 'the closed numbers, or the seal' 13
 evening --after-recovery changed.db safe/8 safe/recovered.digests || fail "an evening after a recovery: $(cat said)"
 cp safe/my.db.digests safe/recovered.digests
 evening --after-recovery changed.db safe/9 safe/recovered.digests || fail "an evening after a recovery: $(cat said)"
@@ -229,16 +230,3 @@ kill "$server"
 wait "$server" || true
 same "$status" 4 "following a leader that has less ($(cat said))"
 echo "standby.sh"
-
-# A program of one's own: at each fault it opens the file again, and gives up at the third. Then it goes on.
-if ! command -v rt >/dev/null; then exit; fi
-"$top/tools/own_crate.sh" "$top/examples/embed/main.rt.in" embed
-status=0
-(ulimit -f 200 && trap '' XFSZ && ./embed embed.db 1000) >said 2>faults || status=$?
-same "$status $(paste -sd ' ' faults)" "1 $(yes 'embed: store fault' | head -3 | paste -sd ' ')" "a program whose file may not grow"
-before="$(sqlite3 embed.db 'SELECT decided FROM meta')"
-if ((before < 1 || before > 999)); then fail "$before requests in a file that may not grow"; fi
-same "$(./embed embed.db 1000)" "answered 1000" "a program that goes on"
-same "$(sqlite3 embed.db 'SELECT count(*), sum(delta) FROM history')" "1000|100000" "what it posted"
-"$bank" replay embed.db | grep -q '^AGREES$' || fail "what it posted does not replay"
-echo "embed"
