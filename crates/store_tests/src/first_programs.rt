@@ -2,6 +2,7 @@
 mod banks;
 mod batches;
 mod days;
+mod desks;
 mod lives;
 mod look_ups;
 mod replays;
@@ -15,6 +16,7 @@ use crate::files::opened;
 use bank_store::{Bank, Refused, adopt};
 use banks::first_bank;
 use batches::first_batch;
+use desks::first_forward;
 use lives::next_life;
 use message_records::{Cents, Outcome, REPLY_BYTES, Reply};
 use replays::first_replay;
@@ -174,4 +176,14 @@ fn over_two<S: Alter + Drop>(
 fn programs_of_the_pages(rt: HostRuntime) -> Result<(), Fail> {
     over_one(&rt, opened(&rt));
     over_two(&rt, opened(&rt), opened(&rt))
+}
+
+#[test]
+fn brought_forward(rt: HostRuntime) {
+    let Ok(Some(request)) = first_forward(rt.alloc()) else {
+        assert!(rt; false);
+        return;
+    };
+    assert!(rt; (request.teller().get(), request.number().get()) == (81, 1));
+    assert!(rt; (request.account().get(), request.delta().get()) == (1, 500));
 }
