@@ -114,8 +114,8 @@ changed() {
 changed 'UPDATE teller SET balance = balance + 1 WHERE tid = 1' 'bank audit ended with status 5' 4
 changed 'UPDATE account SET balance = balance + 300 - 200 * aid WHERE aid < 3' 'bank replay ended with status 5' 5
 changed 'INSERT INTO branch_floor VALUES (1, -999999999999)' 'not as the evening before: the branches' 12
-changed 'UPDATE history SET moment = moment - 1 WHERE ordinal = 1' 'are not those of the evening before' 6
 changed 'INSERT INTO closing VALUES (0, 0)' 'the closed numbers, or the seal' 13
+changed 'UPDATE history SET moment = moment - 1 WHERE ordinal = 1' 'are not those of the evening before' 6
 evening --after-recovery changed.db safe/8 safe/recovered.digests || fail "an evening after a recovery: $(cat said)"
 cp safe/my.db.digests safe/recovered.digests
 evening --after-recovery changed.db safe/9 safe/recovered.digests || fail "an evening after a recovery: $(cat said)"
