@@ -37,7 +37,7 @@ money_named name =
     else if bytes_eq name (codes "amount") then Some Decimals
     else None
 
--- and that column is called so
+-- how a fault calls the column of amounts
 abbrev pub money_column : Money → Column
 money_column Cents = Delta
 money_column Decimals = Amount
