@@ -28,7 +28,7 @@ pub struct BranchSums {
 impl BranchSums {
     ghost use Rattle.report_contents.specs.Added.{HasTellers, HasBranches};
 
-    /// No branch.
+    /// No branch is added yet.
     ///
     /// # Errors
     ///
@@ -71,14 +71,14 @@ impl BranchSums {
         }
     }
 
-    /// How many there are, and their sum.
+    /// How many branches there are, and the sum of their balances.
     pub(crate) fn all(&self) -> Sum
         ensures { result ≡ self.now.all }
     {
         self.all
     }
 
-    /// Those that differ.
+    /// The branches that differ from their tellers.
     pub(crate) fn into_lines(self) -> BranchLines
         ensures { result ≡ take self.differing self.lines.items }
     {

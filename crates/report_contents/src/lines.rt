@@ -9,7 +9,7 @@ use itoa::Buffer;
 // The length of a signed number of 128 bits.
 pub(crate) const NUMBER: usize = 40;
 
-// Its length with the sign.
+// The length of such a number with its sign.
 const SIGNED: usize = NUMBER + 1;
 
 /// Appends a character so many times.

@@ -12,7 +12,7 @@ pub struct Range {
 }
 
 impl Range {
-    /// Whether a posting was made in it.
+    /// Whether a posting was made in the range.
     pub(crate) fn has(&self, row: &StatedPosting) -> bool
         ensures { result ≡ is_within self.now row.now }
     {

@@ -32,7 +32,7 @@ pub struct RangeSums {
 impl RangeSums {
     ghost use Rattle.report_contents.specs.Ranges.{HasSummed};
 
-    /// No posting.
+    /// No posting is added yet.
     pub fn none(range: Range) -> RangeSums
         ensures { HasSummed range result [] }
     {

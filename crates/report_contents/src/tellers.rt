@@ -26,7 +26,7 @@ pub struct TellerSums {
 impl TellerSums {
     ghost use Rattle.report_contents.specs.Added.{HasTellers};
 
-    /// No teller.
+    /// No teller is added yet.
     ///
     /// # Errors
     ///
@@ -62,7 +62,7 @@ impl TellerSums {
         self.by_branch[(branch.get() - 1) as usize]
     }
 
-    /// How many there are, and the sum of all.
+    /// How many tellers there are, and the sum of their balances.
     pub(crate) fn all(&self) -> Sum
         ensures { result ≡ self.now.all }
     {
