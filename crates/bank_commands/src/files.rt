@@ -14,11 +14,11 @@ use crate::network::HostNetwork;
 use crate::notes::Notes;
 use crate::opened::tell_opened;
 use crate::progress::Progress;
-use crate::reasons::{is_in_use, look_into};
+use crate::reasons::look_into;
 use crate::reports::why_over;
 use bank_files::{open, open_over};
 use command_line::{
-    Command, CommandFault, Plans, Status, Task, Work, translate_replies, translate_sheet,
+    Command, CommandFault, Plans, Status, Task, translate_replies, translate_sheet,
 };
 use posting_core::{Clock, Sink, Source, SystemClock};
 use sqlite::{Connection, Error, ErrorCode, FileFrom, FileStore, Files, Start};
@@ -26,12 +26,11 @@ use sqlite_disk::Disk;
 use std::alloc::Global;
 use std::cell::Cell;
 use std::fs::{self, File};
-use std::io::{IsTerminal, Read, Write};
-use std::time::{Duration, Instant};
-use std::{env, thread};
+use std::io::{IsTerminal, Read};
+use std::time::Instant;
 
-/// The machine that a run is on, with its files, its network and its memory, and the notes of the run. This file reaches
-/// them, and with it `reasons`, `opened`, `notes` and `network`.
+/// The machine that a run is on, with its files, its network and its memory, and the notes of the run. Only this file reaches
+/// them.
 #[derive(Drop)]
 pub struct Machine<'r, 'w, S> {
     rt: &'r HostRuntime,
@@ -133,9 +132,6 @@ fn task_in<S: Start, R: Source, W: Sink, K: Clock>(
         look_for(rt, file)?;
     }
     spare_others(rt, file)?;
-    if matches!(*task, Task::With(Work::Serve { .. })) {
-        wait_for_others(rt, file);
-    }
     let begun = Instant::now(rt).ok();
     let Some(mut conn) = opened(rt, file, start, &notes.is_full) else {
         return Err(CommandFault::Store);
@@ -155,21 +151,6 @@ fn task_in<S: Start, R: Source, W: Sink, K: Clock>(
     );
     close(conn, &notes.is_full);
     end
-}
-
-// If `BANK_WAIT` is in the environment, waits until no other process has the file open: the counter of a host that is to take
-// over waits here for the one that serves.
-fn wait_for_others(rt: &HostRuntime, file: &str) {
-    if env::var(rt, "BANK_WAIT").is_err() || !is_in_use(rt, file) {
-        return;
-    }
-    let _ = writeln!(rt.stderr(), "bank: {file}: it is in use: waiting");
-    for _ in 0..u64::MAX {
-        thread::sleep(rt, Duration::from_secs(1));
-        if !is_in_use(rt, file) {
-            return;
-        }
-    }
 }
 
 // The connection to a file; none where it can't be opened, with a note if the disk is full.

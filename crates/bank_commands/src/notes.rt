@@ -2,7 +2,6 @@
 //! has no clause.
 ghost use Rattle.std.specs.Prelude.{◌≡◌};
 
-use branch_loader::PlanFault;
 use command_line::{Command, CommandFault, Status, Task, Work};
 use posting_sheets::{BadRow, Column, FieldStart, SheetFault};
 use std::cell::Cell;
@@ -70,7 +69,7 @@ impl<'w> Notes<'w> {
         if let Err(CommandFault::Postings(fault)) = &end {
             self.note_row(*fault);
         }
-        self.of_end(end)
+        end
     }
 
     fn note_row(&self, fault: SheetFault) {
@@ -104,48 +103,10 @@ impl fmt::Display for Quoted {
     }
 }
 
-/// What stands in a row that was refused, if that tells what is wrong with it.
+/// The second line of a row that was refused; none where no field of it is.
 pub(crate) fn found_in(bad: &BadRow) -> Option<Quoted> {
-    if bad.found.as_bytes().is_empty() {
-        None
-    } else {
-        Some(Quoted(bad.found))
-    }
-}
-
-/// What a sheet or a plan has to have where it was refused, as far as that is known of a fault.
-pub(crate) fn due_in(fault: &CommandFault) -> Option<&'static str> {
-    match *fault {
-        CommandFault::Postings(SheetFault::Header) => {
-            Some(
-                "the first line has to be account,teller,number,delta, with commas: see `bank help encode`",
-            )
-        }
-        CommandFault::Postings(SheetFault::Row(_, bad)) if bad.column == Column::Columns => {
-            Some("a row has as many fields as the first line")
-        }
-        CommandFault::Postings(SheetFault::Row(_, bad)) => match found_in(&bad) {
-            Some(_) => None,
-            None if bad.column == Column::Branch => Some(
-                "no branch is given, and that teller is of none",
-            ),
-            None => Some("the field is empty"),
-        },
-        CommandFault::Plan(fault) => due_in_plan(&fault),
-        _ => None,
-    }
-}
-
-fn due_in_plan(fault: &PlanFault) -> Option<&'static str> {
-    match *fault {
-        PlanFault::Header => Some(
-            "the first line has to be branch,accounts or branch,accounts,floor, with commas",
-        ),
-        PlanFault::Columns(_) => Some("a row has as many fields as the first line"),
-        PlanFault::Branch(_) => Some("a branch is a number from 1 to 9999"),
-        PlanFault::Accounts(_) => Some("a branch has 1 to 100000 accounts"),
-        PlanFault::Floor(_) => Some("a floor is in cents, 0 or below, or empty"),
-        PlanFault::Twice(_) => Some("an earlier row has that branch"),
-        PlanFault::Csv | PlanFault::Memory => None,
+    match bad.column {
+        Column::Columns => None,
+        _ => Some(Quoted(bad.found)),
     }
 }

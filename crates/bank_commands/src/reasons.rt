@@ -4,9 +4,10 @@
 ghost use Rattle.std.specs.Prelude.{IfOk, IsTrue};
 ghost use Rattle.sqlite_disk.specs.Memory.{memory_is_usable};
 
-use crate::notes::{Notes, due_in, found_in};
+use crate::notes::{Notes, found_in};
 use bank_files::open_over;
 use command_line::{CommandFault, Status};
+use posting_sheets::BadRow;
 use sqlite::{Error, Files, Unknown};
 use sqlite_disk::{Disk, Memory};
 use sqlite_std_file::OpenError;
@@ -80,12 +81,12 @@ impl fmt::Display for Reason {
 }
 
 /// After a run that its line doesn't explain, says more in a second line on standard error, if anybody asks, at a terminal
-/// or by `BANK_WHY` in the environment. If a row of a sheet was refused, it says what stands there, or, as of a plan, what has
-/// to; after a store fault, what is wrong with the command's file; after damage or a fault of the network, what to look at.
-/// `why` says it of its file in any case.
+/// or by `BANK_WHY` in the environment. If a row of a sheet was refused, it says what stands there; after a store fault,
+/// what is wrong with the command's file; after damage or a fault of the network, what to look at. `why` says it of its
+/// file in any case.
 pub fn tell_reason(rt: &HostRuntime, status: Status, notes: &Notes<'_>) {
-    if status == Status::Input && is_asked(rt) {
-        tell_input(rt, notes);
+    if let Some(bad) = notes.refused.get() {
+        tell_row(rt, &bad);
     }
     if status == Status::System {
         tell_fault(rt, notes);
@@ -130,18 +131,12 @@ fn tell_damage(rt: &HostRuntime, notes: &Notes<'_>) {
     }
 }
 
-fn tell_input(rt: &HostRuntime, notes: &Notes<'_>) {
-    let mut faults = rt.stderr();
-    if let Some(bad) = notes.refused.get() {
-        if let Some(found) = found_in(&bad) {
-            let _ = writeln!(faults, "bank: found {found}");
-            return;
-        }
+fn tell_row(rt: &HostRuntime, bad: &BadRow) {
+    if !is_asked(rt) {
+        return;
     }
-    if let Some(fault) = notes.fault.get() {
-        if let Some(due) = due_in(&fault) {
-            let _ = writeln!(faults, "bank: {due}");
-        }
+    if let Some(found) = found_in(bad) {
+        let _ = writeln!(rt.stderr(), "bank: found {found}");
     }
 }
 
@@ -247,17 +242,6 @@ fn look_at_header(bytes: &[u8]) -> Result<(), Reason> {
     } else {
         Ok(())
     }
-}
-
-/// Whether another process has a file open.
-pub(crate) fn is_in_use(rt: &HostRuntime, path: &str) -> bool {
-    let Ok(log) = format!(in rt.alloc(); "{path}-wal") else {
-        return false;
-    };
-    matches!(
-        look_for_others(rt, path, log.as_str()),
-        Err(Reason::Opening(OpenError::Busy))
-    )
 }
 
 // Whether it may be written, and nobody else has it open. Where its log is there, no file is made by an open.

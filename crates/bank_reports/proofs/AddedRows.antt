@@ -7,7 +7,7 @@ use Rattle.sqlite.specs.Effect.{Database}
 use Rattle.posting_rules.specs.declared.fault.{Fault.Fault, Rule.Rule}
 use Rattle.posting_rules.specs.declared.fault.Fault.TheVariants as faults
 use Rattle.bank_store.specs.Walking.{Steps}
-use Rattle.report_contents.specs.{AuditRows.AuditRows, declared.limits.TheConstants.MAX_ROWS}
+use Rattle.report_contents.specs.{Beside.AuditRows, declared.limits.TheConstants.MAX_ROWS}
 use Rattle.bank_reports.specs.Adding.{AddsToSums, HasSums}
 use Rattle.bank_reports.specs.{declared.sums.Sums.Sums}
 use Rattle.walked_rows.specs.Broken.{HasBroken}

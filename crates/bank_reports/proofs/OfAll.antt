@@ -6,7 +6,7 @@ use Rattle.std.proofs.lemmas.Result.{IfOk-weaker}
 use Rattle.sqlite.specs.Effect.{Database}
 use Rattle.sqlite_trees.specs.declared.store.Store.{Ghosts}
 use Rattle.posting_rules.specs.declared.fault.{Fault.Fault, Rule.Rule}
-use Rattle.report_contents.specs.AuditRows.{AuditRows}
+use Rattle.report_contents.specs.Beside.{AuditRows}
 use Rattle.bank_store.specs.{believed.Seen.database_of, declared.bank.Bank.Bank}
 use Rattle.bank_store.specs.{declared.walks.Walk.Walk, Walking.BeginsWalk, Walking.items_to_come, Walking.lent}
 use Rattle.walked_rows.specs.Broken.{HasBroken}

@@ -12,7 +12,7 @@ use Rattle.walked_rows.specs.declared.{requests.StoredRequest.StoredRequest, joi
 use Rattle.walked_rows.specs.Pairs.{pair_of, pair_with, paired, row_under}
 use Rattle.walked_rows.specs.Stored.{account_entry, asked_pair, branch_entry, posted_pair}
 use Rattle.walked_rows.specs.Stored.{posting_entry, request_entry, teller_entry}
-use Rattle.report_contents.specs.{Added.HasBeside, AuditRows.rows_of, Stored.StoredTables}
+use Rattle.report_contents.specs.{Added.HasBeside, Beside.rows_of, Stored.StoredTables}
 use Rattle.report_contents.specs.Audit.{posting_ordinal, posting_under, request_ordinal, request_under}
 use Rattle.bank_reports.specs.{declared.sums.Sums.Sums, Adding.HasSums, Adding.both, Files.FileRows, Files.rows_in}
 

@@ -8,7 +8,7 @@ use Rattle.walked_rows.specs.declared.requests.StoredRequest.{StoredRequest}
 use Rattle.walked_rows.specs.declared.joined.Joined.{Joined}
 use Rattle.report_contents.specs.Added.{IsSum, HasBeside, HasBranches, HasTellers}
 use Rattle.report_contents.specs.Audit.{account_balance}
-use Rattle.report_contents.specs.AuditRows.{AuditRows}
+use Rattle.report_contents.specs.Beside.{AuditRows}
 use Rattle.bank_reports.specs.declared.sums.Sums.{Sums}
 
 -- the sums are those of these rows

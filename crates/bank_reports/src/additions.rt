@@ -1,7 +1,7 @@
 //! All rows of a bank are added up.
 ghost use Rattle.std.specs.Prelude.{◌≡◌, OnOk};
 ghost use Rattle.sqlite.specs.State.{HasCleanDisk};
-ghost use Rattle.report_contents.specs.AuditRows.{no_rows, rows_of};
+ghost use Rattle.report_contents.specs.Beside.{no_rows, rows_of};
 ghost use Rattle.report_contents.specs.Stored.{StoredTables};
 ghost use Rattle.bank_store.specs.believed.Seen.{database_of, file_of};
 ghost use Rattle.bank_reports.specs.Adding.{HasSums};

@@ -1,7 +1,7 @@
 //! Rows of a walk that are added up.
 ghost use Rattle.std.specs.Prelude.{◌≡◌, [], List, IfOk, map};
 ghost use Rattle.sqlite.specs.State.{HasCleanDisk};
-ghost use Rattle.report_contents.specs.AuditRows.{AuditRows};
+ghost use Rattle.report_contents.specs.Beside.{AuditRows};
 ghost use Rattle.walked_rows.specs.Rows.{LEAST};
 ghost use Rattle.bank_store.specs.Walking.{ComesFrom, HasToldFault, items_to_come, lent, lent_state, loan_of};
 ghost use Rattle.bank_reports.specs.Adding.{AddsToSums, HasSums};

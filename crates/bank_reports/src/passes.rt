@@ -1,7 +1,7 @@
 //! A pass over all rows of a kind.
 ghost use Rattle.std.specs.Prelude.{◌≡◌, [], List, IfOk, map};
 ghost use Rattle.sqlite.specs.State.{HasCleanDisk};
-ghost use Rattle.report_contents.specs.AuditRows.{AuditRows};
+ghost use Rattle.report_contents.specs.Beside.{AuditRows};
 ghost use Rattle.bank_store.specs.believed.Seen.{database_of, file_of};
 ghost use Rattle.bank_reports.specs.Adding.{AddsToSums, HasSums};
 ghost use Rattle.bank_reports.specs.Leaving.{ReadsTable, as_report};

@@ -1,6 +1,6 @@
 //! What an audit adds up.
 ghost use Rattle.std.specs.Prelude.{◌≡◌, ◌≤◌, ◌<◌, ◌++◌, ◌∷◌, ℕ, [], List, IfErr, IfOk, length, pos};
-ghost use Rattle.report_contents.specs.AuditRows.{AuditRows, audit_of_rows, no_rows};
+ghost use Rattle.report_contents.specs.Beside.{AuditRows, audit_of_rows, no_rows};
 ghost use Rattle.bank_reports.specs.Adding.{HasSums};
 ghost use Rattle.bank_store.specs.Room.{TakesFewBytes};
 

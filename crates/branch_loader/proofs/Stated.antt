@@ -1,4 +1,4 @@
--- The plan that a text states, record by record.
+-- What is stated, step by step.
 use Rattle.std.proofs.Common.{◌≡◌, ◌≤◌, ◌<◌, ◌+◌, ◌∷◌, ◌++◌, ◌∙◌, ℕ, List, [], Some, None, Bool, true, false, Result}
 use Rattle.std.proofs.Common.{Ok, Err, length, refl, take, drop, get_or}
 use Rattle.std.proofs.lemmas.List.{at_drop_more, drop_all, take_all, take_more}

@@ -18,7 +18,7 @@ use Rattle.branch_loader.specs.declared.follow_fault.FollowFault.{FollowFault}
 use Rattle.branch_loader.specs.declared.follow_fault.FollowFault.TheVariants.{Bank, Differs, Memory, NoEntry, Read}
 use Rattle.branch_loader.specs.declared.follow_fault.FollowFault.TheVariants.{Truncated}
 
--- how following ended, where so many entries were followed and these bytes were read after them
+-- how it ended, where so many entries were followed and these bytes were read after them
 abbrev pub EndsFollowing : Result ℕ FollowFault → (r' : Option (List ℕ)) → (q q' : Option (List ReadCall)) → ℕ → List ℕ
     → Type 0
 EndsFollowing (Ok count) r' q q' followed rest =
@@ -32,7 +32,7 @@ EndsFollowing (Err Memory) r' q q' followed rest = GrowsBy q q' [] × (rest ≡ 
 EndsFollowing (Err (Differs other)) r' q q' followed rest = ⊤
 EndsFollowing (Err (Bank fault)) r' q q' followed rest = ⊤
 
--- all of the entries were followed; or following stopped at the last of them, or at its opening; or nothing was done
+-- all of the entries were followed; or it stopped at the last of them, or at the opening for it; or nothing was done
 abbrev pub Did : {C : Type 0} → (C → Seen) → (C → C → Type 0) → (Fault → C → C → Type 0) → Rows → (old new : C)
     → List AnsweredRequest → Result ℕ FollowFault → Type 0
 Did seen spares reason rows old new entries (Err (Bank fault)) =
@@ -41,7 +41,7 @@ Did seen spares reason rows old new entries (Err (Differs other)) = HasDiffered 
 Did seen spares reason rows old new entries (Err Memory) = (entries ≡ []) × (new ≡ old)
 Did seen spares reason rows old new entries result = HasFollowed seen spares rows old new entries []
 
--- a counter shows a log that has these entries
+-- it shows a log that has these entries
 pub record ShowsEntries (seen : Seen) (texts : List (List ℕ)) : Type 0 where
   pub log : List Command
   pub shows : ShowsLog seen log
@@ -52,7 +52,7 @@ abbrev pub LeavesTaken : (old new : Seen) → (taken refused : List Command) →
 LeavesTaken old new taken refused = new.honest → (log : List Command) → StandsAt old log
     → LeavesOnly new (ShowsPrefix log (taken ++ refused) (length taken))
 
--- a crash leaves so much of what following did
+-- it does so of what was done
 abbrev pub LeavesFollowed : {C : Type 0} (seen : C → Seen) (spares : C → C → Type 0) (reason : Fault → C → C → Type 0)
     (rows : Rows) (old new : C) (entries : List AnsweredRequest) (result : Result ℕ FollowFault)
     → Did seen spares reason rows old new entries result → Type 0
@@ -63,7 +63,6 @@ LeavesFollowed seen spares reason rows old new entries (Err (Differs other)) did
 LeavesFollowed seen spares reason rows old new entries (Err Memory) did = ⊤
 LeavesFollowed seen spares reason rows old new entries result did = LeavesTaken (seen old) (seen new) did.commands []
 
--- what following a log read, took and left
 pub record FollowsLog {C : Type 0} (seen : C → Seen) (spares : C → C → Type 0) (reason : Fault → C → C → Type 0)
     (rows : Rows) (r r' : Option (List ℕ)) (q q' : Option (List ReadCall)) (old new : C) (result : Result ℕ FollowFault)
     : Type 0 where

@@ -41,7 +41,7 @@ had_account WrongBranch = false
 had_account NoAccount = false
 had_account _ = true
 
--- the branches that a request needs: its teller's, and its account's where it was judged by that
+-- its teller's, and its account's where it was judged by that
 abbrev pub needed_by : AnsweredRequest → List ℕ
 needed_by a = branch_of_teller a.request.teller
     ∷ (if had_account a.reply.outcome then branch_of_account a.request.account ∷ [] else [])
@@ -53,7 +53,7 @@ opened_by (Open branch terms ∷ cs) = branch ∷ opened_by cs
 opened_by (Post moment bytes ∷ cs) = opened_by cs
 opened_by (Close first last ∷ cs) = opened_by cs
 
--- the branches that an entry needs, and the plan has, are open
+-- those that the plan has are among these
 abbrev pub AreOpen : Rows → (opened : List ℕ) → AnsweredRequest → Type 0
 AreOpen rows opened a = AllByRecursion (λ b. IsSome (row_of rows b) → Contains opened b) (needed_by a)
 
@@ -73,15 +73,14 @@ pub record LooksOpen (rows : Rows) (looked : List Bool) (opened : List ℕ) : Ty
   pub there : (b : ℕ) → slice_get looked b ≡ Some true → IsSome (row_of rows b) → Contains opened b
   pub noted : (b : ℕ) → Contains opened b → slice_get looked b ≡ Some true
 
--- the plan was looked at for no branch
 abbrev pub NoneLooked : List Bool → Type 0
 NoneLooked looked = (b : ℕ) → slice_get looked b ≡ Some true → ⊥
 
--- the plan was looked at for this branch, or hasn't it
+-- it was looked at for this branch, or hasn't it
 abbrev pub IsLooked : Rows → List Bool → ℕ → Type 0
 IsLooked rows looked b = (slice_get looked b ≡ Some true) ⊎ (row_of rows b ≡ None)
 
--- the plan was looked at for all branches of before, and for no other than this one
+-- it was looked at for as many, and for no other than this one
 pub record LooksAt (looked looked' : List Bool) (branch : ℕ) : Type 0 where
   pub keeps : (b : ℕ) → slice_get looked b ≡ Some true → slice_get looked' b ≡ Some true
   pub others : (b : ℕ) → slice_get looked' b ≡ Some true → (b ≡ branch) ⊎ (slice_get looked b ≡ Some true)
@@ -98,16 +97,16 @@ pub record AreTexts (moment : ℕ) (records replies : List (List ℕ)) (entries 
 abbrev pub IsWaiting : Waiting → List AnsweredRequest → Type 0
 IsWaiting w entries = AreTexts w.moment w.records.items w.replies.items entries
 
--- one more entry may wait
+-- one more may wait
 abbrev pub HasRoom : Waiting → Type 0
 HasRoom w = (length w.records.items < RECORDS_PER_BATCH) × (length w.replies.items < RECORDS_PER_BATCH)
 
--- the count is that of the entries, where they can be counted
+-- so many they are, where they can be counted
 abbrev pub AreCounted : ℕ → List AnsweredRequest → Type 0
 AreCounted count entries = length entries < 2 ^ 128 → count ≡ length entries
 
--- A counter took the commands that some entries are: openings as planned, and posts of the entries at their moments. The
--- last openings may be for the next entry, which isn't posted yet.
+-- It took the commands that some entries are: openings as planned, and posts of the entries at their moments. The last
+-- openings may be for the next entry, which isn't posted yet.
 pub record HasTaken {C : Type 0} (seen : C → Seen) (spares : C → C → Type 0) (rows : Rows) (old new : C)
     (entries next : List AnsweredRequest) (commands : List Command) : Type 0 where
   pub are : ArePostsOf (planned rows) entries commands
@@ -119,12 +118,12 @@ pub record HasTaken {C : Type 0} (seen : C → Seen) (spares : C → C → Type 
   pub idle : (seen old).is_down → new ≡ old
   pub others : spares old new
 
--- whatever log a counter showed, each post got the reply of its entry
+-- whatever log it showed, each got the reply of its entry
 abbrev pub GaveReplies : (old new : Seen) → List AnsweredRequest → List Command → Type 0
 GaveReplies old new entries commands = new.honest → (log : List Command) → ShowsLog old log
     → replies_to log commands ≡ map reply_text entries
 
--- a counter took entries, and gave their replies, on whatever log it showed, and on whatever tables with room for all
+-- it took them, and gave these replies, on whatever log it showed, and on whatever tables with room for all
 pub record HasFollowed {C : Type 0} (seen : C → Seen) (spares : C → C → Type 0) (rows : Rows) (old new : C)
     (entries next : List AnsweredRequest) : Type 0 where
   pub commands : List Command
@@ -132,25 +131,25 @@ pub record HasFollowed {C : Type 0} (seen : C → Seen) (spares : C → C → Ty
   pub replies : GaveReplies (seen old) (seen new) entries commands
   pub by_tables : RepliesByTables (seen old) (seen new) commands (map reply_text entries)
 
--- a counter took entries, and the branches are open for which the plan was looked at
+-- and the branches are open for which the plan was looked at
 pub record HasOpened {C : Type 0} (seen : C → Seen) (spares : C → C → Type 0) (rows : Rows) (old new : C)
     (entries next : List AnsweredRequest) (looked : List Bool) : Type 0 where
   pub followed : HasFollowed seen spares rows old new entries next
   pub looks : LooksOpen rows looked (opened_by followed.commands)
 
--- the branches that these entries need are open by then
+-- what these need is open by then
 abbrev pub AreReady : {C : Type 0} {seen : C → Seen} {spares : C → C → Type 0} {rows : Rows} {old new : C}
     {entries next : List AnsweredRequest} → HasFollowed seen spares rows old new entries next → List AnsweredRequest
     → Type 0
 AreReady {rows = rows} it more = AllByRecursion (AreOpen rows (opened_by it.commands)) more
 
--- a counter took all of these entries, as its count of them says
+-- it took all of these, as its count of them says
 pub record HasPosted {C : Type 0} (seen : C → Seen) (spares : C → C → Type 0) (rows : Rows) (old new : C)
     (entries next : List AnsweredRequest) (w : Waiting) (looked : List Bool) : Type 0 where
   pub opened : HasOpened seen spares rows old new entries next looked
   pub counted : AreCounted w.posted entries
 
--- a counter took all of these entries but the last, which wait
+-- it took all of these but the last, which wait
 pub record IsFollowing {C : Type 0} (seen : C → Seen) (spares : C → C → Type 0) (rows : Rows) (old new : C)
     (given next : List AnsweredRequest) (w : Waiting) (looked : List Bool) : Type 0 where
   pub done : List AnsweredRequest
@@ -160,10 +159,10 @@ pub record IsFollowing {C : Type 0} (seen : C → Seen) (spares : C → C → Ty
   pub waits : IsWaiting w left
   pub ready : AreReady posted.opened.followed left
 
--- ---- how following stops
+-- ---- how it stops
 
--- A counter took the commands of some entries, stood there, and refused those of the next: posts, or an opening for the
--- first of the entries after them.
+-- It took the commands of some, stood there, and refused those of the next: posts, or an opening for the first of those
+-- after them.
 pub record IsRefusedFollowing {C : Type 0} (seen : C → Seen) (spares : C → C → Type 0)
     (reason : Fault → C → C → Type 0) (rows : Rows) (old new : C) (entries : List AnsweredRequest) (fault : Fault)
     : Type 0 where
@@ -194,20 +193,20 @@ pub record IsFirstOther (before : ℕ) (given due : List (List ℕ)) (other : Ot
   pub differ : other.stands ≢ other.due
   pub entry : other.entry ≡ before + length alike + 1
 
--- a counter took entries, and this is the first reply that is another than its entry's
+-- it took them, and this is the first reply that is another than its entry's
 pub record HasDiffered {C : Type 0} (seen : C → Seen) (spares : C → C → Type 0) (rows : Rows) (old new : C)
     (entries : List AnsweredRequest) (other : OtherReply) : Type 0 where
   pub commands : List Command
   pub taken : HasTaken seen spares rows old new entries [] commands
-  -- the entries after it were posted with it
+  -- those after it were posted with it
   pub last : length entries < other.entry + RECORDS_PER_BATCH
   pub first : (seen new).honest → (log : List Command) → ShowsLog (seen old) log
       → IsFirstOther 0 (replies_to log commands) (map reply_text entries) other
   pub by_tables : (seen new).honest → (t : Tables) → HasRoomForAll t → (seen old).tables t
       → IsFirstOther 0 (replies_past_commands t commands) (map reply_text entries) other
 
--- why following stops where entries are posted, or branches opened for the next, and what was done with the given
--- ones, if they can be counted
+-- why it stops where entries are posted, or branches opened for the next, and what was done with those that were given, if
+-- they can be counted
 abbrev pub Stops : {C : Type 0} → (C → Seen) → (C → C → Type 0) → (Fault → C → C → Type 0) → Rows → (old new : C)
     → (entries next : List AnsweredRequest) → FollowFault → Type 0
 Stops seen spares reason rows old new entries next (Bank fault) =
@@ -218,8 +217,8 @@ Stops seen spares reason rows old new entries next fault = ⊥
 
 -- ---- some entries
 
--- These texts are entries, and after the given ones they were followed, but for the last, which wait. So many were posted
--- before.
+-- These texts are entries, and after those that were given they were followed, but for the last, which wait. So many
+-- were posted before.
 abbrev pub TakesSome : {C : Type 0} → (C → Seen) → (C → C → Type 0) → (old new : C) → Rows → Waiting → List Bool
     → List (List ℕ) → Waiting → List Bool → Type 0
 TakesSome {C} seen spares old new plan none before texts w looked =
@@ -228,8 +227,8 @@ TakesSome {C} seen spares old new plan none before texts w looked =
     → (entries : List AnsweredRequest) × AllByRecursion IsEntry entries × (entries_of entries ≡ texts)
     × IsFollowing seen spares rows first new (given ++ entries) [] w looked
 
--- All of the texts are entries, and were followed after the given ones; or the first of them were, and the next text is no
--- entry, or following stopped at the last of them or at the next. So many were followed before, and w is what waits then.
+-- all of the texts are entries, and were followed after those that were given; or the first of them, and the next is
+-- none, or it stopped at the last of them or at the next. So many were followed before, and w is what waits then.
 abbrev pub TakesAll : {C : Type 0} → (C → Seen) → (C → C → Type 0) → (Fault → C → C → Type 0) → Rows → (old new : C)
     → List AnsweredRequest → List (List ℕ) → ℕ → Waiting → List Bool → Result (Unit {0}) FollowFault → Type 0
 TakesAll seen spares reason rows old new given texts before w looked (Ok done) =

@@ -17,7 +17,7 @@ answers log [] = []
 answers log (p ∷ rows) =
     opening_after log p.0 (terms_of p) ∷ answers (Open p.0 (terms_of p) ∷ log) rows
 
--- the answers to a plan's openings on tables, each on what the openings before it left
+-- so on tables, each on what the openings before it left
 abbrev pub answers_in : Tables → Rows → List Opening
 answers_in t [] = []
 answers_in t (p ∷ rows) =
@@ -28,12 +28,12 @@ abbrev pub is_opened : Opening → Bool
 is_opened Opened = true
 is_opened _ = false
 
--- the branch was open with this count and this floor
+-- it was open with this count and this floor
 abbrev pub is_already : Opening → Bool
 is_already Already = true
 is_already _ = false
 
--- the branch was open with another count or another floor
+-- it was open with another count or another floor
 abbrev pub is_differs : Opening → Bool
 is_differs Differs = true
 is_differs _ = false
@@ -61,7 +61,7 @@ pub record CountsAnswers (old new : Seen) (rows : Rows) (loaded : Loaded) : Type
   pub by_log : new.honest → (log : List Command) → ShowsLog old log → loaded ≡ counted (answers log rows)
   pub by_tables : new.honest → (t : Tables) → HasRoomForAll t → old.tables t → loaded ≡ counted (answers_in t rows)
 
--- a counter took the openings of all rows, a crash leaves them all, and it is up if it was
+-- it took the openings of all rows, a crash leaves them all, and the counter is up if it was
 pub record LoadsAll (old new : Seen) (rows : Rows) : Type 0 where
   pub takes : Takes old new (openings rows)
   pub by_tables : TakesByTables old new (openings rows)

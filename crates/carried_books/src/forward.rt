@@ -78,31 +78,6 @@ impl Forward {
         }
     }
 
-    /// The same where some was brought forward before: the first teller owes so many cents to the account of the desk, which
-    /// has that many.
-    #[must_use]
-    pub fn begun(
-        alloc: Global,
-        desk: Branch,
-        used: NumberRuns,
-        last: u64,
-        owed: i64,
-        sum: i64,
-    ) -> Forward
-        ensures desk { result.desk ≡ desk }
-        ensures used { result.used ≡ used }
-    {
-        Forward {
-            desk,
-            used,
-            rising: Vec::new(alloc),
-            falling: Vec::new(alloc),
-            last,
-            owed,
-            sum,
-        }
-    }
-
     /// Something is to be brought forward. An error is want of memory.
     pub fn add(&mut self, lack: Lack) -> Result<(), AllocError>
         ensures desk { self.new.desk ≡ self.old.desk }

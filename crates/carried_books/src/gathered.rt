@@ -91,12 +91,6 @@ impl Gathered {
         Ok(())
     }
 
-    /// All runs, as they were added.
-    pub(crate) fn into_runs(self) -> Vec<ClosingRow> {
-        let Gathered { sealed: _, runs } = self;
-        runs
-    }
-
     /// The numbers of all runs.
     pub(crate) fn into_used(self, alloc: Global) -> Result<Used, AllocError>
         ensures sealed { IfOk result (λ used. used.sealed ≡ self.sealed) }

@@ -14,7 +14,7 @@ use crate::gathered::{Gathered, Used, has_seal, number_in, run_in, stray_number}
 use bank_replays::{ReplayFault, Visitor, bank_fault, visit_all};
 use bank_store::Bank;
 use message_records::Branch;
-use posting_rules::{ClosingRow, Fault, NumberRuns, Rule};
+use posting_rules::{Fault, NumberRuns, Rule};
 use sqlite::Alter;
 use std::alloc::AllocError;
 use walked_rows::{StoredClosing, StoredRequest};
@@ -23,8 +23,8 @@ const NO_MEMORY: ReplayFault = ReplayFault::Bank(Fault::Memory);
 
 const NO_REQUEST: ReplayFault = ReplayFault::Bank(Fault::Damaged(Rule::Request));
 
-/// The answer, with a fault of memory.
-pub(crate) fn told(added: Result<(), AllocError>) -> Result<(), ReplayFault>
+// The answer, with a fault of memory.
+fn told(added: Result<(), AllocError>) -> Result<(), ReplayFault>
     ensures { result ≡ told_of added }
 {
     match added {
@@ -123,17 +123,6 @@ pub(crate) fn used_in<S: Alter>(bank: &mut Bank<S>) -> Result<Used, Fault>
     gather_kept(bank, &mut gathered)?;
     let used = gathered.into_used(bank.alloc())?;
     Ok(used)
-}
-
-/// The numbers of the requests that a bank keeps, by rising keys.
-pub(crate) fn kept_in<S: Alter>(bank: &mut Bank<S>) -> Result<Vec<ClosingRow>, Fault>
-    ensures { ReadsTold S.Store (λ fault. fault) bank.old bank.new result }
-{
-    let mut kept = Gathered::none(bank.alloc());
-    gather_kept(bank, &mut kept)?;
-    let mut runs = kept.into_runs();
-    runs.sort_unstable_by_key(|run| run.last);
-    Ok(runs)
 }
 
 /// The key of the first number of a kept request that is neither of a teller of the desk, nor was used; none where there

@@ -27,19 +27,14 @@
 #![tactic(auto)]
 
 mod apart;
-mod balances;
-mod bringing;
-mod closing;
 mod comparison;
 mod desk;
 mod forward;
 mod gathered;
 mod gathering;
-mod lacking;
 mod laws;
 
 pub use apart::{Apart, BooksFault};
-pub use closing::close_books;
 pub use comparison::compare_books;
 pub use desk::first_stray;
 pub use forward::{Forward, Lack};

@@ -6,6 +6,7 @@ use Rattle.std.specs.declared.io.Error.{Error}
 use Rattle.std.proofs.{KnownBytes.Consumes-trans}
 use Rattle.httparse.specs.Grammar.{lf}
 use Rattle.posting_rules.specs.declared.fault.Fault.{Fault}
+use Rattle.posting_rules.specs.{believed.Counter.Seen}
 use Rattle.posting_core.specs.believed.{Batches.joined, EndCalls.EndsWith, EndCalls.GrowsBy, EndCalls.ReadCall}
 use Rattle.posting_core.specs.EndCalls.{Beside, IsReadFailure, read_call}
 use Rattle.posting_core.proofs.Batched.{joined-append}

@@ -10,11 +10,11 @@ use Rattle.posting_core.specs.believed.EndCalls.{GrowsBy}
 use Rattle.posting_core.proofs.{StreamedBatches.all_more}
 use Rattle.counter_http.specs.Clients.{ClientsCall, Refused, Waited, given_up_told, waited_told}
 use Rattle.counter_http.specs.Connections.{Known}
-use Rattle.counter_http.specs.together.Crowd.{GoesOn, HaveMoved, IsCrowd, IsHere, IsLeftOf, TakesIn}
+use Rattle.counter_http.specs.together.Crowd.{GoesOn, HaveMoved, IsCrowd, IsHere, TakesIn}
 use Rattle.counter_http.specs.together.Crowd.{all_settled}
 use Rattle.counter_http.specs.together.Order.{HasSpared, Step, steps_in}
 use Rattle.counter_http.specs.together.Order.{steps_of}
-use Rattle.counter_http.specs.together.Rounds.{AnswersRound, MayBeLate, ends_here, ends_in, fault_in, given_up, numbers}
+use Rattle.counter_http.specs.together.Rounds.{AnswersRound, ends_here, ends_in, fault_in, given_up, numbers}
 use Rattle.counter_http.specs.together.Standing.{IsNew, Writes}
 use Rattle.counter_http.specs.together.Serving.{openings}
 use Rattle.counter_http.specs.together.Tracing.{HasRefused, IsNoWait, all_on, fills}
@@ -34,7 +34,7 @@ use Rattle.counter_http.proofs.Moving.{HadMuch, all_waited}
 use Rattle.counter_http.proofs.Moving.{each_ends, last_then, much_goes, much_new}
 use Rattle.counter_http.proofs.Removed.{all_both, each_contained}
 use Rattle.counter_http.proofs.Stood.{closed_early, left_as}
-use Rattle.counter_http.proofs.Rounding.{Begun, Rounding, here_long, lap_of, settled_round}
+use Rattle.counter_http.proofs.Rounding.{Begun, Rounding, here_long}
 
 -- ---- what is done before a round, and after it
 
@@ -186,38 +186,20 @@ before_round {R = R} {W} {seen} {reason} {known} {g} {t} {t'} {u} {t''} {old = o
           (Contains-append_right (leave came).calls taken.moved.calls (Refused is.kind) is.one);
     }
 
--- after it some left by these calls, and who is still here is settled
-pub record RoundEnds {C R W X : Type 0} (seen : C → Seen) (reason : Fault → C → C → Type 0) (known : R × W → Known)
-    {g t : Option (List (ClientsCall (R × W)))} (t' : Option (List (ClientsCall (R × W)))) {k k' k'' : Option (List ℕ)}
-    {old now new : C} {n came seconds turns : ℕ} {here here' : List (Client R W)} {u u' : Tally} {done : Result (Unit {0}) ListenFault} {result : Result X Fault}
-    (b : Begun seen reason known g t k k' old now n came here u turns done)
-    (r : AnswersRound seen reason known k' k'' now new here here' u u' seconds result) (left : List (Client R W)) : Type 0 where
-  pub calls : List (ClientsCall (R × W))
-  pub waits : AllByRecursion IsNoWait calls
-  pub settled : all_settled (λ y. MayBeLate reason result r.round.posts r.refused) known left (calls_of b.s.laps)
-      (steps_of b.s.rounds) (lap_of b calls) r.round
-  pub crowd : IsCrowd ⊥ [] known g (b.s.calls ++ calls) (steps_of b.s.rounds ++ steps_in r.round) (fault_in result) r.refused
-      (record { calls = t'; came = came; here = left })
-
 pub after_round : {C R W X : Type 0} (seen : C → Seen) {reason : Fault → C → C → Type 0} {known : R × W → Known}
     {g t t' : Option (List (ClientsCall (R × W)))} {k k' k'' : Option (List ℕ)} (old now new : C)
-    {n came seconds turns : ℕ} {u u' : Tally} {done : Result (Unit {0}) ListenFault}
-    (here here' viewed gone here'' left : List (Client R W)) (result : Result X Fault) → viewed ≡ here' → here'' ≡ gone
-    → (b : Begun seen reason known g t k k' old now n came here u turns done)
+    {n came seconds turns : ℕ} {u u' : Tally} {until : List (ClientsCall (R × W))} (here here' viewed gone here'' left : List (Client R W))
+    (result : Result X Fault) → viewed ≡ here' → here'' ≡ gone
+    → (s : Rounding seen reason known g t k k' old now n came here u turns until)
     (r : AnswersRound seen reason known k' k'' now new here here' u u' seconds result) → AllZip (Writes known) viewed gone
-    → ((came : ℕ) → HaveMoved ⊥ [] (record { calls = t; came = came; here = here'' })
-    (record { calls = t'; came = came; here = left })) → AllByRecursion (IsLeftOf here'') left
-    → RoundEnds seen reason known t' b r left
-after_round seen {known = known} old now new {came = came} here here' viewed gone here'' left result same is b r writes
-    moves rest =
-    let moved = moves came in
+    → (moved : (came : ℕ) → HaveMoved ⊥ [] (record { calls = t; came = came; here = here'' })
+    (record { calls = t'; came = came; here = left }))
+    → IsCrowd ⊥ [] known g (s.calls ++ (moved came).calls) (steps_of s.rounds ++ steps_in r.round)
+    (fault_in result) r.refused (record { calls = t'; came = came; here = left })
+after_round seen {known = known} old now new {came = came} here here' viewed gone here'' left result same is s r writes
+    moved =
     let all : AllZip (Writes known) here' here'' =
     subst (λ (xs : List (Client _ _)). AllZip (Writes known) xs here'') same
     (subst (λ (ys : List (Client _ _)). AllZip (Writes known) viewed ys) (sym is) writes) in
-    record {
-      calls = moved.calls;
-      waits = none_waited moved;
-      settled = settled_round seen old now new here here' viewed gone here'' left result same is b r writes rest moved.calls;
-      crowd = crowd_moved (λ stop. stop) moved (crowd_writes here' here'' all
-          (crowd_round seen now new (steps_of b.s.rounds) here here' result b.s.crowd r));
-    }
+    crowd_moved (λ stop. stop) (moved came) (crowd_writes here' here'' all
+    (crowd_round seen now new (steps_of s.rounds) here here' result s.crowd r))

@@ -26,6 +26,7 @@ use Rattle.counter_http.specs.declared.client.Client.{Client}
 use Rattle.counter_http.proofs.AnsweredTurns.{idle_commands, refused_first, why_first}
 use Rattle.counter_http.proofs.Dues.{due_append, unchanged_stays}
 use Rattle.counter_http.proofs.Faring.{among_then, fares_then}
+use Rattle.counter_http.proofs.Steps.{submitted-append}
 
 -- ---- the bank
 

@@ -4,6 +4,7 @@ use Rattle.std.proofs.Common.{refl, sym, ap, subst, ◌∙◌, append_assoc, app
 use Rattle.std.specs.{List.AllByRecursion, Io.KnownBytes.Consumes}
 use Rattle.std.proofs.lemmas.List.{get_or_append_left, length-append, take-append-le}
 use Rattle.std.proofs.{Math.Seq.get_or-append_seam, Math.Seq.take-append_seam}
+use Rattle.posting_rules.specs.{believed.Counter.Seen}
 use Rattle.posting_core.specs.{Stream.given, believed.Batches.joined}
 use Rattle.posting_core.specs.believed.EndCalls.{GrowsBy, ReadCall}
 use Rattle.posting_core.specs.EndCalls.{Beside, WriteCall, unknown}

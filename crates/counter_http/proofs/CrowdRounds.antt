@@ -5,7 +5,7 @@ use Rattle.std.specs.Prelude.{◌≢◌, None, Contains, AllPairs}
 use Rattle.std.specs.List.{AllByRecursion, AllZip, slice_get}
 use Rattle.std.proofs.lemmas.List.Elements.{All-contains, All-from_recursion, Contains-append_right}
 use Rattle.posting_rules.specs.declared.fault.Fault.{Fault}
-use Rattle.posting_rules.specs.believed.Counter.{Seen}
+use Rattle.posting_rules.specs.believed.Counter.{Seen, Takes}
 use Rattle.posting_core.proofs.{StreamedBatches.all_more}
 use Rattle.counter_http.specs.Clients.{ClientsCall, Gave}
 use Rattle.counter_http.specs.Connections.{Known}
@@ -13,6 +13,7 @@ use Rattle.counter_http.specs.together.Crowd.{Differ, GoesOn, HasLeft, IsCrowd, 
 use Rattle.counter_http.specs.together.Crowd.{WereRefused}
 use Rattle.counter_http.specs.together.Faring.{Fares, IsToldSo}
 use Rattle.counter_http.specs.together.Order.{Step, steps_in}
+use Rattle.counter_http.specs.together.Order.{submitted_by}
 use Rattle.counter_http.specs.together.Reading.{Lost, Reads, Refused, SaysAtEnd, Silent}
 use Rattle.counter_http.specs.together.Rounds.{AnswersRound, IsOfOneOf, fault_in, numbers}
 use Rattle.counter_http.specs.together.Standing.{AreRefused, IsUpToDate, StandsHere, Writes, unread}

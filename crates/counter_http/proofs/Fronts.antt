@@ -1,11 +1,11 @@
 -- What a function does to the fields of a client, and where the client stands then.
 use Rattle.std.proofs.Common.{◌≡◌, ℕ, ◌<◌, List, [], ◌∷◌, ◌++◌, length, drop, Option, Some, None, Bool}
-use Rattle.std.proofs.Common.{true, false, refl, sym, ap, subst, ◌∙◌, arith, inl, inr}
+use Rattle.std.proofs.Common.{true, false, refl, sym, ap, subst, ◌∙◌, append-nil, arith, inl, inr}
 use Rattle.std.proofs.Math.ListN.{length-take}
 use Rattle.std.proofs.lemmas.List.{length-append}
 use Rattle.message_records.specs.believed.Spelling.{reply_spelling}
 use Rattle.posting_rules.specs.declared.fault.Fault.{Fault}
-use Rattle.posting_rules.specs.{believed.Commands.Command}
+use Rattle.posting_rules.specs.{believed.Commands.Command, believed.Counter.Seen}
 use Rattle.posting_rules.specs.believed.Entries.{reply}
 use Rattle.counter_http.specs.Connections.{Known}
 use Rattle.counter_http.specs.together.Standing.{AnswersRecord, HasAnswered, HasEndedWith, IsGoing, IsHeadOf, IsLost}
@@ -23,6 +23,7 @@ use Rattle.counter_http.specs.declared.parting.Parting.{Parting}
 use Rattle.counter_http.specs.declared.parting.Parting.TheVariants as parting
 use Rattle.counter_http.proofs.Answering.{answered_last, answered_on, answered_unavailable, step_of, step_told}
 use Rattle.counter_http.proofs.AnsweredTurns.{posting_answer}
+use Rattle.counter_http.proofs.Beside.{stands_beside}
 use Rattle.counter_http.proofs.Stood.{IsLeft, IsLoss, left_as, lost_as}
 
 -- ---- the fields of a client

@@ -3,15 +3,17 @@ use Rattle.std.proofs.Common.{◌≡◌, ℕ, zero, suc, ◌<◌, List, [], ◌�
 use Rattle.std.proofs.Common.{Some, refl, sym, ap, subst, ◌∙◌, append_assoc, arith, inl, inr}
 use Rattle.std.specs.{Prelude.◌≢◌, Prelude.◌⊎◌, Prelude.Contains, List.AllByRecursion, List.slice_get, Option.option_map}
 use Rattle.std.proofs.lemmas.{Option.get_or_from_slice_get, Option.slice_get-map, Option.slice_get_within}
+use Rattle.posting_rules.specs.believed.{Commands.Command, Counter.Seen, Counter.Takes}
+use Rattle.posting_rules.proofs.CounterCalls.{Takes-append}
 use Rattle.posting_core.proofs.StreamedBatches.{all_more}
 use Rattle.counter_http.specs.Connections.{Known}
-use Rattle.counter_http.specs.together.Order.{Step}
+use Rattle.counter_http.specs.together.Order.{Step, submitted_by}
 use Rattle.counter_http.specs.together.Rounds.{AllDiffer, IsOfOneOf, number_in, numbers}
 use Rattle.counter_http.specs.together.Standing.{StandsHere}
 use Rattle.counter_http.specs.together.Submitting.{AreBeside}
 use Rattle.counter_http.specs.declared.client.Client.{Client}
 use Rattle.counter_http.proofs.Beside.{stands_beside}
-use Rattle.counter_http.proofs.Steps.{OfOne, OfOther}
+use Rattle.counter_http.proofs.Steps.{OfOne, OfOther, submitted-append}
 
 -- ---- places of a list
 

@@ -3,6 +3,7 @@ use Rattle.std.proofs.Common.{◌≡◌, ℕ, List, [], ◌∷◌, ◌++◌, len
 use Rattle.std.proofs.Common.{true, false, refl, sym, ap, subst, ◌∙◌, append-nil, inl, inr}
 use Rattle.std.specs.{Prelude.◌≢◌, Io.KnownBytes.Consumes, declared.io.Error.Error}
 use Rattle.std.proofs.lemmas.List.{nil_from_length}
+use Rattle.posting_rules.specs.{believed.Counter.Seen}
 use Rattle.posting_core.specs.Stream.{given}
 use Rattle.posting_core.specs.believed.{EndCalls.EndsWith, EndCalls.GrowsBy, EndCalls.ReadCall}
 use Rattle.posting_core.specs.EndCalls.{Beside, WriteCall, read_call}

@@ -4,6 +4,7 @@ use Rattle.std.proofs.Common.{inl, inr}
 use Rattle.std.specs.Prelude.{◌≢◌, ⊤}
 use Rattle.std.specs.Io.KnownBytes.{Appends}
 use Rattle.posting_rules.specs.declared.fault.Fault.{Fault}
+use Rattle.posting_rules.specs.believed.Counter.{Seen}
 use Rattle.posting_core.specs.EndCalls.{HasMore, HasWriteFailed, IsFlush, IsWriteFailure, WriteCall}
 use Rattle.posting_core.specs.believed.EndCalls.{EndsWith}
 use Rattle.posting_core.proofs.Telling.{more_failed}

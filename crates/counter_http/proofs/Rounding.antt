@@ -21,6 +21,7 @@ use Rattle.counter_http.specs.together.Order.{clients_of, steps_of, submitted_by
 use Rattle.counter_http.specs.together.Faring.{HasNoMore}
 use Rattle.counter_http.specs.together.Rounds.{AnswersRound, IsOfOneOf, MayBeLate, number_in, numbers}
 use Rattle.counter_http.specs.together.Standing.{HasMuch, Writes}
+use Rattle.counter_http.specs.together.Serving.{ClientIsServed}
 use Rattle.counter_http.specs.together.Tracing.{AllMoved, AreLaps, AreTakenIn, HasRefused, IsLap, IsNoWait, Lap, MayHaveMore, OnLast, all_on, fills}
 use Rattle.counter_http.specs.together.Tracing.{StoodSo}
 use Rattle.counter_http.specs.together.Tracing.{calls_in, calls_of, calls_until, here_after, number_waited}
@@ -31,11 +32,13 @@ use Rattle.counter_http.specs.declared.client.Client.{Client}
 use Rattle.counter_http.specs.declared.figures.Figures.{Figures}
 use Rattle.counter_http.specs.declared.figures.Tally.{Tally}
 use Rattle.counter_http.specs.declared.listen_fault.ListenFault.{ListenFault}
+use Rattle.counter_http.proofs.Beside.{served_beside}
 use Rattle.counter_http.proofs.Counted.{counts_none, figured_more, rounds_then}
 use Rattle.counter_http.proofs.CrowdRounds.{all_by, zip_places}
 use Rattle.counter_http.proofs.Dues.{answers_none, answers_then}
+use Rattle.counter_http.proofs.Crowds.{each_weaker}
 use Rattle.counter_http.proofs.Moving.{HadMuch, IsDone, done_written}
-use Rattle.counter_http.proofs.Moving.{last_one, left_settled, moved_more}
+use Rattle.counter_http.proofs.Moving.{last_one, last_then, left_settled, moved_more}
 use Rattle.counter_http.proofs.Steps.{submitted-append}
 use Rattle.counter_http.proofs.Turning.{readings_append}
 

@@ -5,6 +5,7 @@ use Rattle.std.specs.{Prelude.◌≢◌, Prelude.⊤, Io.KnownBytes.Appends, Io.
 use Rattle.std.proofs.{KnownBytes.Appends-trans}
 use Rattle.std.proofs.lemmas.List.{take-append-drop}
 use Rattle.std.proofs.Math.Seq.{take-append_seam}
+use Rattle.posting_rules.specs.{believed.Counter.Seen}
 use Rattle.posting_core.specs.{believed.Batches.joined}
 use Rattle.posting_core.specs.EndCalls.{HasMore, IsFlush, IsThrough, WriteCall}
 use Rattle.posting_core.specs.believed.EndCalls.{EndsWith}

@@ -1,5 +1,6 @@
 -- Where a client stands that was written to, and what became of one whose connection is closed.
 use Rattle.std.proofs.Common.{◌≡◌, ℕ, List, [], ◌++◌, Option, Some, Bool, sym, ap, subst, ◌∙◌, inl, inr}
+use Rattle.posting_rules.specs.{believed.Counter.Seen}
 use Rattle.posting_core.specs.EndCalls.{HasMore, HasWriteFailed, IsWriteFailure, WriteCall}
 use Rattle.posting_core.proofs.Telling.{last_some, more_failed}
 use Rattle.counter_http.specs.Connections.{Known}

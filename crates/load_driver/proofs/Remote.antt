@@ -1,4 +1,4 @@
--- Which account of another branch stands at a place of the list of all.
+-- Where the account at a place stands.
 use Rattle.std.proofs.Common.{◌≡◌, ◌<◌, ◌≤◌, ◌+◌, ◌-◌, ◌∷◌, ◌∙◌, ℕ, List, Bool, true, false, length, drop}
 use Rattle.std.proofs.Common.{get_or, ap, ◌⊎◌, inl, inr, arith, refl, nat_eq, nat_lt}
 use Rattle.std.specs.Prelude.{◌||◌}

@@ -1,4 +1,4 @@
--- A log in which no branch is open.
+-- No branch of a plan is open.
 use Rattle.std.specs.Prelude.{◌≡◌, ℕ, List, None}
 use Rattle.posting_rules.specs.believed.Commands.{Command, opened}
 

@@ -1,4 +1,4 @@
--- A sheet of replies before its first reply.
+-- Before the first reply.
 use Rattle.std.proofs.Common.{ℕ, List, [], Option, Some, Result, Ok, Err, inl, inr, refl, arith}
 use Rattle.std.specs.Io.KnownBytes.{Consumes, IsAtEnd}
 use Rattle.std.proofs.KnownBytes.{Appends-nil, Consumes-nil}

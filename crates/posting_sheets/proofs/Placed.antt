@@ -1,4 +1,4 @@
--- Replies, and the rows of postings that they answer, place by place.
+-- Replies and the rows in their places.
 use Rattle.std.proofs.Common.{◌≡◌, ◌+◌, ◌∷◌, ◌++◌, ◌∙◌, ℕ, List, [], length, Option, Some, None, sym, ap}
 use Rattle.std.proofs.Common.{append-nil, append_assoc, arith}
 use Rattle.std.specs.Prelude.{is_some, slice_get}

@@ -20,7 +20,7 @@ records_text requests = flat_map request_spelling requests
 abbrev pub IsPrefixOf : List ℕ → List ℕ → Type 0
 IsPrefixOf prefix text = prefix ≡ take (length prefix) text
 
--- the bytes that a sheet is translated to: at Ok it has no fault, and they are all its records, at a fault of
+-- these bytes are what a sheet is translated to: at Ok it has no fault, and they are all its records, at a fault of
 -- its own those before it, and where memory was refused a prefix of them
 abbrev pub IsPutSo : Sheet → Result ℕ SheetFault → List ℕ → Type 0
 IsPutSo sheet (Ok count) put =
@@ -30,7 +30,7 @@ IsPutSo sheet (Err (Row row bad)) put = (sheet.fault ≡ Some (Row row bad)) × 
 IsPutSo sheet (Err Memory) put = IsPrefixOf put (records_text sheet.requests)
 IsPutSo sheet (Err _) put = ⊥
 
--- the bytes that were written of a sheet: where the sink failed a prefix of all its records, and at any other fault
+-- and these are what was written of it: where the sink failed a prefix of all its records, and at any other fault
 -- nothing
 abbrev pub IsEncodedSo : Sheet → Result ℕ SheetFault → List ℕ → Type 0
 IsEncodedSo sheet (Ok count) written =

@@ -37,7 +37,7 @@ money_named name =
     else if bytes_eq name (codes "amount") then Some Decimals
     else None
 
--- how a fault calls the column of amounts
+-- and that column is called so
 abbrev pub money_column : Money → Column
 money_column Cents = Delta
 money_column Decimals = Amount

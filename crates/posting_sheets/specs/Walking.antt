@@ -22,7 +22,7 @@ use Rattle.posting_sheets.specs.declared.fault.RepliesFault.TheVariants as fault
 
 -- ---- rows
 
--- a walk after so many rows of a sheet, of which these records are left
+-- so many rows of a sheet were read, and these records are left of it
 pub record IsAfter {S : Type 0} (left : S → Records → Type 0) (rows : Rows S) (postings : Sheet)
     (before : ℕ) : Type 0 where
   pub requests : List RequestFields
@@ -58,12 +58,11 @@ abbrev pub IsRowAt : Sheet → ℕ → ReplyFields → PostingRow → Type 0
 IsRowAt postings before r row = (request : RequestFields) × (slice_get postings.requests before ≡ Some request)
     × AnswersPosting request r × (row ≡ row_of (before + 1) request)
 
--- why no row answers the reply
+-- or why there is none
 abbrev pub IsNoRow : Sheet → ℕ → ReplyFields → RepliesFault → Type 0
 IsNoRow postings before r faults.Memory = ⊤
 IsNoRow postings before r fault = IsRowFault postings before r fault
 
--- the row that a reply takes, or why it takes none
 abbrev pub IsTakenSo : {S : Type 0} → (S → Records → Type 0) → Sheet → ℕ → ReplyFields → Rows S
     → Result PostingRow RepliesFault → Type 0
 IsTakenSo left postings before r rows (Ok row) =

@@ -1,4 +1,4 @@
--- What one more posting adds to the sums of a range.
+-- One more posting beside a range.
 use Rattle.std.proofs.Common.{◌≡◌, ◌+◌, Bool, true, false, cond, List, [], ◌∷◌, ◌++◌, map, filter, refl, ap}
 use Rattle.std.proofs.Common.{sym, ◌∙◌, append-nil, arith}
 use Rattle.std.specs.Prelude.{ℤ, pos, ◌+ℤ◌, ◌&&◌, not, int_lt}

@@ -1,7 +1,7 @@
 -- That the audit tells of the consistency condition.
 pub mod Lists
 pub mod EachOrdinal
-pub mod Verdicts
+pub mod Telling
 pub mod OfTables
 pub mod Joined
 pub mod Below

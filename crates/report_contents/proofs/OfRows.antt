@@ -8,7 +8,7 @@ use Rattle.walked_rows.specs.declared.{postings.StoredPosting.StoredPosting, req
 use Rattle.report_contents.specs.declared.audit.Audit.{Audit}
 use Rattle.report_contents.specs.Audit.{audit_of, delta_of, is_odd_request, is_odd_posting, request_ordinal}
 use Rattle.report_contents.specs.Audit.{posting_ordinal, request_under, posting_under, unmatched}
-use Rattle.report_contents.specs.AuditRows.{RowsTellOfTables, audit_of_rows, delta_in, is_alone, is_odd, rows_of}
+use Rattle.report_contents.specs.Beside.{RowsTellOfTables, audit_of_rows, delta_in, is_alone, is_odd, rows_of}
 
 -- those that pass a test are as many as those whose images pass it
 as_many : {X Y : Type 0} (f : X → Y) (p : Y → Bool) (xs : List X) → length (filter p (map f xs))

@@ -1,4 +1,4 @@
--- The audit says that the tables of a bank are consistent exactly where they are.
+-- The same of tables of a bank.
 use Rattle.std.proofs.Common.{◌≡◌, ℕ, pos, Bool, true, eqb, List, [], ◌∷◌, map, filter, Option, Some, None, refl, sym}
 use Rattle.std.proofs.Common.{ap, subst, ◌∙◌, inl, inr, arith}
 use Rattle.std.specs.Prelude.{◌&&◌, nat_eq, nat_le, option_map}
@@ -17,7 +17,7 @@ use Rattle.report_contents.specs.Stored.{branch_stored, account_stored}
 use Rattle.report_contents.specs.Audit.{is_matched, teller_sum, teller_balance, branch_balance, account_balance}
 use Rattle.report_contents.specs.Audit.{delta_of, request_under, posting_under, posting_ordinal, request_ordinal}
 use Rattle.report_contents.specs.Consistency.{TellsOfTables, IsSoundFile, HasOrdinals}
-use Rattle.report_contents.proofs.{Lists.one_four, Lists.all_one_four, Lists.same_int, Lists.int_same, Verdicts.tells}
+use Rattle.report_contents.proofs.{Lists.one_four, Lists.all_one_four, Lists.same_int, Lists.int_same, Telling.tells}
 
 -- a value of each row
 values : {X Y Z : Type 0} (f : X → Y) (v : Y → Z) (w : X → Z) → ((x : X) → v (f x) ≡ w x)

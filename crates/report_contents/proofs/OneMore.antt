@@ -1,4 +1,4 @@
--- What one more row adds to the sums of an audit.
+-- One more row.
 use Rattle.std.proofs.Common.{◌≡◌, ◌≤◌, ◌<◌, ◌+◌, ◌-◌, ◌/◌, ◌*◌, ℕ, zero, suc, replicate, Bool, true, false, not}
 use Rattle.std.proofs.Common.{List, [], ◌∷◌, ◌++◌, map, filter, length, take, set, get_or, refl, sym, ap, subst, ◌∙◌}
 use Rattle.std.proofs.Common.{inl, inr, arith, append-nil, w64, to_z, of_z, FitsSigned}
@@ -7,7 +7,7 @@ use Rattle.std.specs.{Ordering.int_eq, Int.w128}
 use mir.Val.{bool_byte}
 use Rattle.walked_rows.specs.declared.{postings.StoredPosting.StoredPosting, requests.StoredRequest.StoredRequest}
 use Rattle.walked_rows.specs.declared.{branches.StoredBranch.StoredBranch, tellers.StoredTeller.StoredTeller}
-use Rattle.report_contents.specs.{AuditRows.is_alone, Sums.AreSmall, Added.IsSum}
+use Rattle.report_contents.specs.{Beside.is_alone, Sums.AreSmall, Added.IsSum}
 use Rattle.report_contents.proofs.Lists.{same_int, int_same}
 use Rattle.std.proofs.{Math.IntN.+ℤ_assoc, lemmas.Int.ints, lemmas.Int.to_z-of_z, lemmas.Bool.Decides.nat_tests}
 use Rattle.std.proofs.{lemmas.Grind.get_or-set_at, lemmas.List.Elements.filter-append}

@@ -33,7 +33,7 @@ postings_of account rows = filter (is_posting_of account) rows
 abbrev pub is_listed : Selection → List StatedPosting → ℕ → Bool
 is_listed selection rows account = list_any (is_selected selection) (postings_of account rows)
 
--- these are all accounts that have a posting that is selected, by rising numbers
+-- these are all such accounts, by rising numbers
 pub record AreListed (selection : Selection) (rows : List StatedPosting) (accounts : List ℕ) : Type 0 where
   pub rise : IsStrictlyIncreasing accounts
   pub are : (account : ℕ) → Contains accounts account ↔ IsTrue (is_listed selection rows account)
@@ -59,7 +59,7 @@ abbrev pub top_of : Layout → List ℕ
 top_of (layout.Sheet ahead) = sheet_heading
 top_of layout.Columns = []
 
--- above the rows of an account a sheet has nothing, and columns have the heading and the names
+-- and nothing above the rows of an account
 abbrev pub above_in : Layout → Form → ℕ → List ℕ
 above_in (layout.Sheet ahead) form account = []
 above_in layout.Columns form account = heading_of form account ++ names_of form
@@ -70,7 +70,7 @@ text_up_to query account rows given =
     let form = form_in query.layout query.selection rows in
     above_in query.layout form account ++ text_of (lines_by (line_of form) (pos 0) given)
 
--- the whole statement of an account that has these postings
+-- all of it
 abbrev pub account_text : Query → ℕ → List StatedPosting → List ℕ
 account_text query account rows =
     text_up_to query account rows rows ++ last_of (form_in query.layout query.selection rows)
@@ -86,7 +86,7 @@ pub record AreStatements (query : Query) (rows : List StatedPosting) (text : Lis
   pub listed : AreListed query.selection rows accounts
   pub is : text ≡ statements_text query rows accounts
 
--- the text is that of the statements up to a posting whose running balance is out of its limits, without it
+-- it is that of those up to a posting whose running balance is out of its limits, without it
 pub record EndAtBalance (query : Query) (rows : List StatedPosting) (text : List ℕ) : Type 0 where
   pub earlier : List ℕ
   pub account : ℕ

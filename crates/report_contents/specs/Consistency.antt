@@ -29,7 +29,7 @@ abbrev pub TellsOfStored : Type 0
 TellsOfStored = (t : StoredTables) → HasOrdinals t → (is_sound (audit_of t) ≡ true → IsSoundFile t)
     × (IsSoundFile t → is_sound (audit_of t) ≡ true)
 
--- an audit says of the tables of a bank whether they are consistent
+-- so it does of the tables of a bank
 abbrev pub TellsOfTables : Type 0
 TellsOfTables = (t : Tables) → HasKeys history_key t.history → HasKeys request_key t.requests
     → (is_sound (audit_of (stored t)) ≡ true → IsConsistent t)

@@ -11,7 +11,7 @@ pub mod StatementText
 pub mod AllStatements
 pub mod Written
 pub mod Sums
-pub mod AuditRows
+pub mod Beside
 pub mod Added
 pub mod Calendar
 pub mod Reading

@@ -23,6 +23,6 @@ has_reference (Some wanted) (Some own) = bytes_eq wanted own
 abbrev pub is_selected : Selection → StatedPosting → Bool
 is_selected selection s = is_in selection.range s && has_reference selection.reference s.reference
 
--- all postings of an account, in columns
+-- all postings, in columns
 abbrev pub whole_query : Query
 whole_query = record { selection = record { range = None; reference = None }; layout = Columns }

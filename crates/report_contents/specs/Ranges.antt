@@ -9,11 +9,11 @@ use Rattle.report_contents.specs.declared.range_sums.RangeSums.{RangeSums}
 abbrev pub is_before : ℤ → StatedPosting → Bool
 is_before second s = int_lt (pos s.posting.moment) second
 
--- the posting was made in the range: not before its first second, and before its end
+-- it was made in the range: not before its first second, and before its end
 abbrev pub is_within : Range → StatedPosting → Bool
 is_within range s = not (is_before range.from s) && is_before range.until s
 
--- the posting's amount, where it was made before this second
+-- its amount, where it was made before this second
 abbrev pub amount_before : ℤ → StatedPosting → ℤ
 amount_before second s = if is_before second s then s.posting.delta else pos 0
 

@@ -88,7 +88,7 @@ styled_line (Whole balance) = posting_line
 styled_line (Part opening closing) = posting_line
 styled_line (Sheet ahead) = sheet_line ahead
 
--- the line of a posting in a form: one that isn't selected has none
+-- one that isn't selected has none
 abbrev pub line_of : Form → StatedPosting → ℤ → List ℕ
 line_of form s balance = if is_selected form.selection s then styled_line form.style s balance else []
 

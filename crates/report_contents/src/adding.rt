@@ -2,7 +2,7 @@
 ghost use Rattle.std.specs.Prelude.{◌≡◌, map};
 ghost use Rattle.report_contents.specs.Added.{IsSum, HasBeside, HasBranches, HasTellers};
 ghost use Rattle.report_contents.specs.Audit.{account_balance};
-ghost use Rattle.report_contents.specs.AuditRows.{AuditRows, audit_of_rows};
+ghost use Rattle.report_contents.specs.Beside.{AuditRows, audit_of_rows};
 
 use crate::audit::Audit;
 use crate::branches::BranchSums;

@@ -51,7 +51,7 @@ impl Layout {
 }
 
 impl Selection {
-    /// Whether one of these postings is selected.
+    /// Whether it has one of these postings.
     #[must_use]
     pub fn has_any(&self, rows: &[StatedPosting]) -> bool
         ensures { result ≡ list_any (is_selected self.now) rows.now }

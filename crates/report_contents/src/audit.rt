@@ -11,7 +11,7 @@ pub struct BranchLine {
     pub branch: u64,
     /// What its tellers' balances add up to, in cents.
     pub tellers: i128,
-    /// The branch's own balance, in cents.
+    /// Its own balance, in cents.
     pub balance: i64,
 }
 

@@ -28,7 +28,7 @@ pub struct BranchSums {
 impl BranchSums {
     ghost use Rattle.report_contents.specs.Added.{HasTellers, HasBranches};
 
-    /// No branch is added yet.
+    /// No branch.
     ///
     /// # Errors
     ///
@@ -71,14 +71,14 @@ impl BranchSums {
         }
     }
 
-    /// How many branches there are, and the sum of their balances.
+    /// How many there are, and their sum.
     pub(crate) fn all(&self) -> Sum
         ensures { result ≡ self.now.all }
     {
         self.all
     }
 
-    /// The branches that differ from their tellers.
+    /// Those that differ.
     pub(crate) fn into_lines(self) -> BranchLines
         ensures { result ≡ take self.differing self.lines.items }
     {

@@ -16,7 +16,7 @@ pub struct Form {
     pub style: Style,
 }
 
-/// What the statement says beside the postings.
+/// What it says beside the postings.
 #[derive(Clone, Copy)]
 pub enum Style {
     /// The balance of the account's row, below them.

@@ -1,5 +1,5 @@
 //! What an audit says of the consistency condition, and how the balances of a range agree.
-ghost use Rattle.report_contents.specs.AuditRows.{RowsTellOfTables};
+ghost use Rattle.report_contents.specs.Beside.{RowsTellOfTables};
 ghost use Rattle.report_contents.specs.Consistency.{TellsOfStored, TellsOfTables};
 ghost use Rattle.report_contents.specs.Ranges.{RangesAddUp};
 

@@ -9,7 +9,7 @@ use itoa::Buffer;
 // The length of a signed number of 128 bits.
 pub(crate) const NUMBER: usize = 40;
 
-// The length of such a number with its sign.
+// Its length with the sign.
 const SIGNED: usize = NUMBER + 1;
 
 /// Appends a character so many times.

@@ -24,7 +24,7 @@ pub struct OrdinalSums {
 impl OrdinalSums {
     ghost use Rattle.report_contents.specs.Added.{HasBeside};
 
-    /// No request and no posting is added yet.
+    /// No request, and no posting.
     pub fn none() -> OrdinalSums
         ensures { HasBeside result [] [] }
     {

@@ -13,7 +13,7 @@ pub struct Selection {
     pub reference: Option<Reference>,
 }
 
-/// How a statement writes its postings.
+/// How a statement writes them.
 #[derive(Clone, Copy)]
 pub enum Layout {
     /// In columns, with the balance at the end, and of a range the balance before it too.
@@ -30,7 +30,7 @@ pub struct Query {
 }
 
 impl Query {
-    /// All postings of an account, in columns.
+    /// All postings, in columns.
     #[must_use]
     pub fn whole() -> Query
         ensures { result ≡ whole_query }
@@ -46,7 +46,7 @@ impl Query {
 }
 
 impl Selection {
-    /// Whether a posting is selected.
+    /// Whether it has a posting.
     pub(crate) fn has(&self, row: &StatedPosting) -> bool
         ensures { result ≡ is_selected self.now row.now }
     {

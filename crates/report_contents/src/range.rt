@@ -12,7 +12,7 @@ pub struct Range {
 }
 
 impl Range {
-    /// Whether a posting was made in the range.
+    /// Whether a posting was made in it.
     pub(crate) fn has(&self, row: &StatedPosting) -> bool
         ensures { result ≡ is_within self.now row.now }
     {

@@ -32,7 +32,7 @@ pub struct RangeSums {
 impl RangeSums {
     ghost use Rattle.report_contents.specs.Ranges.{HasSummed};
 
-    /// No posting is added yet.
+    /// No posting.
     pub fn none(range: Range) -> RangeSums
         ensures { HasSummed range result [] }
     {

@@ -26,7 +26,7 @@ pub struct TellerSums {
 impl TellerSums {
     ghost use Rattle.report_contents.specs.Added.{HasTellers};
 
-    /// No teller is added yet.
+    /// No teller.
     ///
     /// # Errors
     ///
@@ -62,7 +62,7 @@ impl TellerSums {
         self.by_branch[(branch.get() - 1) as usize]
     }
 
-    /// How many tellers there are, and the sum of their balances.
+    /// How many there are, and the sum of all.
     pub(crate) fn all(&self) -> Sum
         ensures { result ≡ self.now.all }
     {

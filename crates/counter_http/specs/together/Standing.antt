@@ -7,7 +7,7 @@ use Rattle.std.specs.Io.KnownBytes.{Appends, Consumes}
 use Rattle.posting_rules.specs.declared.fault.Fault.{Fault}
 use Rattle.posting_rules.specs.declared.fault.Fault.TheVariants as fault
 use Rattle.posting_rules.specs.believed.Commands.{Command}
-use Rattle.posting_rules.specs.believed.Counter.{Seen, ShowsLog}
+use Rattle.posting_rules.specs.believed.Counter.{Seen, ShowsLog, Takes}
 use Rattle.posting_core.specs.EndCalls.{HasMore, HasWriteFailed, IsFlush, IsThrough, WriteCall}
 use Rattle.posting_core.specs.believed.EndCalls.{EndsWith}
 use Rattle.posting_core.specs.believed.Batches.{joined}
@@ -22,7 +22,7 @@ use Rattle.counter_http.specs.believed.Answers.{Answer, answer_text, asked_by, b
 use Rattle.counter_http.specs.believed.Ends.{HasEnded}
 use Rattle.counter_http.specs.believed.Messages.{Message, message_text, IsMessage, closes}
 use Rattle.counter_http.specs.believed.Serving.{BeginsWithNoMessage, IsBrokenOff, KeepsConnection}
-use Rattle.counter_http.specs.together.Order.{Step, answers_of, clients_of, is_read_under, of_client}
+use Rattle.counter_http.specs.together.Order.{Step, answers_of, clients_of, is_read_under, of_client, submitted_by}
 use Rattle.counter_http.specs.declared.figures.Figures.{Figures}
 use Rattle.counter_http.specs.believed.Turns.{Turn, texts_of}
 use Rattle.counter_http.specs.declared.answers.Reading.{Reading}

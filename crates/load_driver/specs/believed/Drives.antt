@@ -50,16 +50,16 @@ EndsDrive seen old stood new rows count taken refused (Err NoBranches) = IsIdle 
 EndsDrive seen old stood new rows count taken refused (Err (Bank fault)) =
     HasRefusedCall seen stood new refused fault
 
--- ---- what a drive did, whatever its result
+-- ---- what it did, whatever its result
 
--- a drive submitted the first records of rows and a seed
+-- it submitted the first records of rows and a seed
 pub record Submits {C : Type 0} (seen : C
     → Seen) (old new : C) (k k' : Option (List ℕ)) (rows : Rows) (seed count : ℕ)
     (result : Result Driven DriveFault) : Type 0 where
   -- the batches that the counter took, and the one that it refused
   pub taken : List Batch
   pub refused : List Batch
-  -- these batches are the first records, at most so many, in batches of 64, and the clock was read once for each batch
+  -- they are the first records, at most so many, in batches of 64, and the clock was read once for each batch
   pub records : records_of (taken ++ refused) ≡ first_drawn rows seed (length (records_of (taken ++ refused)))
   pub within : length (records_of (taken ++ refused)) ≤ count
   pub full : AreFull (taken ++ refused)
@@ -69,7 +69,7 @@ pub record Submits {C : Type 0} (seen : C
   pub honest_first : (seen stood).honest → (seen old).honest
   pub honest : (seen new).honest → (seen stood).honest
   pub takes : Takes (seen old) (seen stood) (posts_of taken)
-  -- on whatever tables with room it showed, it gave these replies, of which the postings are counted
+  -- so it is on whatever tables with room it showed, with these replies, of which the postings are counted
   pub replies : List (List ℕ)
   pub by_tables : BatchesByTables (seen old) (seen stood) taken replies
   pub counted : IfOk result (λ driven. driven.posted ≡ count_by is_posted replies)
@@ -83,7 +83,7 @@ abbrev pub IfListed : Result Driven DriveFault → List Batch → Type 0 → Typ
 IfListed (Err (Bank fault)) [] P = ⊤
 IfListed _ _ P = P
 
--- a drive submitted the first records over the branches that were open
+-- it submitted the first records over the branches that were open
 pub record Drives {C : Type 0} (seen : C → Seen) (old new : C) (k k' : Option (List ℕ)) (seed count : ℕ)
     (result : Result Driven DriveFault) : Type 0 where
   pub rows : Rows

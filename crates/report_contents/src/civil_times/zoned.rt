@@ -8,7 +8,7 @@ ghost use Rattle.report_contents.specs.Zoned.{clock_at, date_of, shown_at, zoned
 use super::calendar::{FIRST_YEAR, LAST_DAY, SECONDS_PER_DAY, days_of_month, days_of_year};
 use message_records::{MAX_MOMENT, Moment};
 
-// These years have more days than lie before any moment.
+// So many years have more days than lie before any.
 const MANY_YEARS: u64 = 9000;
 
 /// A date: the year from 1970 on, the month from 1 to 12, and the day of the month from 1 on.

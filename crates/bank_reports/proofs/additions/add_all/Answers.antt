@@ -1,7 +1,7 @@
 -- One pass after another.
 use Rattle.std.proofs.Common.{◌≡◌, Err}
 use Rattle.walked_rows.specs.Pairs.{paired}
-use Rattle.report_contents.specs.AuditRows.{no_rows}
+use Rattle.report_contents.specs.Beside.{no_rows}
 use Rattle.bank_store.proofs.ReadsLeave.{clean_before}
 use Rattle.bank_store.specs.believed.Seen.{file_of}
 use Rattle.bank_reports.specs.Adding.{with_accounts, with_branches, with_requests, with_tellers}

@@ -5,9 +5,9 @@ use Rattle.sqlite.specs.{State.HasCleanDisk, Held.state}
 use Rattle.posting_rules.specs.{believed.Laws.IsConsistent, declared.fault.Fault.Fault}
 use Rattle.posting_rules.specs.declared.fault.Fault.TheVariants.{Down, Memory}
 use Rattle.posting_rules.proofs.Undamaged.{undamaged}
-use Rattle.report_contents.specs.{Audit.audit_of, Audit.is_sound, AuditRows.rows_of, Consistency.IsSoundFile}
+use Rattle.report_contents.specs.{Audit.audit_of, Audit.is_sound, Beside.rows_of, Consistency.IsSoundFile}
 use Rattle.report_contents.specs.Stored.{StoredTables, stored}
-use Rattle.report_contents.proofs.{OfRows.rows_tell, Verdicts.tells}
+use Rattle.report_contents.proofs.{OfRows.rows_tell, Telling.tells}
 use Rattle.bank_store.specs.believed.Seen.{bank_seen, database_of, file_of}
 use Rattle.bank_reports.specs.declared.fault.ReportFault.TheVariants.{Bank}
 use Rattle.bank_reports.specs.{Files.HasFile, Files.rows_in, Leaving.as_report}

@@ -4,9 +4,11 @@ use Rattle.std.proofs.lemmas.List.{with_items_is}
 use Rattle.std.proofs.lemmas.Bool.{eqb-true}
 use Rattle.counter_http.specs.declared.listen_fault.ListenFault.TheVariants.{Network}
 use Rattle.counter_http.proofs.CrowdRounds.{all_up_to_date, crowd_differs}
+use Rattle.counter_http.proofs.CrowdMoves.{none_waited}
 use Rattle.counter_http.proofs.Rounding.{rounding_next, rounding_none}
 use Rattle.counter_http.proofs.AroundRounds.{after_round, before_round}
 use Rattle.counter_http.proofs.Ended.{none_here}
+use Rattle.counter_http.proofs.Rounding.{settled_round}
 use Rattle.counter_http.proofs.AroundRounds.{waited_still}
 use Rattle.counter_http.proofs.Ended.{rounds_broken, rounds_cut, rounds_end}
 use Rattle.counter_http.proofs.Sent.{ok_is_no_error}
@@ -53,15 +55,22 @@ returns-in-Err g c =
     c.rounds.invariant.rounding c.wait.ensures c.go_on.ensures c.give_up.ensures c.take_in-taken_in.result
     c.take_in-taken_in.ensures in
     let answered = c.answer-answered in
-    let a = after_round g.C.Counter.seen c.args.bank.now c.rounds.bank answered.new.bank c.take_in-taken_in.new.here.items
+    let crowd = after_round g.C.Counter.seen c.args.bank.now c.rounds.bank answered.new.bank c.take_in-taken_in.new.here.items
     answered.new.here.items c.deref_mut-in-rounds.result.now c.write.new.here
     (with_items answered.new.here c.write.new.here).items c.part.new.here.items (Err c.in-Err.fault)
     c.deref_mut-in-rounds.ensures.value
     (with_items_is answered.new.here c.write.new.here (c.write.auto.here ∙ c.deref_mut-in-rounds.ensures.len))
-    b c.in-Err.ensures.answers c.write.ensures c.part.ensures.leave c.part.ensures.rest in
+    b.s c.in-Err.ensures.answers c.write.ensures c.part.ensures.leave in
+    let moved = c.part.ensures.leave c.take_in-taken_in.new.came in
+    let settled = settled_round g.C.Counter.seen c.args.bank.now c.rounds.bank answered.new.bank
+    c.take_in-taken_in.new.here.items answered.new.here.items c.deref_mut-in-rounds.result.now c.write.new.here
+    (with_items answered.new.here c.write.new.here).items c.part.new.here.items (Err c.in-Err.fault)
+    c.deref_mut-in-rounds.ensures.value
+    (with_items_is answered.new.here c.write.new.here (c.write.auto.here ∙ c.deref_mut-in-rounds.ensures.len))
+    b c.in-Err.ensures.answers c.write.ensures c.part.ensures.rest moved.calls in
     record {
       serves = rounds_broken g.C.Counter.seen c.args.bank.now c.rounds.bank answered.new.bank c.in-Err.fault b
-          c.in-Err.ensures.answers a.calls a.waits a.settled a.crowd;
+          c.in-Err.ensures.answers moved.calls (none_waited moved) settled crowd;
       spares = g.met.C.Counter.spares_then c.args.bank.now c.rounds.bank c.answer-answered.new.bank c.rounds.invariant.spares
           c.answer-answered.ensures.spares;
     }
@@ -76,15 +85,22 @@ returns-in-Err-taken_in g c =
     c.rounds.invariant.rounding c.wait.ensures c.go_on.ensures c.give_up.ensures (Err c.in-Err-taken_in.fault)
     c.in-Err-taken_in.ensures in
     let answered = c.answer-answered in
-    let a = after_round g.C.Counter.seen c.args.bank.now c.rounds.bank answered.new.bank c.take_in-taken_in.new.here.items
+    let crowd = after_round g.C.Counter.seen c.args.bank.now c.rounds.bank answered.new.bank c.take_in-taken_in.new.here.items
     answered.new.here.items c.deref_mut-in-rounds.result.now c.write.new.here
     (with_items answered.new.here c.write.new.here).items c.part.new.here.items (Ok c.in-Ok.it)
     c.deref_mut-in-rounds.ensures.value
     (with_items_is answered.new.here c.write.new.here (c.write.auto.here ∙ c.deref_mut-in-rounds.ensures.len))
-    b c.in-Ok.ensures.answers c.write.ensures c.part.ensures.leave c.part.ensures.rest in
+    b.s c.in-Ok.ensures.answers c.write.ensures c.part.ensures.leave in
+    let moved = c.part.ensures.leave c.take_in-taken_in.new.came in
+    let settled = settled_round g.C.Counter.seen c.args.bank.now c.rounds.bank answered.new.bank
+    c.take_in-taken_in.new.here.items answered.new.here.items c.deref_mut-in-rounds.result.now c.write.new.here
+    (with_items answered.new.here c.write.new.here).items c.part.new.here.items (Ok c.in-Ok.it)
+    c.deref_mut-in-rounds.ensures.value
+    (with_items_is answered.new.here c.write.new.here (c.write.auto.here ∙ c.deref_mut-in-rounds.ensures.len))
+    b c.in-Ok.ensures.answers c.write.ensures c.part.ensures.rest moved.calls in
     record {
       serves = rw (c.in-Err-taken_in.ensures.fault) (rounds_cut g.C.Counter.seen c.args.bank.now c.rounds.bank answered.new.bank b c.in-Ok.ensures.answers
-          a.calls a.waits a.settled (waited_still c.posted.ensures a.crowd) refl);
+          moved.calls (none_waited moved) settled (waited_still c.posted.ensures crowd) refl);
       spares = g.met.C.Counter.spares_then c.args.bank.now c.rounds.bank answered.new.bank c.rounds.invariant.spares
           answered.ensures.spares;
     }
@@ -99,15 +115,22 @@ rounds-preserved g c =
     c.rounds.invariant.rounding c.wait.ensures c.go_on.ensures c.give_up.ensures c.take_in-taken_in.result
     c.take_in-taken_in.ensures in
     let answered = c.answer-answered in
-    let a = after_round g.C.Counter.seen c.args.bank.now c.rounds.bank answered.new.bank c.take_in-taken_in.new.here.items
+    let crowd = after_round g.C.Counter.seen c.args.bank.now c.rounds.bank answered.new.bank c.take_in-taken_in.new.here.items
     answered.new.here.items c.deref_mut-in-rounds.result.now c.write.new.here
     (with_items answered.new.here c.write.new.here).items c.part.new.here.items (Ok c.in-Ok.it)
     c.deref_mut-in-rounds.ensures.value
     (with_items_is answered.new.here c.write.new.here (c.write.auto.here ∙ c.deref_mut-in-rounds.ensures.len))
-    b c.in-Ok.ensures.answers c.write.ensures c.part.ensures.leave c.part.ensures.rest in
+    b.s c.in-Ok.ensures.answers c.write.ensures c.part.ensures.leave in
+    let moved = c.part.ensures.leave c.take_in-taken_in.new.came in
+    let settled = settled_round g.C.Counter.seen c.args.bank.now c.rounds.bank answered.new.bank
+    c.take_in-taken_in.new.here.items answered.new.here.items c.deref_mut-in-rounds.result.now c.write.new.here
+    (with_items answered.new.here c.write.new.here).items c.part.new.here.items (Ok c.in-Ok.it)
+    c.deref_mut-in-rounds.ensures.value
+    (with_items_is answered.new.here c.write.new.here (c.write.auto.here ∙ c.deref_mut-in-rounds.ensures.len))
+    b c.in-Ok.ensures.answers c.write.ensures c.part.ensures.rest moved.calls in
     record {
       rounding = rounding_next g.C.Counter.seen c.args.bank.now c.rounds.bank answered.new.bank b c.in-Ok.ensures.answers
-          a.calls a.waits a.settled (waited_still c.posted.ensures a.crowd);
+          moved.calls (none_waited moved) settled (waited_still c.posted.ensures crowd);
       spares = g.met.C.Counter.spares_then c.args.bank.now c.rounds.bank answered.new.bank c.rounds.invariant.spares
           answered.ensures.spares;
     }

@@ -1,5 +1,5 @@
 -- The laws.
-use Rattle.report_contents.proofs.{Verdicts.tells, OfTables.tells_of_tables}
+use Rattle.report_contents.proofs.{Telling.tells, OfTables.tells_of_tables}
 use Rattle.report_contents.proofs.laws.audit_tells_consistency.Goals as goal
 
 pub returns-clause-stored : goal.returns-clause-stored

@@ -1,7 +1,7 @@
 -- One more posting.
 use Rattle.std.proofs.Common.{rules, length, w64, FitsSigned}
 use Rattle.std.specs.List.{filter}
-use Rattle.report_contents.specs.AuditRows.{delta_in, is_odd}
+use Rattle.report_contents.specs.Beside.{delta_in, is_odd}
 use Rattle.report_contents.proofs.OneMore.{sum_more_64, alone_more}
 use Rattle.report_contents.proofs.ordinals.OrdinalSums.add_posting.Goals as goal
 
